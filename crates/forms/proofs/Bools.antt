@@ -1,0 +1,15 @@
+-- Truth values: by cases, and the two halves of a conjunction.
+use mathlib.Core.Path.{_≡_, refl}
+use mathlib.Core.Bool.{Bool, true, false, _&&_}
+
+pub by-cases : {A : Type 0} (t : Bool) → (t ≡ true → A) → (t ≡ false → A) → A
+by-cases true f g = f refl
+by-cases false f g = g refl
+
+pub both-left : (a b : Bool) → (a && b) ≡ true → a ≡ true
+both-left true b e = refl
+both-left false b e = e
+
+pub both-right : (a b : Bool) → (a && b) ≡ true → b ≡ true
+both-right true b e = e
+both-right false b e = cc

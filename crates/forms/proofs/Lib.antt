@@ -1,0 +1,8 @@
+-- For fair forms the scanner reads exactly what the form means, and stops at the first byte with which nothing of the form goes on.
+pub mod Bools
+pub mod Sound
+pub mod Complete
+pub mod Places
+pub mod Pieces
+pub mod At
+pub mod Words
