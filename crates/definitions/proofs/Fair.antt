@@ -1,0 +1,14 @@
+-- One byte of look-ahead decides in the form of every option, so that the scanner reads exactly what each form means (crate forms).
+use mathlib.Core.Path.{_≡_, refl}
+use mathlib.Core.Bool.{Bool, true, _&&_}
+use mathlib.Core.List.{List, [], _∷_}
+use Rattle.forms.specs.Scan.{fair}
+use Rattle.definitions.specs.Options.{Option, optionTable}
+
+pub allFair : List Option → Bool
+allFair [] = true
+allFair (o ∷ os) = fair (o .form) && allFair os
+
+pub options-fair : allFair optionTable ≡ true
+unfolding allFair optionTable
+options-fair = refl

@@ -1,0 +1,5 @@
+-- The definitions, computed.
+pub mod Starred
+pub mod Tables
+pub mod Fair
+pub mod Sample

@@ -1,0 +1,15 @@
+-- The starred cases hold on the definitions: one statement over one table, by computation.
+use mathlib.Core.Path.{_≡_, refl}
+use mathlib.Core.Bool.{true}
+use Rattle.definitions.specs.Lists.{all?}
+use Rattle.definitions.specs.Cases.{cases, slips, right}
+use Rattle.definitions.specs.Computing.{computing}
+
+pub starred : all? right cases ≡ true
+unfolding computing
+starred = refl
+
+-- and so do the cases of the slips
+pub slips-avoided : all? right slips ≡ true
+unfolding computing
+slips-avoided = refl

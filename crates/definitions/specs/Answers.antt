@@ -1,0 +1,83 @@
+-- The verdict, "first" and "next". Sections "Numbers of refusal" (order 20, 30 to 36) and "Meaning".
+use Prim.Native.Nat.{ℕ}
+use mathlib.Core.Bool.{not}
+use mathlib.Core.List.{List, [], _∷_}
+use lib.ListN.{length, take}
+use lib.Dec.{eqb}
+use Rattle.definitions.specs.declared.table.Table.{Table}
+use Rattle.definitions.specs.declared.packet.Direction.{Direction}
+use Rattle.definitions.specs.declared.packet.FieldMap.{FieldMap}
+use Rattle.definitions.specs.declared.packet.Placement.{Placement}
+use Rattle.definitions.specs.declared.answers.Refusal.{Refusal}
+use Rattle.definitions.specs.declared.answers.Refusal.the-variants as refusal
+use Rattle.definitions.specs.declared.answers.Due.{Due}
+use Rattle.definitions.specs.declared.answers.Due.the-variants.{Fine, No}
+use Rattle.definitions.specs.declared.answers.Verdict.{Verdict}
+use Rattle.definitions.specs.declared.answers.Verdict.the-variants as verdict
+use Rattle.definitions.specs.declared.answers.Found.the-variants.{Placed, Nothing, Refused}
+use Rattle.definitions.specs.declared.answers.Answer.{Answer}
+use Rattle.definitions.specs.Limits.{patternsMost}
+use Rattle.definitions.specs.Lists.{keep, padded}
+use Rattle.definitions.specs.Refusals.{refuseIf, orElse}
+use Rattle.definitions.specs.WellFormed.{wellFormed}
+use Rattle.definitions.specs.Packet.{datagramOf, payloadOf, packetDue}
+use Rattle.definitions.specs.Fields.{viewOf, fieldsDue}
+use Rattle.definitions.specs.Placements.{Start, behind, itemsOf, positives, listed}
+
+-- a placement's starts; and the placement with the starts q, unused room zero
+abbrev pub startsOf : Placement → List Start
+startsOf h = take (h .count) (h .starts)
+
+abbrev pub placementOf : List Start → Placement
+placementOf q = record { count = length q; starts = padded patternsMost 0 q }
+
+-- the placement of a refusal, and of none, has count 0
+abbrev pub foundAnswer : List Start → Answer
+foundAnswer q = record { found = Placed; placement = placementOf q }
+
+abbrev pub noneAnswer : Answer
+noneAnswer = record { found = Nothing; placement = placementOf [] }
+
+abbrev pub refusedAnswer : Refusal → Answer
+refusedAnswer r = record { found = Refused r; placement = placementOf [] }
+
+-- the first of a list of placements, or none
+abbrev pub headOf : List (List Start) → Answer
+headOf [] = noneAnswer
+headOf (q ∷ qs) = foundAnswer q
+
+abbrev pub unless : Due → Answer → Answer
+unless Fine a = a
+unless (No r) a = refusedAnswer r
+
+abbrev pub verdictBy : Due → List (List Start) → Verdict
+verdictBy Fine [] = verdict.NotMet
+verdictBy Fine (q ∷ qs) = verdict.Met
+verdictBy (No r) l = verdict.Refused r
+
+-- a table, a lent packet and a lent decoded buffer, a direction and a map
+module _ (t : Table) (p decoded : List ℕ) (dir : Direction) (m : FieldMap) where
+  -- 20, then 30 to 35
+  unfoldable pub verdictDue : Due
+  verdictDue =
+      refuseIf (not (wellFormed t)) refusal.IllFormed
+      (orElse (packetDue p decoded) (fieldsDue (payloadOf (datagramOf p)) decoded m))
+
+  unfoldable pub placementsOf : List (List Start)
+  placementsOf = listed t (viewOf p decoded m) dir
+
+  -- THE VERDICT: met exactly if some placement meets the table
+  unfoldable pub verdictAnswer : Verdict
+  verdictAnswer = verdictBy verdictDue placementsOf
+
+  -- FIRST: the first of the list of placements, or none
+  unfoldable pub firstAnswer : Answer
+  firstAnswer = unless verdictDue (headOf placementsOf)
+
+  -- 36: the earlier placement's count is not the number of positive patterns
+  abbrev pub earlierDue : Placement → Due
+  earlierDue h = refuseIf (not (eqb (h .count) (positives (itemsOf t)))) refusal.EarlierCount Fine
+
+  -- NEXT: the least of the list behind the earlier placement, or none
+  unfoldable pub nextAnswer : Placement → Answer
+  nextAnswer h = unless (orElse verdictDue (earlierDue h)) (headOf (keep (behind (startsOf h)) placementsOf))

@@ -1,0 +1,26 @@
+-- The definitions of document 01, a file for each section or part of one, in its order. Nothing here assumes anything.
+pub mod Lists
+pub mod Limits
+pub mod Numbers
+pub mod Entries
+pub mod Forms
+pub mod Options
+pub mod Tables
+pub mod References
+pub mod Refusals
+pub mod Standing
+pub mod Reading
+pub mod Grammar
+pub mod WellFormed
+pub mod House
+pub mod Writing
+pub mod Packet
+pub mod Fields
+pub mod Tests
+pub mod Windows
+pub mod Placements
+pub mod Answers
+pub mod Asks
+pub mod Lines
+pub mod Cases
+pub mod Computing

@@ -1,0 +1,52 @@
+-- What the line program writes. Section "The line program".
+use Prim.Native.Nat.{ℕ, suc}
+use mathlib.Core.List.{List, [], _∷_, _++_}
+use lib.Dec.{eqb}
+use Rattle.forms.specs.Bytes.{if_then_else_, text}
+use Rattle.definitions.specs.declared.table.Table.{Table}
+use Rattle.definitions.specs.declared.answers.Refusal.{Refusal}
+use Rattle.definitions.specs.declared.answers.ReadOutcome.{ReadOutcome}
+use Rattle.definitions.specs.declared.answers.ReadOutcome.the-variants.{Accepted, Refused}
+use Rattle.definitions.specs.declared.answers.Due.{Due}
+use Rattle.definitions.specs.declared.answers.Due.the-variants.{Fine, No}
+use Rattle.definitions.specs.declared.answers.Reading.{Reading}
+use Rattle.definitions.specs.Limits.{Limits}
+use Rattle.definitions.specs.Refusals.{numberOf}
+use Rattle.definitions.specs.Reading.{read}
+use Rattle.definitions.specs.House.{decimal, houseText}
+use Rattle.definitions.specs.Writing.{writingDue}
+
+-- refusal, tab, place
+abbrev pub refusedLine : Refusal → ℕ → List ℕ
+refusedLine r place = decimal (numberOf r) ++ (text "\t" ++ decimal place)
+
+-- `ok`, tab, house text; or the writer's refusal at place 0, its buffer being as long as a house text may be
+abbrev pub houseLine : Due → Table → List ℕ
+houseLine Fine t = text "ok\t" ++ houseText t
+houseLine (No r) t = refusedLine r 0
+
+abbrev pub lineBy : Limits → ReadOutcome → Table → List ℕ
+lineBy lim Accepted t = houseLine (writingDue lim t (lim .house)) t
+lineBy lim (Refused r p) t = refusedLine r p
+
+abbrev pub readingLine : Limits → Reading → List ℕ
+readingLine lim r = lineBy lim (r .outcome) (r .table)
+
+-- the answer to a text
+unfoldable pub lineOf : Limits → List ℕ → List ℕ
+lineOf lim s = readingLine lim (read lim s)
+
+-- one text a line ended by LF; a last line may lack it. `line` is what was read of the line so far
+unfoldable pub lineTexts : List ℕ → List ℕ → List (List ℕ)
+lineTexts [] [] = []
+lineTexts (b ∷ line) [] = (b ∷ line) ∷ []
+lineTexts line (b ∷ l) = if eqb b 10 then line ∷ lineTexts [] l else lineTexts (line ++ (b ∷ [])) l
+
+-- line number, tab, answer, LF
+unfoldable pub linesFrom : Limits → ℕ → List (List ℕ) → List ℕ
+linesFrom lim n [] = []
+linesFrom lim n (s ∷ ss) = decimal n ++ (text "\t" ++ (lineOf lim s ++ (text "\n" ++ linesFrom lim (suc n) ss)))
+
+-- THE PROGRAM'S OUTPUT
+unfoldable pub programOutput : Limits → List ℕ → List ℕ
+programOutput lim input = linesFrom lim 1 (lineTexts [] input)

@@ -1,0 +1,40 @@
+-- Numbers in a text. Section "Text": decimal digits, leading zeros allowed; in field tests decimal, or `0x` or `0X` and hex digits.
+-- A number has any count of digits and never wraps.
+use Prim.Native.Nat.{ℕ, _+_, _-_, _*_}
+use mathlib.Core.List.{List, [], _∷_}
+use lib.Dec.{leb}
+use Rattle.forms.specs.Bytes.{if_then_else_}
+use Rattle.forms.specs.Form.{Class, Form, byte, pair, star, made, bound}
+use Rattle.forms.specs.Pieces.{skip, or, some, sign}
+
+abbrev pub decimalDigits : Class
+decimalDigits = (48, 57) ∷ []
+
+abbrev pub hexDigits : Class
+hexDigits = (48, 57) ∷ (65, 70) ∷ (97, 102) ∷ []
+
+-- what a digit 0 to 9, A to F or a to f writes
+unfoldable pub digitValue : ℕ → ℕ
+digitValue b = if leb b 57 then b - 48 else if leb b 70 then b - 55 else b - 87
+
+-- the number that digits write in a base, behind digits that wrote a
+unfoldable pub valueOf : ℕ → ℕ → List ℕ → ℕ
+valueOf base a [] = a
+valueOf base a (b ∷ l) = valueOf base (a * base + digitValue b) l
+
+-- a decimal number up to a limit; one beyond it is placed at its first digit
+abbrev pub number : ℕ → Form ℕ
+number limit = bound (λ (n : ℕ). leb n limit) (λ (n : ℕ). 0) (made (valueOf 10 0) (some (byte decimalDigits)))
+
+-- decimal or hex: how many bytes stand before its first digit, and the number
+abbrev pub eitherBase : Form (ℕ × ℕ)
+eitherBase =
+    or
+    (skip (sign 48)
+    (or (skip (byte ((120, 120) ∷ (88, 88) ∷ [])) (made (λ (l : List ℕ). (2, valueOf 16 0 l)) (some (byte hexDigits))))
+    (made (λ (l : List ℕ). (0, valueOf 10 0 l)) (star (byte decimalDigits)))))
+    (made (λ (p : ℕ × List ℕ). (0, valueOf 10 0 (p .0 ∷ p .1))) (pair (byte ((49, 57) ∷ [])) (star (byte decimalDigits))))
+
+-- a number in either base up to a limit
+abbrev pub numeral : ℕ → Form ℕ
+numeral limit = made (λ (p : ℕ × ℕ). p .1) (bound (λ (p : ℕ × ℕ). leb (p .1) limit) (λ (p : ℕ × ℕ). p .0) eitherBase)

@@ -1,0 +1,83 @@
+-- Which references are usable. Section "Numbers of refusal", its last paragraph (number 10).
+use Prim.Native.Nat.{ℕ, _+_}
+use mathlib.Core.Bool.{Bool, true, not, _&&_, _||_}
+use mathlib.Core.List.{List, [], _∷_}
+use lib.Dec.{eqb}
+use lib.IntN.{pos}
+use lib.Signed.{leZ}
+use Rattle.forms.specs.Bytes.{if_then_else_}
+use Rattle.definitions.specs.declared.table.Context.{Context}
+use Rattle.definitions.specs.declared.table.Context.the-variants as context
+use Rattle.definitions.specs.declared.table.Reference.{Reference}
+use Rattle.definitions.specs.declared.table.Reference.the-variants as reference
+use Rattle.definitions.specs.declared.table.Shift.{Shift}
+use Rattle.definitions.specs.declared.table.Distance.{Distance}
+use Rattle.definitions.specs.declared.table.Distance.the-variants as distance
+use Rattle.definitions.specs.declared.table.Within.{Within}
+use Rattle.definitions.specs.declared.table.Within.the-variants as within
+use Rattle.definitions.specs.declared.table.Pattern.{Pattern}
+use Rattle.definitions.specs.declared.packet.Last.{Last}
+use Rattle.definitions.specs.declared.packet.Last.the-variants.{Nothing, Was}
+
+abbrev pub contextNumber : Context → ℕ
+contextNumber context.Packet = 0
+contextNumber context.Uri = 1
+contextNumber context.Header = 2
+contextNumber context.Body = 3
+contextNumber context.Banner = 4
+contextNumber context.Host = 5
+contextNumber context.File = 6
+
+abbrev pub sameContext : Context → Context → Bool
+sameContext a b = eqb (contextNumber a) (contextNumber b)
+
+abbrev pub referenceNumber : Reference → ℕ
+referenceNumber reference.Match = 0
+referenceNumber reference.Packet = 1
+referenceNumber reference.Context = 2
+
+abbrev pub sameReference : Reference → Reference → Bool
+sameReference a b = eqb (referenceNumber a) (referenceNumber b)
+
+-- the last positive pattern, behind the pattern p that lies at a start; a negated one moves no reference
+abbrev pub lastAfter : Last → Pattern → ℕ → Last
+lastAfter last p start = if p .negated then last else Was (record { context = p .context; end = start + p .len })
+
+-- the last positive pattern before, if there is one, stands in the context
+abbrev pub lastIn : Last → Context → Bool
+lastIn Nothing c = true
+lastIn (Was m) c = sameContext (m .context) c
+
+-- not `packet` with another context than packet; not `match` in a range where the last positive pattern before stands in another context
+abbrev pub referenceUsable : Last → Context → Reference → Bool
+referenceUsable last c reference.Match = lastIn last c
+referenceUsable last c reference.Packet = sameContext c context.Packet
+referenceUsable last c reference.Context = true
+
+-- not reverse with `match` or with a `-` and a number other than 0
+abbrev pub reverseUsable : Shift → Bool
+reverseUsable d = not (d .reverse) || (not (sameReference (d .reference) reference.Match) && leZ (pos 0) (d .offset))
+
+abbrev pub distanceUsable : Last → Context → Distance → Bool
+distanceUsable last c distance.Free = true
+distanceUsable last c (distance.By d) = referenceUsable last c (d .reference) && reverseUsable d
+
+abbrev pub withinUsable : Last → Context → Within → Bool
+withinUsable last c within.Free = true
+withinUsable last c (within.Of w) = referenceUsable last c (w .reference)
+
+-- not distance and within of one pattern with unlike references
+abbrev pub referencesAlike : Distance → Within → Bool
+referencesAlike distance.Free w = true
+referencesAlike (distance.By d) within.Free = true
+referencesAlike (distance.By d) (within.Of w) = sameReference (d .reference) (w .reference)
+
+unfoldable pub usable : Last → Pattern → Bool
+usable last p =
+    distanceUsable last (p .context) (p .distance)
+    && (withinUsable last (p .context) (p .within) && referencesAlike (p .distance) (p .within))
+
+-- how many patterns at the front are usable; where a pattern lies plays no part
+unfoldable pub usableRun : Last → List Pattern → ℕ
+usableRun last [] = 0
+usableRun last (p ∷ ps) = if usable last p then 1 + usableRun (lastAfter last p 0) ps else 0

@@ -1,0 +1,93 @@
+-- Document 01's number and values of each answer. Section "Numbers of refusal". No answer has an outcome that the papers leave free.
+use Prim.Native.Nat.{ℕ}
+use mathlib.Core.Bool.{Bool}
+use Rattle.forms.specs.Bytes.{if_then_else_}
+use Rattle.definitions.specs.declared.answers.Refusal.{Refusal}
+use Rattle.definitions.specs.declared.answers.Refusal.the-variants as refusal
+use Rattle.definitions.specs.declared.answers.Due.{Due}
+use Rattle.definitions.specs.declared.answers.Due.the-variants.{Fine, No}
+use Rattle.definitions.specs.declared.answers.ReadOutcome.{ReadOutcome}
+use Rattle.definitions.specs.declared.answers.ReadOutcome.the-variants as outcome
+use Rattle.definitions.specs.declared.answers.Writing.{Writing}
+use Rattle.definitions.specs.declared.answers.Writing.the-variants as writing
+use Rattle.definitions.specs.declared.answers.Verdict.{Verdict}
+use Rattle.definitions.specs.declared.answers.Verdict.the-variants as verdict
+use Rattle.definitions.specs.declared.answers.Found.{Found}
+use Rattle.definitions.specs.declared.answers.Found.the-variants as found
+
+abbrev pub numberOf : Refusal → ℕ
+numberOf refusal.TextLength = 1
+numberOf refusal.TextByte = 2
+numberOf refusal.Opening = 3
+numberOf refusal.NotDue = 4
+numberOf refusal.NotListed = 5
+numberOf refusal.Form = 6
+numberOf refusal.Limit = 7
+numberOf refusal.Again = 8
+numberOf refusal.Orphan = 9
+numberOf refusal.Unusable = 10
+numberOf refusal.TooMany = 11
+numberOf refusal.Missing = 12
+numberOf refusal.IllFormed = 20
+numberOf refusal.HouseLength = 21
+numberOf refusal.ShortBuffer = 22
+numberOf refusal.LentLength = 30
+numberOf refusal.NotIpv4 = 31
+numberOf refusal.Lengths = 32
+numberOf refusal.Fragment = 33
+numberOf refusal.Transport = 34
+numberOf refusal.FieldSpan = 35
+numberOf refusal.EarlierCount = 36
+
+-- ---- A success has number and place 0
+
+-- reading: number and place
+abbrev pub readNumber : ReadOutcome → ℕ
+readNumber outcome.Accepted = 0
+readNumber (outcome.Refused r p) = numberOf r
+
+abbrev pub readPlace : ReadOutcome → ℕ
+readPlace outcome.Accepted = 0
+readPlace (outcome.Refused r p) = p
+
+-- writing: number, and how many bytes are written
+abbrev pub writeNumber : Writing → ℕ
+writeNumber (writing.Written n) = 0
+writeNumber (writing.Refused r) = numberOf r
+
+abbrev pub writeLength : Writing → ℕ
+writeLength (writing.Written n) = n
+writeLength (writing.Refused r) = 0
+
+-- verdicts: number, and 1 for met
+abbrev pub verdictNumber : Verdict → ℕ
+verdictNumber verdict.Met = 0
+verdictNumber verdict.NotMet = 0
+verdictNumber (verdict.Refused r) = numberOf r
+
+abbrev pub verdictMet : Verdict → ℕ
+verdictMet verdict.Met = 1
+verdictMet verdict.NotMet = 0
+verdictMet (verdict.Refused r) = 0
+
+-- "first" and "next": number, and 1 for found
+abbrev pub foundNumber : Found → ℕ
+foundNumber found.Placed = 0
+foundNumber found.Nothing = 0
+foundNumber (found.Refused r) = numberOf r
+
+abbrev pub foundOne : Found → ℕ
+foundOne found.Placed = 1
+foundOne found.Nothing = 0
+foundOne (found.Refused r) = 0
+
+-- ---- the order of refusals
+
+-- the refusal r if the test holds, else what is due then
+abbrev pub refuseIf : Bool → Refusal → Due → Due
+refuseIf b r d = if b then No r else d
+
+-- what is due first
+abbrev pub orElse : Due → Due → Due
+orElse Fine d = d
+orElse (No r) d = No r

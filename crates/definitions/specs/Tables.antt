@@ -1,0 +1,156 @@
+-- The table that entries make. Section "Text", the paragraphs behind the table of options; unused room is zero.
+use Prim.Native.Nat.{ℕ}
+use mathlib.Core.Bool.{Bool, true, false}
+use mathlib.Core.List.{List, [], _∷_, _++_}
+use lib.ListN.{length, take, drop}
+use Rattle.definitions.specs.declared.table.Flow as flows
+use Rattle.definitions.specs.declared.table.Flow.the-variants as flow
+use Rattle.definitions.specs.declared.table.Context.the-variants as context
+use Rattle.definitions.specs.declared.table.Distance.the-variants as distance
+use Rattle.definitions.specs.declared.table.Within.the-variants as within
+use Rattle.definitions.specs.declared.table.AddressTest.{AddressTest}
+use Rattle.definitions.specs.declared.table.Pattern as patterns
+use Rattle.definitions.specs.declared.table.Item.{Item}
+use Rattle.definitions.specs.declared.table.Item.the-variants as item
+use Rattle.definitions.specs.declared.table.Address.{Address}
+use Rattle.definitions.specs.declared.table.Slot.{Slot}
+use Rattle.definitions.specs.declared.table.Table.{Table}
+use Rattle.definitions.specs.Limits.{nameMost, itemsMost, addressesMost}
+use Rattle.definitions.specs.Lists.{padded}
+use Rattle.definitions.specs.Entries.{Modifier, Context, NoCase, Distance, Within, Entry, Name, Protocol, Flow, Test, Pattern, Modified}
+
+-- ---- name, protocol and flow: of the first entry that says it
+
+unfoldable pub nameIn : List Entry → List ℕ
+nameIn [] = []
+nameIn (Name n ∷ es) = n
+nameIn (Protocol p ∷ es) = nameIn es
+nameIn (Flow f ∷ es) = nameIn es
+nameIn (Test it al ∷ es) = nameIn es
+nameIn (Pattern n b ∷ es) = nameIn es
+nameIn (Modified m ∷ es) = nameIn es
+
+unfoldable pub protocolIn : List Entry → ℕ
+protocolIn [] = 0
+protocolIn (Name n ∷ es) = protocolIn es
+protocolIn (Protocol p ∷ es) = p
+protocolIn (Flow f ∷ es) = protocolIn es
+protocolIn (Test it al ∷ es) = protocolIn es
+protocolIn (Pattern n b ∷ es) = protocolIn es
+protocolIn (Modified m ∷ es) = protocolIn es
+
+unfoldable pub flowIn : List Entry → flows.Flow
+flowIn [] = flow.Any
+flowIn (Name n ∷ es) = flowIn es
+flowIn (Protocol p ∷ es) = flowIn es
+flowIn (Flow f ∷ es) = f
+flowIn (Test it al ∷ es) = flowIn es
+flowIn (Pattern n b ∷ es) = flowIn es
+flowIn (Modified m ∷ es) = flowIn es
+
+-- ---- a pattern and its modifiers
+
+-- a pattern of n bytes without modifiers, and with one more
+abbrev pub bare : Bool → ℕ → patterns.Pattern
+bare negated n = record { negated = negated; len = n; context = context.Packet; nocase = false; distance = distance.Free; within = within.Free }
+
+abbrev pub with : Modifier → patterns.Pattern → patterns.Pattern
+with (Context c) p = record { negated = p .negated; len = p .len; context = c; nocase = p .nocase; distance = p .distance; within = p .within }
+with NoCase p = record { negated = p .negated; len = p .len; context = p .context; nocase = true; distance = p .distance; within = p .within }
+with (Distance d) p = record { negated = p .negated; len = p .len; context = p .context; nocase = p .nocase; distance = distance.By d; within = p .within }
+with (Within w) p = record { negated = p .negated; len = p .len; context = p .context; nocase = p .nocase; distance = p .distance; within = within.Of w }
+
+-- the pattern p with the modifiers among the entries behind it, up to the next pattern
+unfoldable pub modified : List Entry → patterns.Pattern → patterns.Pattern
+modified [] p = p
+modified (Name n ∷ es) p = modified es p
+modified (Protocol q ∷ es) p = modified es p
+modified (Flow f ∷ es) p = modified es p
+modified (Test it al ∷ es) p = modified es p
+modified (Pattern n b ∷ es) p = p
+modified (Modified m ∷ es) p = modified es (with m p)
+
+-- ---- the items, kept in text order
+
+abbrev pub noAddress : Address
+noAddress = record { number = 0; prefix = 0 }
+
+abbrev pub slotOf : Item → List Address → Slot
+slotOf it al = record { item = it; addresses = padded addressesMost noAddress al }
+
+abbrev pub noSlot : Slot
+noSlot = slotOf item.Unused []
+
+unfoldable pub slotsIn : List Entry → List Slot
+slotsIn [] = []
+slotsIn (Name n ∷ es) = slotsIn es
+slotsIn (Protocol p ∷ es) = slotsIn es
+slotsIn (Flow f ∷ es) = slotsIn es
+slotsIn (Test it al ∷ es) = slotOf it al ∷ slotsIn es
+slotsIn (Pattern n b ∷ es) = slotOf (item.Pattern (modified es (bare n (length b)))) [] ∷ slotsIn es
+slotsIn (Modified m ∷ es) = slotsIn es
+
+-- the pattern bytes, one pattern's behind the other's
+unfoldable pub bytesIn : List Entry → List ℕ
+bytesIn [] = []
+bytesIn (Name n ∷ es) = bytesIn es
+bytesIn (Protocol p ∷ es) = bytesIn es
+bytesIn (Flow f ∷ es) = bytesIn es
+bytesIn (Test it al ∷ es) = bytesIn es
+bytesIn (Pattern n b ∷ es) = b ++ bytesIn es
+bytesIn (Modified m ∷ es) = bytesIn es
+
+-- THE TABLE of the entries, with room for so many pattern bytes; of no entries it is the empty table of a refusal
+unfoldable pub tableOf : ℕ → List Entry → Table
+tableOf room es =
+    record {
+      name = padded nameMost 0 (nameIn es);
+      len = length (nameIn es);
+      protocol = protocolIn es;
+      flow = flowIn es;
+      bytes = padded room 0 (bytesIn es);
+      used = length (bytesIn es);
+      items = padded itemsMost noSlot (slotsIn es);
+      count = length (slotsIn es);
+    }
+
+-- ---- what the definitions tell apart among a table's items: all but the first three are tests without addresses
+
+pub data Kind : Type 0 where
+  unused : Kind
+  addressed : AddressTest → Kind
+  patterned : patterns.Pattern → Kind
+  plainTest : Kind
+
+abbrev pub kindOf : Item → Kind
+kindOf item.Unused = unused
+kindOf (item.Address a) = addressed a
+kindOf item.SameIp = plainTest
+kindOf (item.Number a) = plainTest
+kindOf (item.Ttl a) = plainTest
+kindOf (item.Field a) = plainTest
+kindOf (item.Size a) = plainTest
+kindOf (item.At a) = plainTest
+kindOf (item.Pattern p) = patterned p
+
+-- the slots in use
+abbrev pub slotsOf : Table → List Slot
+slotsOf t = take (t .count) (t .items)
+
+-- the patterns among some slots
+abbrev pub patternFirst : Kind → List patterns.Pattern → List patterns.Pattern
+patternFirst unused ps = ps
+patternFirst (addressed a) ps = ps
+patternFirst (patterned p) ps = p ∷ ps
+patternFirst plainTest ps = ps
+
+unfoldable pub patternsOf : List Slot → List patterns.Pattern
+patternsOf [] = []
+patternsOf (sl ∷ sls) = patternFirst (kindOf (sl .item)) (patternsOf sls)
+
+-- the pattern bytes behind those of an item
+abbrev pub behindItem : Kind → List ℕ → List ℕ
+behindItem unused b = b
+behindItem (addressed a) b = b
+behindItem (patterned p) b = drop (p .len) b
+behindItem plainTest b = b

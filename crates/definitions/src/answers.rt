@@ -1,0 +1,84 @@
+// The answers of the public entries. specs/Refusals.antt gives document 01's number and values for each case.
+use crate::packet::Facts;
+use crate::packet::Placement;
+use crate::table::Table;
+
+// The causes of refusal: 1 to 12, 20 to 22, 30 to 36, in this order.
+pub enum Refusal {
+    TextLength,
+    TextByte,
+    Opening,
+    NotDue,
+    NotListed,
+    Form,
+    Limit,
+    Again,
+    Orphan,
+    Unusable,
+    TooMany,
+    Missing,
+    IllFormed,
+    HouseLength,
+    ShortBuffer,
+    LentLength,
+    NotIpv4,
+    Lengths,
+    Fragment,
+    Transport,
+    FieldSpan,
+    EarlierCount,
+}
+
+// Nothing is due, or a refusal.
+pub enum Due {
+    Fine,
+    No(Refusal),
+}
+
+// The reader's answer: the table, or a refusal with its place and the empty table.
+pub enum ReadOutcome {
+    Accepted,
+    Refused(Refusal, usize),
+}
+
+pub struct Reading {
+    pub outcome: ReadOutcome,
+    pub table: Table,
+}
+
+// The writer's answer: the length of the house text, or a refusal.
+pub enum Writing {
+    Written(usize),
+    Refused(Refusal),
+}
+
+// A packet's facts, or a refusal.
+pub enum PacketAnswer {
+    Seen(Facts),
+    Refused(Refusal),
+}
+
+// The verdict's answer.
+pub enum Verdict {
+    Met,
+    NotMet,
+    Refused(Refusal),
+}
+
+// The answer of "first" and "next": a placement, none, or a refusal; the last two with the placement of count 0.
+pub enum Found {
+    Placed,
+    Nothing,
+    Refused(Refusal),
+}
+
+pub struct Answer {
+    pub found: Found,
+    pub placement: Placement,
+}
+
+// One ask of a list of asks.
+pub enum Ask {
+    First,
+    Next,
+}

@@ -1,0 +1,178 @@
+// The rule table, a struct by value. Each table that some text reads as has one representation: unused room is zero.
+use crate::limits::ADDRESSES;
+use crate::limits::ITEMS;
+use crate::limits::NAME_BYTES;
+use crate::limits::PATTERN_BYTES;
+
+// The flow that a rule asks for.
+pub enum Flow {
+    Any,
+    FromClient,
+    FromServer,
+}
+
+// src_addr and dst_addr: `count` of the slot's addresses are in use.
+pub enum Side {
+    Source,
+    Destination,
+}
+
+pub struct AddressTest {
+    pub side: Side,
+    pub negated: bool,
+    pub count: usize,
+}
+
+// ip_id, src_port, dst_port, ip_tos: the field is equal to the number.
+pub enum NumberField {
+    IpId,
+    SourcePort,
+    DestinationPort,
+    Tos,
+}
+
+pub struct NumberTest {
+    pub field: NumberField,
+    pub number: u16,
+}
+
+// The operator of ip_ttl and data_size; none, or `=`, is Equal.
+pub enum Order {
+    Equal,
+    Less,
+    Greater,
+}
+
+pub struct TtlTest {
+    pub order: Order,
+    pub number: u8,
+}
+
+// ip.total_length, ip.id, ip.checksum, ip.ttl. A missing mask is the full mask.
+pub enum HeaderField {
+    TotalLength,
+    Id,
+    Checksum,
+    Ttl,
+}
+
+pub enum Operator {
+    Equal,
+    Unequal,
+    Less,
+    Greater,
+    AtMost,
+    AtLeast,
+}
+
+pub struct FieldTest {
+    pub field: HeaderField,
+    pub mask: u16,
+    pub operator: Operator,
+    pub number: u16,
+}
+
+// data_size, and the field whose size it is.
+pub enum SizeField {
+    Payload,
+    Uri,
+    Header,
+    Body,
+}
+
+pub struct SizeTest {
+    pub order: Order,
+    pub number: u16,
+    pub field: SizeField,
+}
+
+// data_at.
+pub struct AtTest {
+    pub number: u16,
+    pub relative: bool,
+}
+
+// The field that a pattern lies in.
+pub enum Context {
+    Packet,
+    Uri,
+    Header,
+    Body,
+    Banner,
+    Host,
+    File,
+}
+
+pub enum Reference {
+    Match,
+    Packet,
+    Context,
+}
+
+// distance: not given, or by so much. -0 is 0, since the offset is one signed number.
+pub struct Shift {
+    pub offset: i32,
+    pub reference: Reference,
+    pub reverse: bool,
+}
+
+pub enum Distance {
+    Free,
+    By(Shift),
+}
+
+// within: not given, or so many bytes.
+pub struct Reach {
+    pub number: u16,
+    pub reference: Reference,
+}
+
+pub enum Within {
+    Free,
+    Of(Reach),
+}
+
+// A pattern with its modifiers. Its bytes are the next `len` of the table's, behind those of the patterns before it.
+pub struct Pattern {
+    pub negated: bool,
+    pub len: usize,
+    pub context: Context,
+    pub nocase: bool,
+    pub distance: Distance,
+    pub within: Within,
+}
+
+pub enum Item {
+    Unused,
+    Address(AddressTest),
+    SameIp,
+    Number(NumberTest),
+    Ttl(TtlTest),
+    Field(FieldTest),
+    Size(SizeTest),
+    At(AtTest),
+    Pattern(Pattern),
+}
+
+// An address of a test: its bits behind the prefix are kept as read.
+pub struct Address {
+    pub number: u32,
+    pub prefix: u8,
+}
+
+// An item, and beside it the addresses of an address test; all zero for any other item.
+pub struct Slot {
+    pub item: Item,
+    pub addresses: [Address; ADDRESSES],
+}
+
+pub struct Table {
+    pub name: [u8; NAME_BYTES],
+    pub len: usize,
+    pub protocol: u8,
+    pub flow: Flow,
+    pub bytes: [u8; PATTERN_BYTES],
+    pub used: usize,
+    pub items: [Slot; ITEMS],
+    pub count: usize,
+}
