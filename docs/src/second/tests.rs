@@ -1,0 +1,71 @@
+//! When a test holds (document 01, "Meaning").
+
+use crate::message::{pair, Message, TCP, UDP};
+use crate::search::Placed;
+use crate::table::*;
+
+/// `last` is the last positive pattern before the test, where it is placed.
+pub fn holds(test: &Test, message: &Message, last: Option<&Placed>) -> bool {
+    match test {
+        Test::Address { side, negated, list } => {
+            let listed = list.iter().any(|address| covers(address, address_of(message, *side)));
+            listed != *negated
+        }
+        Test::SameIp => address_of(message, Side::Source) == address_of(message, Side::Destination),
+        Test::Equal { what, value } => plain(message, *what) == Some(*value),
+        Test::Ttl { compare, value } => compare.holds(header(message, HeaderField::Ttl), *value),
+        Test::Header { field, mask, compare, value } => {
+            compare.holds(header(message, *field) & mask, *value)
+        }
+        // An absent field meets no test, not even `0` or `<1`.
+        Test::DataSize { compare, value, field } => {
+            message.field(*field).is_some_and(|bytes| compare.holds(bytes.len() as u64, *value))
+        }
+        Test::DataAt { at, relative } => data_at(*at, *relative, message, last),
+    }
+}
+
+fn address_of(message: &Message, side: Side) -> u32 {
+    let start = match side {
+        Side::Source => 12,
+        Side::Destination => 16,
+    };
+    (pair(message.datagram, start) * 65536 + pair(message.datagram, start + 2)) as u32
+}
+
+/// Equal in the first n bits; with n = 0 every address is.
+fn covers(listed: &Address, address: u32) -> bool {
+    let behind_prefix = 32u64.saturating_sub(listed.prefix);
+    let first_bits = |bits: u32| u64::from(bits) >> behind_prefix;
+    first_bits(u32::from_be_bytes(listed.numbers)) == first_bits(address)
+}
+
+/// A port test holds on no other protocols than 6 and 17.
+fn plain(message: &Message, what: Plain) -> Option<u64> {
+    let has_ports = matches!(message.protocol(), TCP | UDP);
+    match what {
+        Plain::IpId => Some(pair(message.datagram, 4)),
+        Plain::IpTos => message.datagram.get(1).map(|byte| u64::from(*byte)),
+        Plain::SrcPort => has_ports.then(|| pair(message.transport, 0)),
+        Plain::DstPort => has_ports.then(|| pair(message.transport, 2)),
+    }
+}
+
+fn header(message: &Message, field: HeaderField) -> u64 {
+    match field {
+        HeaderField::TotalLength => pair(message.datagram, 2),
+        HeaderField::Id => pair(message.datagram, 4),
+        HeaderField::Checksum => pair(message.datagram, 10),
+        HeaderField::Ttl => pair(message.datagram, 8) / 256,
+    }
+}
+
+/// Relative: at N after the end of the last positive pattern before, in its field;
+/// in the payload if there is none.
+fn data_at(at: u64, relative: bool, message: &Message, last: Option<&Placed>) -> bool {
+    let (field, from) = match last {
+        Some(placed) if relative => (placed.field, placed.end),
+        _ => (Field::Packet, 0),
+    };
+    message.field(field).is_some_and(|bytes| from + at < bytes.len() as u64)
+}
