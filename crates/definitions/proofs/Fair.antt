@@ -5,7 +5,7 @@ use mathlib.Core.List.{List, [], _∷_}
 use Rattle.forms.specs.Scan.{fair}
 use Rattle.definitions.specs.Options.{Option, optionTable}
 
-pub allFair : List Option → Bool
+unfoldable pub allFair : List Option → Bool
 allFair [] = true
 allFair (o ∷ os) = fair (o .form) && allFair os
 

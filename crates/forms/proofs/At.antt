@@ -84,7 +84,7 @@ pub byte-end : (c : Class) (s : List ℕ) → readAt (byte c) s (length s) ≡ N
 unfolding readAt scan over
 byte-end c s = rw (drop-of-length-le s {i = length s} (omega arith)) (let e : length s - 0 ≡ length s = omega arith in ap No e)
 
-mapped-both : {A B C : Type 0} (h : A × B → C) (r : Read A) (k : ℕ → Read B) → mapped h (both-read (λ (x : A) (y : B). (x, y)) r k) ≡ both-read (λ (x : A) (y : B). h (x, y)) r k
+pub mapped-both : {A B C : Type 0} (h : A × B → C) (r : Read A) (k : ℕ → Read B) → mapped h (both-read (λ (x : A) (y : B). (x, y)) r k) ≡ both-read (λ (x : A) (y : B). h (x, y)) r k
 mapped-both {A} {B} {C} h (Is a n) k = by (k n)
   where
     by : (r : Read B) → mapped h (mapped (λ (y : B). (a, y)) r) ≡ mapped (λ (y : B). h (a, y)) r

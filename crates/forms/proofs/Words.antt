@@ -13,7 +13,7 @@ use Rattle.forms.specs.Pieces.{says}
 use Rattle.forms.proofs.Bools.{by-cases, both-left, both-right}
 use Rattle.forms.proofs.Sound.{never}
 
-span-one : (b d : ℕ) → between d d b ≡ eqb b d
+pub span-one : (b d : ℕ) → between d d b ≡ eqb b d
 span-one b d =
     by-cases (eqb b d)
     (λ t. let e = eqb-true b d t in rw (t, le-leb d b (omega (arith, e)), le-leb b d (omega (arith, e))))

@@ -1,0 +1,1 @@
+// The reader takes exactly the texts of the grammar. No code.
