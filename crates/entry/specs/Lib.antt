@@ -1,0 +1,2 @@
+-- How the code's values stand for the definitions' entries.
+pub mod Values

@@ -1,0 +1,29 @@
+// What the reader's scanning hands to its entering, by value: an option's value, and the pattern bytes read so far. Types only.
+use definitions::limits::PATTERN_BYTES;
+use definitions::table::AddressTest;
+use definitions::table::Context;
+use definitions::table::Flow;
+use definitions::table::Item;
+use definitions::table::Reach;
+use definitions::table::Shift;
+
+// A name is told by its first byte's place in the text and its length, a pattern by its length: its bytes are the last of the room's.
+// The addresses of an address test stand beside the value.
+pub enum Value {
+    Name(usize, usize),
+    Protocol(u8),
+    Flow(Flow),
+    Test(Item),
+    Addresses(AddressTest),
+    Pattern(bool, usize),
+    Context(Context),
+    NoCase,
+    Distance(Shift),
+    Within(Reach),
+}
+
+// The pattern bytes so far.
+pub struct Room {
+    pub bytes: [u8; PATTERN_BYTES],
+    pub used: usize,
+}

@@ -1,0 +1,15 @@
+use Rattle.scan.proofs.Running.{run-spaces}
+use borrow.Author.Needs.{needs}
+use Rattle.scan.proofs.signs.spaces_at.Statement.{statement}
+use Rattle.scan.proofs.signs.spaces_at.Tie as tie
+
+-- src/signs.rt:94:5
+run-of-requires : tie.Need-run-of-requires
+run-of-requires c κs = search needs
+
+-- src/signs.rt:90:1
+returns : tie.Need-returns
+returns c = (_, run-spaces _ _ _ _ (c .before .before .pre) (c .run-of .ensures))
+
+pub spaces-at-spec : {M : Type 1} → statement M
+spaces-at-spec = tie.close (tie.spec run-of-requires returns)

@@ -1,0 +1,70 @@
+// Bytes and the classes that forms name.
+ghost use mathlib.Core.Path.{_≡_};
+ghost use Rattle.forms.specs.Form.{has};
+ghost use Rattle.forms.specs.Bytes.{between};
+ghost use Rattle.scan.specs.Classes.{classOf, caseClass};
+ghost use Rattle.scan.specs.declared.bytes.Class.the-variants.{HexDigit, Quotable};
+
+// The classes of bytes that stand in runs.
+pub enum Class {
+    Space,
+    Digit,
+    HexDigit,
+    Quotable,
+}
+
+// Whether a byte lies from `low` to `high`, both included.
+pub fn is_between(low: u8, high: u8, b: u8) -> bool
+    ensures { λ r. ⌜ r ≡ between low high b ⌝ }
+{
+    if low <= b { b <= high } else { false }
+}
+
+fn is_hex(b: u8) -> bool
+    ensures { λ r. ⌜ r ≡ has (classOf HexDigit) b ⌝ }
+{
+    if is_between(48, 57, b) {
+        return true;
+    }
+    if is_between(65, 70, b) {
+        return true;
+    }
+    is_between(97, 102, b)
+}
+
+fn is_quotable(b: u8) -> bool
+    ensures { λ r. ⌜ r ≡ has (classOf Quotable) b ⌝ }
+{
+    if is_between(32, 33, b) {
+        return true;
+    }
+    if is_between(35, 58, b) {
+        return true;
+    }
+    is_between(60, 126, b)
+}
+
+// Whether a byte is of a class.
+pub fn in_class(k: Class, b: u8) -> bool
+    ensures { λ r. ⌜ r ≡ has (classOf k) b ⌝ }
+{
+    match k {
+        Class::Space => is_between(32, 32, b),
+        Class::Digit => is_between(48, 57, b),
+        Class::HexDigit => is_hex(b),
+        Class::Quotable => is_quotable(b),
+    }
+}
+
+// Whether a byte is the byte `y` of a word, in either letter case.
+pub fn in_case(y: u8, b: u8) -> bool
+    ensures { λ r. ⌜ r ≡ has (caseClass y) b ⌝ }
+{
+    if is_between(y, y, b) {
+        return true;
+    }
+    if is_between(97, 122, y) {
+        return is_between(y - 32, y - 32, b);
+    }
+    false
+}
