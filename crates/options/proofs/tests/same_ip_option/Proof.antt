@@ -1,0 +1,17 @@
+use Rattle.entry.specs.Values.{entryOf}
+use Rattle.options.proofs.Closing.{bare-reads}
+use borrow.Author.Needs.{needs}
+use Rattle.options.proofs.tests.same_ip_option.Statement.{statement}
+use Rattle.options.proofs.tests.same_ip_option.Tie as tie
+
+-- src/tests.rt:41:17
+closing-at-requires : tie.Need-closing-at-requires
+closing-at-requires c κs = search needs
+
+-- src/tests.rt:35:1
+returns : tie.Need-returns
+unfolding entryOf
+returns c = bare-reads _ (c .before .before .pre) (c .closing-at .ensures)
+
+pub same-ip-option-spec : {M : Type 1} → statement M
+same-ip-option-spec = tie.close (tie.spec closing-at-requires returns)

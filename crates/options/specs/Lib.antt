@@ -1,0 +1,2 @@
+-- Names for parts of the options' forms.
+pub mod Words

@@ -1,0 +1,8 @@
+// An option's value, and where scanning stands behind it.
+use entry::Value;
+use scan::cursor::Cursor;
+
+pub struct Valued {
+    pub value: Value,
+    pub cursor: Cursor,
+}
