@@ -1,0 +1,81 @@
+-- When an entry fits: its numbers are within the limits of its option, its name or pattern is not empty, a test's addresses are as many as it says.
+-- What a text makes fits (Rows), and what fits has a text (Written).
+use mathlib.Core.Path.{_≡_}
+use mathlib.Core.Bool.{Bool, true, false, not, _&&_, _||_}
+use mathlib.Core.List.{List}
+use Prim.Native.Nat.{ℕ, _≤_}
+use lib.ListN.{length}
+use lib.Dec.{eqb, leb}
+use lib.IntN.{natAbs}
+use Rattle.forms.specs.Bytes.{between}
+use Rattle.forms.specs.Form.{has}
+use Rattle.definitions.specs.declared.table.Flow as flows
+use Rattle.definitions.specs.declared.table.Flow.the-variants as flow
+use Rattle.definitions.specs.declared.table.Shift.{Shift}
+use Rattle.definitions.specs.declared.table.Reference.the-variants as reference
+use Rattle.definitions.specs.declared.table.Item.{Item}
+use Rattle.definitions.specs.declared.table.Address.{Address}
+use Rattle.definitions.specs.Limits.{nameMost, byteMost, wordMost}
+use Rattle.definitions.specs.Lists.{all?, none?}
+use Rattle.definitions.specs.Entries.{Modifier, Context, NoCase, Distance, Within, Entry, Name, Protocol, Flow, Test, Pattern, Modified}
+use Rattle.definitions.specs.Forms.{quotable}
+use Rattle.definitions.specs.Tables.{Kind, unused, addressed, patterned, plainTest, kindOf}
+use Rattle.definitions.specs.References.{sameReference}
+use Rattle.definitions.specs.WellFormed.{addressFits, itemFits}
+
+abbrev pub flowFits : flows.Flow → Bool
+flowFits flow.Any = false
+flowFits flow.FromClient = true
+flowFits flow.FromServer = true
+
+abbrev pub testFits : Kind → Item → List Address → Bool
+testFits unused it al = false
+testFits (addressed a) it al = eqb (a .count) (length al) && (leb 1 (length al) && all? addressFits al)
+testFits (patterned p) it al = false
+testFits plainTest it al = itemFits it && none? al
+
+abbrev pub isByte : ℕ → Bool
+isByte b = leb b byteMost
+
+abbrev pub modifierFits : Modifier → Bool
+modifierFits (Context c) = true
+modifierFits NoCase = true
+modifierFits (Distance d) = leb (natAbs (d .offset)) wordMost
+modifierFits (Within w) = leb (w .number) wordMost
+
+abbrev pub entryFits : Entry → Bool
+entryFits (Name n) = between 1 nameMost (length n) && all? (has quotable) n
+entryFits (Protocol p) = leb p byteMost
+entryFits (Flow f) = flowFits f
+entryFits (Test it al) = testFits (kindOf it) it al
+entryFits (Pattern n b) = leb 1 (length b) && all? isByte b
+entryFits (Modified m) = modifierFits m
+
+-- reverse is written behind a reference only, and match is left out: usable patterns have no such distance
+abbrev pub shiftTold : Shift → Bool
+shiftTold d = not (d .reverse) || not (sameReference (d .reference) reference.Match)
+
+abbrev pub entryTold : Entry → Bool
+entryTold (Name n) = true
+entryTold (Protocol p) = true
+entryTold (Flow f) = true
+entryTold (Test it al) = true
+entryTold (Pattern n b) = true
+entryTold (Modified (Context c)) = true
+entryTold (Modified NoCase) = true
+entryTold (Modified (Distance d)) = shiftTold d
+entryTold (Modified (Within w)) = true
+
+-- pattern bytes of an entry
+abbrev pub patternLength : Entry → ℕ
+patternLength (Name n) = 0
+patternLength (Protocol p) = 0
+patternLength (Flow f) = 0
+patternLength (Test it al) = 0
+patternLength (Pattern n b) = length b
+patternLength (Modified m) = 0
+
+-- an entry of the text x fits and has no more pattern bytes than the text has bytes
+pub record Fitting (x : List ℕ) (e : Entry) : Type 0 where
+  pub fits : entryFits e ≡ true
+  pub small : patternLength e ≤ length x

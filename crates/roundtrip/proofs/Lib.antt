@@ -1,0 +1,27 @@
+-- What is written reads as the same table, and what is read can be written.
+pub mod Alls
+pub mod Classes
+pub mod Every
+pub mod Fits
+pub mod Values
+pub mod Rows
+pub mod Counts
+pub mod Slots
+pub mod Formed
+pub mod Shape
+pub mod Read
+pub mod Parts
+pub mod Refilled
+pub mod Patterned
+pub mod Back
+pub mod Making
+pub mod Decimals
+pub mod Addressed
+pub mod Blocks
+pub mod Listed
+pub mod Written
+pub mod Stands
+pub mod Told
+pub mod Printed
+pub mod House
+pub mod Buffer

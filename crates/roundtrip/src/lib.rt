@@ -1,0 +1,1 @@
+// A table that is written as its house text reads as that table, and what is read can be written. No code.
