@@ -26,3 +26,16 @@ entryOf s (value.Within w) al b = Modified (Within w)
 -- the bytes b behind those in use; past the end nothing is kept
 abbrev pub appended : Room → List ℕ → Room
 appended r b = record { bytes = sets (r .bytes) (r .used) b; used = r .used + length b }
+
+-- a value with nothing beside it: no addresses, no pattern bytes, no place in the text
+abbrev pub Plain : Value → Type 0
+Plain (value.Name from n) = ⊥
+Plain (value.Protocol p) = Unit {0}
+Plain (value.Flow f) = Unit {0}
+Plain (value.Test it) = Unit {0}
+Plain (value.Addresses a) = ⊥
+Plain (value.Pattern negated n) = ⊥
+Plain (value.Context c) = Unit {0}
+Plain value.NoCase = Unit {0}
+Plain (value.Distance d) = Unit {0}
+Plain (value.Within w) = Unit {0}

@@ -3,7 +3,7 @@ ghost use mathlib.Core.List.{[]};
 ghost use Prim.Native.Nat.{_≤_};
 ghost use lib.ListN.{length};
 ghost use Rattle.definitions.specs.Forms.{protocolForm, flowForm};
-ghost use Rattle.entry.specs.Values.{entryOf};
+ghost use Rattle.entry.specs.Values.{entryOf, Plain};
 ghost use Rattle.scan.specs.Reads.{Reads};
 ghost use Rattle.scan.specs.declared.cursor.Cursor.the-variants.{Going};
 use crate::valued::Valued;
@@ -17,7 +17,7 @@ use scan::signs::gap_at;
 
 pub fn protocol_option(s: &[u8], at: usize) -> Valued
     requires { ⌜ at ≤ length (now s) ⌝ }
-    ensures { λ r. ⌜ Reads protocolForm (now (s .entry)) (Going at) (entryOf (now (s .entry)) (r .value) [] []) (r .cursor) ⌝ }
+    ensures { λ r. ⌜ Reads protocolForm (now (s .entry)) (Going at) (entryOf (now (s .entry)) (r .value) [] []) (r .cursor) × Plain (r .value) ⌝ }
 {
     let c0 = gap_at(s, at);
     let a1 = place(c0);
@@ -35,7 +35,7 @@ pub fn protocol_option(s: &[u8], at: usize) -> Valued
 
 pub fn flow_option(s: &[u8], at: usize) -> Valued
     requires { ⌜ at ≤ length (now s) ⌝ }
-    ensures { λ r. ⌜ Reads flowForm (now (s .entry)) (Going at) (entryOf (now (s .entry)) (r .value) [] []) (r .cursor) ⌝ }
+    ensures { λ r. ⌜ Reads flowForm (now (s .entry)) (Going at) (entryOf (now (s .entry)) (r .value) [] []) (r .cursor) × Plain (r .value) ⌝ }
 {
     let c0 = gap_at(s, at);
     let a1 = place(c0);

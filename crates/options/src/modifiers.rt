@@ -4,7 +4,7 @@ ghost use mathlib.Core.List.{[]};
 ghost use Prim.Native.Nat.{_≤_};
 ghost use lib.ListN.{length};
 ghost use Rattle.definitions.specs.Forms.{contextForm, noCaseForm, signed, distanceForm, withinForm};
-ghost use Rattle.entry.specs.Values.{entryOf};
+ghost use Rattle.entry.specs.Values.{entryOf, Plain};
 ghost use Rattle.scan.specs.Reads.{Reads};
 ghost use Rattle.scan.specs.declared.cursor.Cursor.the-variants.{Going};
 use crate::commas::comma_reference_at;
@@ -23,7 +23,7 @@ use scan::signs::mark_at;
 
 pub fn context_option(s: &[u8], at: usize) -> Valued
     requires { ⌜ at ≤ length (now s) ⌝ }
-    ensures { λ r. ⌜ Reads contextForm (now (s .entry)) (Going at) (entryOf (now (s .entry)) (r .value) [] []) (r .cursor) ⌝ }
+    ensures { λ r. ⌜ Reads contextForm (now (s .entry)) (Going at) (entryOf (now (s .entry)) (r .value) [] []) (r .cursor) × Plain (r .value) ⌝ }
 {
     let c0 = gap_at(s, at);
     let a1 = place(c0);
@@ -42,7 +42,7 @@ pub fn context_option(s: &[u8], at: usize) -> Valued
 
 pub fn no_case_option(s: &[u8], at: usize) -> Valued
     requires { ⌜ at ≤ length (now s) ⌝ }
-    ensures { λ r. ⌜ Reads noCaseForm (now (s .entry)) (Going at) (entryOf (now (s .entry)) (r .value) [] []) (r .cursor) ⌝ }
+    ensures { λ r. ⌜ Reads noCaseForm (now (s .entry)) (Going at) (entryOf (now (s .entry)) (r .value) [] []) (r .cursor) × Plain (r .value) ⌝ }
 {
     Valued {
         value: Value::NoCase,
@@ -61,7 +61,7 @@ fn signed_of(minus: bool, n: u64) -> i32
 
 pub fn distance_option(s: &[u8], at: usize) -> Valued
     requires { ⌜ at ≤ length (now s) ⌝ }
-    ensures { λ r. ⌜ Reads distanceForm (now (s .entry)) (Going at) (entryOf (now (s .entry)) (r .value) [] []) (r .cursor) ⌝ }
+    ensures { λ r. ⌜ Reads distanceForm (now (s .entry)) (Going at) (entryOf (now (s .entry)) (r .value) [] []) (r .cursor) × Plain (r .value) ⌝ }
 {
     let c0 = gap_at(s, at);
     let a1 = place(c0);
@@ -93,7 +93,7 @@ pub fn distance_option(s: &[u8], at: usize) -> Valued
 
 pub fn within_option(s: &[u8], at: usize) -> Valued
     requires { ⌜ at ≤ length (now s) ⌝ }
-    ensures { λ r. ⌜ Reads withinForm (now (s .entry)) (Going at) (entryOf (now (s .entry)) (r .value) [] []) (r .cursor) ⌝ }
+    ensures { λ r. ⌜ Reads withinForm (now (s .entry)) (Going at) (entryOf (now (s .entry)) (r .value) [] []) (r .cursor) × Plain (r .value) ⌝ }
 {
     let c0 = gap_at(s, at);
     let a1 = place(c0);

@@ -4,7 +4,7 @@ ghost use Prim.Native.Nat.{_≤_};
 ghost use lib.ListN.{length};
 ghost use Rattle.definitions.specs.Forms.{sameIpForm, ttlForm, sizeForm, atForm};
 ghost use Rattle.options.specs.Words.{numberWithin, fieldWithin};
-ghost use Rattle.entry.specs.Values.{entryOf};
+ghost use Rattle.entry.specs.Values.{entryOf, Plain};
 ghost use Rattle.scan.specs.Reads.{Reads};
 ghost use Rattle.scan.specs.declared.cursor.Cursor.the-variants.{Going};
 use crate::commas::relative_at;
@@ -34,7 +34,7 @@ use scan::signs::spaces_at;
 
 pub fn same_ip_option(s: &[u8], at: usize) -> Valued
     requires { ⌜ at ≤ length (now s) ⌝ }
-    ensures { λ r. ⌜ Reads sameIpForm (now (s .entry)) (Going at) (entryOf (now (s .entry)) (r .value) [] []) (r .cursor) ⌝ }
+    ensures { λ r. ⌜ Reads sameIpForm (now (s .entry)) (Going at) (entryOf (now (s .entry)) (r .value) [] []) (r .cursor) × Plain (r .value) ⌝ }
 {
     Valued {
         value: Value::Test(Item::SameIp),
@@ -45,7 +45,7 @@ pub fn same_ip_option(s: &[u8], at: usize) -> Valued
 // ip_id, src_port, dst_port and ip_tos, whose limit the caller names.
 pub fn number_option(s: &[u8], at: usize, field: NumberField, limit: u64) -> Valued
     requires { ⌜ (at ≤ length (now s)) × (limit ≤ 65535) ⌝ }
-    ensures { λ r. ⌜ Reads (numberWithin field limit) (now (s .entry)) (Going at) (entryOf (now (s .entry)) (r .value) [] []) (r .cursor) ⌝ }
+    ensures { λ r. ⌜ Reads (numberWithin field limit) (now (s .entry)) (Going at) (entryOf (now (s .entry)) (r .value) [] []) (r .cursor) × Plain (r .value) ⌝ }
 {
     let c0 = gap_at(s, at);
     let a1 = place(c0);
@@ -64,7 +64,7 @@ pub fn number_option(s: &[u8], at: usize, field: NumberField, limit: u64) -> Val
 
 pub fn ttl_option(s: &[u8], at: usize) -> Valued
     requires { ⌜ at ≤ length (now s) ⌝ }
-    ensures { λ r. ⌜ Reads ttlForm (now (s .entry)) (Going at) (entryOf (now (s .entry)) (r .value) [] []) (r .cursor) ⌝ }
+    ensures { λ r. ⌜ Reads ttlForm (now (s .entry)) (Going at) (entryOf (now (s .entry)) (r .value) [] []) (r .cursor) × Plain (r .value) ⌝ }
 {
     let c0 = gap_at(s, at);
     let a1 = place(c0);
@@ -89,7 +89,7 @@ pub fn ttl_option(s: &[u8], at: usize) -> Valued
 // ip.total_length, ip.id, ip.checksum and ip.ttl, whose limit the caller names.
 pub fn field_option(s: &[u8], at: usize, field: HeaderField, limit: u64) -> Valued
     requires { ⌜ (at ≤ length (now s)) × (limit ≤ 65535) ⌝ }
-    ensures { λ r. ⌜ Reads (fieldWithin field limit) (now (s .entry)) (Going at) (entryOf (now (s .entry)) (r .value) [] []) (r .cursor) ⌝ }
+    ensures { λ r. ⌜ Reads (fieldWithin field limit) (now (s .entry)) (Going at) (entryOf (now (s .entry)) (r .value) [] []) (r .cursor) × Plain (r .value) ⌝ }
 {
     let c0 = gap_at(s, at);
     let a1 = place(c0);
@@ -126,7 +126,7 @@ pub fn field_option(s: &[u8], at: usize, field: HeaderField, limit: u64) -> Valu
 
 pub fn size_option(s: &[u8], at: usize) -> Valued
     requires { ⌜ at ≤ length (now s) ⌝ }
-    ensures { λ r. ⌜ Reads sizeForm (now (s .entry)) (Going at) (entryOf (now (s .entry)) (r .value) [] []) (r .cursor) ⌝ }
+    ensures { λ r. ⌜ Reads sizeForm (now (s .entry)) (Going at) (entryOf (now (s .entry)) (r .value) [] []) (r .cursor) × Plain (r .value) ⌝ }
 {
     let c0 = gap_at(s, at);
     let a1 = place(c0);
@@ -159,7 +159,7 @@ pub fn size_option(s: &[u8], at: usize) -> Valued
 
 pub fn at_option(s: &[u8], at: usize) -> Valued
     requires { ⌜ at ≤ length (now s) ⌝ }
-    ensures { λ r. ⌜ Reads atForm (now (s .entry)) (Going at) (entryOf (now (s .entry)) (r .value) [] []) (r .cursor) ⌝ }
+    ensures { λ r. ⌜ Reads atForm (now (s .entry)) (Going at) (entryOf (now (s .entry)) (r .value) [] []) (r .cursor) × Plain (r .value) ⌝ }
 {
     let c0 = gap_at(s, at);
     let a1 = place(c0);

@@ -36,7 +36,7 @@ join-requires-2 c κs = search needs
 -- src/heads.rt:36:1
 returns : tie.Need-returns
 unfolding entryOf
-returns c = valued-reads (c .before .before .before .before .before .before .before .before .pre) (c .before .before .before .before .before .before .gap-at .ensures) (made-reads _ (joined-reads (c .before .before .before .before .before .before .gap-at .ensures .1) (c .before .before .before .before .before .place .ensures) (c .before .before .before .join .ensures) (c .before .before .before .before .flow-at .ensures))) (c .before .before .place2 .ensures) (c .before .closing-at .ensures) (c .join2 .ensures)
+returns c = (valued-reads (c .before .before .before .before .before .before .before .before .pre) (c .before .before .before .before .before .before .gap-at .ensures) (made-reads _ (joined-reads (c .before .before .before .before .before .before .gap-at .ensures .1) (c .before .before .before .before .before .place .ensures) (c .before .before .before .join .ensures) (c .before .before .before .before .flow-at .ensures))) (c .before .before .place2 .ensures) (c .before .closing-at .ensures) (c .join2 .ensures), tt)
 
 pub flow-option-spec : {M : Type 1} → statement M
 flow-option-spec =

@@ -40,7 +40,7 @@ cast-t11 c = search needs
 -- src/heads.rt:18:1
 returns : tie.Need-returns
 unfolding entryOf
-returns c = valued-reads (c .before .before .before .before .before .before .before .before .before .pre) (c .before .before .before .before .before .before .before .gap-at .ensures) (made-reads _ (joined-reads (c .before .before .before .before .before .before .before .gap-at .ensures .1) (c .before .before .before .before .before .before .place .ensures) (c .before .before .before .before .join .ensures) (c .before .before .before .before .before .protocol-at .ensures .0))) (c .before .before .before .place2 .ensures) (c .before .before .closing-at .ensures) (c .before .join2 .ensures)
+returns c = (valued-reads (c .before .before .before .before .before .before .before .before .before .pre) (c .before .before .before .before .before .before .before .gap-at .ensures) (made-reads _ (joined-reads (c .before .before .before .before .before .before .before .gap-at .ensures .1) (c .before .before .before .before .before .before .place .ensures) (c .before .before .before .before .join .ensures) (c .before .before .before .before .before .protocol-at .ensures .0))) (c .before .before .before .place2 .ensures) (c .before .before .closing-at .ensures) (c .before .join2 .ensures), tt)
 
 pub protocol-option-spec : {M : Type 1} → statement M
 protocol-option-spec =

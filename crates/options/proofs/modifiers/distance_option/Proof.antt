@@ -66,7 +66,7 @@ signed-of-requires c κs = search needs
 -- src/modifiers.rt:66:1
 returns : tie.Need-returns
 unfolding entryOf
-returns c = rw (c .signed-of .ensures, signed-kept (c .before .before .before .before .before .before .before .before .number-at .result .value) (c .before .before .before .before .before .before .before .before .number-at .ensures .1) (c .before .before .before .before .before .before .before .before .before .before .before .mark-at .result .yes)) (valued-reads (c .before .before .before .before .before .before .before .before .before .before .before .before .before .before .before .pre) (c .before .before .before .before .before .before .before .before .before .before .before .before .before .gap-at .ensures) (made-reads _ (pair-reads ((c .before .before .before .before .before .before .before .before .before .before .before .before .before .gap-at .ensures .1) .inside) (joined-reads (c .before .before .before .before .before .before .before .before .before .before .before .before .before .gap-at .ensures .1) (c .before .before .before .before .before .before .before .before .before .before .before .before .place .ensures) (c .before .before .before .before .before .before .before .before .before .before .join .ensures) (c .before .before .before .before .before .before .before .before .before .before .before .mark-at .ensures)) (pair-reads ((joined-reads (c .before .before .before .before .before .before .before .before .before .before .before .before .before .gap-at .ensures .1) (c .before .before .before .before .before .before .before .before .before .before .before .before .place .ensures) (c .before .before .before .before .before .before .before .before .before .before .join .ensures) (c .before .before .before .before .before .before .before .before .before .before .before .mark-at .ensures)) .inside) (joined-reads (joined-reads (c .before .before .before .before .before .before .before .before .before .before .before .before .before .gap-at .ensures .1) (c .before .before .before .before .before .before .before .before .before .before .before .before .place .ensures) (c .before .before .before .before .before .before .before .before .before .before .join .ensures) (c .before .before .before .before .before .before .before .before .before .before .before .mark-at .ensures)) (c .before .before .before .before .before .before .before .before .before .place2 .ensures) (c .before .before .before .before .before .before .before .join2 .ensures) (c .before .before .before .before .before .before .before .before .number-at .ensures .0)) (joined-reads (joined-reads (joined-reads (c .before .before .before .before .before .before .before .before .before .before .before .before .before .gap-at .ensures .1) (c .before .before .before .before .before .before .before .before .before .before .before .before .place .ensures) (c .before .before .before .before .before .before .before .before .before .before .join .ensures) (c .before .before .before .before .before .before .before .before .before .before .before .mark-at .ensures)) (c .before .before .before .before .before .before .before .before .before .place2 .ensures) (c .before .before .before .before .before .before .before .join2 .ensures) (c .before .before .before .before .before .before .before .before .number-at .ensures .0)) (c .before .before .before .before .before .before .place3 .ensures) (c .before .before .before .before .join3 .ensures) (c .before .before .before .before .before .directed-at .ensures))))) (c .before .before .before .place4 .ensures) (c .before .before .closing-at .ensures) (c .before .join4 .ensures))
+returns c = (rw (c .signed-of .ensures, signed-kept (c .before .before .before .before .before .before .before .before .number-at .result .value) (c .before .before .before .before .before .before .before .before .number-at .ensures .1) (c .before .before .before .before .before .before .before .before .before .before .before .mark-at .result .yes)) (valued-reads (c .before .before .before .before .before .before .before .before .before .before .before .before .before .before .before .pre) (c .before .before .before .before .before .before .before .before .before .before .before .before .before .gap-at .ensures) (made-reads _ (pair-reads ((c .before .before .before .before .before .before .before .before .before .before .before .before .before .gap-at .ensures .1) .inside) (joined-reads (c .before .before .before .before .before .before .before .before .before .before .before .before .before .gap-at .ensures .1) (c .before .before .before .before .before .before .before .before .before .before .before .before .place .ensures) (c .before .before .before .before .before .before .before .before .before .before .join .ensures) (c .before .before .before .before .before .before .before .before .before .before .before .mark-at .ensures)) (pair-reads ((joined-reads (c .before .before .before .before .before .before .before .before .before .before .before .before .before .gap-at .ensures .1) (c .before .before .before .before .before .before .before .before .before .before .before .before .place .ensures) (c .before .before .before .before .before .before .before .before .before .before .join .ensures) (c .before .before .before .before .before .before .before .before .before .before .before .mark-at .ensures)) .inside) (joined-reads (joined-reads (c .before .before .before .before .before .before .before .before .before .before .before .before .before .gap-at .ensures .1) (c .before .before .before .before .before .before .before .before .before .before .before .before .place .ensures) (c .before .before .before .before .before .before .before .before .before .before .join .ensures) (c .before .before .before .before .before .before .before .before .before .before .before .mark-at .ensures)) (c .before .before .before .before .before .before .before .before .before .place2 .ensures) (c .before .before .before .before .before .before .before .join2 .ensures) (c .before .before .before .before .before .before .before .before .number-at .ensures .0)) (joined-reads (joined-reads (joined-reads (c .before .before .before .before .before .before .before .before .before .before .before .before .before .gap-at .ensures .1) (c .before .before .before .before .before .before .before .before .before .before .before .before .place .ensures) (c .before .before .before .before .before .before .before .before .before .before .join .ensures) (c .before .before .before .before .before .before .before .before .before .before .before .mark-at .ensures)) (c .before .before .before .before .before .before .before .before .before .place2 .ensures) (c .before .before .before .before .before .before .before .join2 .ensures) (c .before .before .before .before .before .before .before .before .number-at .ensures .0)) (c .before .before .before .before .before .before .place3 .ensures) (c .before .before .before .before .join3 .ensures) (c .before .before .before .before .before .directed-at .ensures))))) (c .before .before .before .place4 .ensures) (c .before .before .closing-at .ensures) (c .before .join4 .ensures)), tt)
 
 pub distance-option-spec : {M : Type 1} → statement M
 distance-option-spec =

@@ -11,7 +11,7 @@ closing-at-requires c κs = search needs
 -- src/modifiers.rt:43:1
 returns : tie.Need-returns
 unfolding entryOf
-returns c = bare-reads _ (c .before .before .pre) (c .closing-at .ensures)
+returns c = (bare-reads _ (c .before .before .pre) (c .closing-at .ensures), tt)
 
 pub no-case-option-spec : {M : Type 1} → statement M
 no-case-option-spec = tie.close (tie.spec closing-at-requires returns)

@@ -41,7 +41,7 @@ cast-number c = search needs
 -- src/tests.rt:46:1
 returns : tie.Need-returns
 unfolding entryOf
-returns c = valued-reads (c .before .before .before .before .before .before .before .before .before .pre .0) (c .before .before .before .before .before .before .before .gap-at .ensures) (made-reads _ (joined-reads (c .before .before .before .before .before .before .before .gap-at .ensures .1) (c .before .before .before .before .before .before .place .ensures) (c .before .before .before .before .join .ensures) (c .before .before .before .before .before .number-at .ensures .0))) (c .before .before .before .place2 .ensures) (c .before .before .closing-at .ensures) (c .before .join2 .ensures)
+returns c = (valued-reads (c .before .before .before .before .before .before .before .before .before .pre .0) (c .before .before .before .before .before .before .before .gap-at .ensures) (made-reads _ (joined-reads (c .before .before .before .before .before .before .before .gap-at .ensures .1) (c .before .before .before .before .before .before .place .ensures) (c .before .before .before .before .join .ensures) (c .before .before .before .before .before .number-at .ensures .0))) (c .before .before .before .place2 .ensures) (c .before .before .closing-at .ensures) (c .before .join2 .ensures), tt)
 
 pub number-option-spec : {M : Type 1} → statement M
 number-option-spec =

@@ -65,7 +65,7 @@ cast-number c = search needs
 -- src/tests.rt:127:1
 returns : tie.Need-returns
 unfolding entryOf
-returns c = valued-reads (c .before .before .before .before .before .before .before .before .before .before .before .before .before .before .before .pre) (c .before .before .before .before .before .before .before .before .before .before .before .before .before .gap-at .ensures) (made-reads _ (pair-reads ((c .before .before .before .before .before .before .before .before .before .before .before .before .before .gap-at .ensures .1) .inside) (joined-reads (c .before .before .before .before .before .before .before .before .before .before .before .before .before .gap-at .ensures .1) (c .before .before .before .before .before .before .before .before .before .before .before .before .place .ensures) (c .before .before .before .before .before .before .before .before .before .before .join .ensures) (c .before .before .before .before .before .before .before .before .before .before .before .size-order-at .ensures)) (pair-reads ((joined-reads (c .before .before .before .before .before .before .before .before .before .before .before .before .before .gap-at .ensures .1) (c .before .before .before .before .before .before .before .before .before .before .before .before .place .ensures) (c .before .before .before .before .before .before .before .before .before .before .join .ensures) (c .before .before .before .before .before .before .before .before .before .before .before .size-order-at .ensures)) .inside) (joined-reads (joined-reads (c .before .before .before .before .before .before .before .before .before .before .before .before .before .gap-at .ensures .1) (c .before .before .before .before .before .before .before .before .before .before .before .before .place .ensures) (c .before .before .before .before .before .before .before .before .before .before .join .ensures) (c .before .before .before .before .before .before .before .before .before .before .before .size-order-at .ensures)) (c .before .before .before .before .before .before .before .before .before .place2 .ensures) (c .before .before .before .before .before .before .before .join2 .ensures) (c .before .before .before .before .before .before .before .before .number-at .ensures .0)) (joined-reads (joined-reads (joined-reads (c .before .before .before .before .before .before .before .before .before .before .before .before .before .gap-at .ensures .1) (c .before .before .before .before .before .before .before .before .before .before .before .before .place .ensures) (c .before .before .before .before .before .before .before .before .before .before .join .ensures) (c .before .before .before .before .before .before .before .before .before .before .before .size-order-at .ensures)) (c .before .before .before .before .before .before .before .before .before .place2 .ensures) (c .before .before .before .before .before .before .before .join2 .ensures) (c .before .before .before .before .before .before .before .before .number-at .ensures .0)) (c .before .before .before .before .before .before .place3 .ensures) (c .before .before .before .before .join3 .ensures) (c .before .before .before .before .before .size-field-at .ensures))))) (c .before .before .before .place4 .ensures) (c .before .before .closing-at .ensures) (c .before .join4 .ensures)
+returns c = (valued-reads (c .before .before .before .before .before .before .before .before .before .before .before .before .before .before .before .pre) (c .before .before .before .before .before .before .before .before .before .before .before .before .before .gap-at .ensures) (made-reads _ (pair-reads ((c .before .before .before .before .before .before .before .before .before .before .before .before .before .gap-at .ensures .1) .inside) (joined-reads (c .before .before .before .before .before .before .before .before .before .before .before .before .before .gap-at .ensures .1) (c .before .before .before .before .before .before .before .before .before .before .before .before .place .ensures) (c .before .before .before .before .before .before .before .before .before .before .join .ensures) (c .before .before .before .before .before .before .before .before .before .before .before .size-order-at .ensures)) (pair-reads ((joined-reads (c .before .before .before .before .before .before .before .before .before .before .before .before .before .gap-at .ensures .1) (c .before .before .before .before .before .before .before .before .before .before .before .before .place .ensures) (c .before .before .before .before .before .before .before .before .before .before .join .ensures) (c .before .before .before .before .before .before .before .before .before .before .before .size-order-at .ensures)) .inside) (joined-reads (joined-reads (c .before .before .before .before .before .before .before .before .before .before .before .before .before .gap-at .ensures .1) (c .before .before .before .before .before .before .before .before .before .before .before .before .place .ensures) (c .before .before .before .before .before .before .before .before .before .before .join .ensures) (c .before .before .before .before .before .before .before .before .before .before .before .size-order-at .ensures)) (c .before .before .before .before .before .before .before .before .before .place2 .ensures) (c .before .before .before .before .before .before .before .join2 .ensures) (c .before .before .before .before .before .before .before .before .number-at .ensures .0)) (joined-reads (joined-reads (joined-reads (c .before .before .before .before .before .before .before .before .before .before .before .before .before .gap-at .ensures .1) (c .before .before .before .before .before .before .before .before .before .before .before .before .place .ensures) (c .before .before .before .before .before .before .before .before .before .before .join .ensures) (c .before .before .before .before .before .before .before .before .before .before .before .size-order-at .ensures)) (c .before .before .before .before .before .before .before .before .before .place2 .ensures) (c .before .before .before .before .before .before .before .join2 .ensures) (c .before .before .before .before .before .before .before .before .number-at .ensures .0)) (c .before .before .before .before .before .before .place3 .ensures) (c .before .before .before .before .join3 .ensures) (c .before .before .before .before .before .size-field-at .ensures))))) (c .before .before .before .place4 .ensures) (c .before .before .closing-at .ensures) (c .before .join4 .ensures), tt)
 
 pub size-option-spec : {M : Type 1} → statement M
 size-option-spec =

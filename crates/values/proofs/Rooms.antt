@@ -1,0 +1,98 @@
+-- Storing while reading: a loop over `some` that appends the bytes of each value it reads has appended the bytes of them all.
+use mathlib.Core.Path.{_≡_, sym, ap, _∙_}
+use mathlib.Core.Bool.{true, false, not}
+use mathlib.Core.List.{List, [], _∷_, _++_}
+use Prim.Native.Nat.{ℕ, suc, _+_, _-_, _≤_}
+use native.Mathlib.Omega.{arith}
+use lib.ListN.{length, drop, set, length-append}
+use lib.Seq.{sets}
+use Rattle.forms.specs.Form.{Form}
+use Rattle.forms.specs.Scan.{empty, first, begins}
+use Rattle.forms.specs.Pieces.{some}
+use Rattle.forms.proofs.Sound.{never}
+use Rattle.entry.specs.declared.Room.{Room}
+use Rattle.entry.specs.Values.{appended}
+use Rattle.scan.specs.declared.cursor.Cursor.{Cursor}
+use Rattle.scan.specs.declared.cursor.Cursor.the-variants.{Going, Stopped}
+use Rattle.scan.specs.Reads.{Reads}
+use Rattle.values.specs.Storing.{Ready, Stores}
+use Rattle.values.proofs.Steps.{stopped-any}
+use Rattle.values.proofs.Turns.{Some, some-start, some-on, some-last, some-stop}
+
+-- ---- bytes behind bytes
+
+sets-append : (l : List ℕ) (i : ℕ) (a b : List ℕ) → sets (sets l i a) (i + length a) b ≡ sets l i (a ++ b)
+sets-append l i [] b = let e : i + 0 ≡ i = omega arith in rw e
+sets-append l i (x ∷ a) b = let e : i + suc (length a) ≡ suc i + length a = omega arith in rw e (sets-append (set l i x) (suc i) a b)
+
+pub appended-none : (room : Room) → room ≡ appended room []
+appended-none room = let e : room .used ≡ room .used + 0 = omega arith in ap (λ (n : ℕ). record { bytes = room .bytes; used = n }) e
+
+pub appended-twice : (room : Room) (a b : List ℕ) → appended (appended room a) b ≡ appended room (a ++ b)
+appended-twice room a b =
+    let e : room .used + length a + length b ≡ room .used + length (a ++ b) = omega (arith, length-append a b) in
+    rw (e, sets-append (room .bytes) (room .used) a b)
+
+-- ---- the loop
+
+-- a form of one or more f, and the bytes of its values
+pub record Writing {A : Type 0} (f : Form A) (F : Form (List ℕ)) : Type 0 where
+  pub full : not (empty f) ≡ true
+  pub bytes : List A → List ℕ
+  pub one : A → List ℕ
+  pub none : bytes [] ≡ []
+  pub snoc : (vs : List A) (v : A) → bytes (vs ++ (v ∷ [])) ≡ bytes vs ++ one v
+  pub read : (s : List ℕ) (at : ℕ) (vs : List A) (d : Cursor) → Reads (some f) s (Going at) vs d → Reads F s (Going at) (bytes vs) d
+
+-- what is still to come, and what is stored
+pub record Writes {A : Type 0} {f : Form A} {F : Form (List ℕ)} (W : Writing f F) (s : List ℕ) (at : ℕ) (room : Room) (here : ℕ) (to : Room) : Type 0 where
+  pub values : List A
+  pub turns : Some f (W .full) s at values here
+  pub kept : to ≡ appended room (W .bytes values)
+  pub grown : at + length (W .bytes values) ≤ here
+
+module _ {A : Type 0} {f : Form A} {F : Form (List ℕ)} (W : Writing f F) (s : List ℕ) (at : ℕ) (room : Room) (ready : Ready s at room) where
+  pub writes-start : Writes W s at room at room
+  writes-start =
+      record {
+        values = [];
+        turns = some-start f (W .full) s at (ready .inside);
+        kept = rw (W .none) (appended-none room);
+        grown = rw (W .none) (omega arith);
+      }
+
+  module _ {here : ℕ} {to : Room} (u : Writes W s at room here to) where
+    pub writes-ready : Ready s here to
+    writes-ready =
+        let e : to .used ≡ room .used + length (W .bytes (u .values)) = ap (λ (r : Room). r .used) (u .kept) in
+        record { inside = u .turns .inside; short = ready .short; behind = omega (arith, e, u .grown, ready .behind) }
+
+    module _ (v : A) {n : ℕ} {to′ : Room} (r : Reads f s (Going here) v (Going n)) (e : to′ ≡ appended to (W .one v)) (g : here + length (W .one v) ≤ n) where
+      all-kept : to′ ≡ appended room (W .bytes (u .values ++ (v ∷ [])))
+      all-kept = e ∙ ap (λ (x : Room). appended x (W .one v)) (u .kept) ∙ appended-twice room (W .bytes (u .values)) (W .one v) ∙ ap (appended room) (sym (W .snoc (u .values) v))
+
+      all-grown : at + length (W .bytes (u .values ++ (v ∷ []))) ≤ n
+      all-grown = rw (W .snoc (u .values) v) (omega (arith, g, u .grown, length-append (W .bytes (u .values)) (W .one v)))
+
+      pub writes-on : begins (first f) (drop n s) ≡ true → Writes W s at room n to′
+      writes-on t = record { values = u .values ++ (v ∷ []); turns = some-on f (W .full) s (u .turns) r t; kept = all-kept; grown = all-grown }
+
+      pub writes-last : begins (first f) (drop n s) ≡ false → Stores F s at room to′ (Going n)
+      writes-last t = (
+        W .bytes (u .values ++ (v ∷ [])),
+        record {
+          read = W .read s at (u .values ++ (v ∷ [])) (Going n) (some-last f (W .full) s (u .turns) r t);
+          kept = all-kept;
+          grown = λ m q. let z : n ≡ m = cc in omega (arith, all-grown, z);
+        },
+      )
+
+    pub writes-stop : (v : A) {p : ℕ} (b : List ℕ) {to′ : Room} → Reads f s (Going here) v (Stopped p) → to′ ≡ appended to b → Stores F s at room to′ (Stopped p)
+    writes-stop v {p} b r e = (
+      W .bytes (u .values) ++ b,
+      record {
+        read = stopped-any (W .read s at (u .values ++ (v ∷ [])) (Stopped p) (some-stop f (W .full) s (u .turns) r [])) (W .bytes (u .values) ++ b);
+        kept = e ∙ ap (λ (x : Room). appended x b) (u .kept) ∙ appended-twice room (W .bytes (u .values)) b;
+        grown = λ m q. never (cc);
+      },
+    )

@@ -1,0 +1,40 @@
+use borrow.Author.Needs.{needs}
+use Rattle.values.proofs.addresses.goes_with.Statement.{statement}
+use Rattle.values.proofs.addresses.goes_with.Tie as tie
+
+enum-known-c : tie.Need-enum-known-c
+enum-known-c c = search needs
+
+stands-requires : tie.Need-stands-requires
+stands-requires c κs = search needs
+
+enum-known-c-2 : tie.Need-enum-known-c-2
+enum-known-c-2 c = search needs
+
+stands-requires-2 : tie.Need-stands-requires-2
+stands-requires-2 c κs = search needs
+
+enum-told : tie.Need-enum-told
+enum-told c = search needs
+
+returns : tie.Need-returns
+returns c = simp (c .before .before .c .given .1, c .stands .ensures)
+
+returns-2 : tie.Need-returns-2
+returns-2 c = simp (c .before .before .c2 .given .1, c .stands2 .ensures)
+
+returns-3 : tie.Need-returns-3
+returns-3 c = search needs
+
+pub goes-with-spec : {M : Type 1} → statement M
+goes-with-spec =
+    tie.close
+    (tie.spec
+    enum-known-c
+    stands-requires
+    enum-known-c-2
+    stands-requires-2
+    enum-told
+    returns
+    returns-2
+    returns-3)

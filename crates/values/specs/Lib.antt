@@ -1,0 +1,4 @@
+-- What the scanners promise.
+pub mod Quoting
+pub mod Storing
+pub mod Listing

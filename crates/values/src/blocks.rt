@@ -1,0 +1,131 @@
+// Pattern bytes in hex, stored as they are read.
+ghost use mathlib.Core.Path.{_≡_};
+ghost use mathlib.Core.List.{_∷_, []};
+ghost use Prim.Native.Nat.{_≤_, _<_};
+ghost use lib.ListN.{length, drop};
+ghost use Rattle.forms.specs.Scan.{begins};
+ghost use Rattle.definitions.specs.Limits.{limits01};
+ghost use Rattle.definitions.specs.Numbers.{hexDigits};
+ghost use Rattle.definitions.specs.Forms.{hexPair, block};
+ghost use Rattle.entry.specs.Values.{appended};
+ghost use Rattle.scan.specs.Reads.{Reads};
+ghost use Rattle.scan.specs.declared.cursor.Cursor.the-variants.{Going};
+ghost use Rattle.values.specs.Storing.{pairs, Ready, Stores};
+use entry::Room;
+use scan::bytes::Class;
+use scan::bytes::in_class;
+use scan::cursor::Cursor;
+use scan::cursor::join;
+use scan::cursor::place;
+use scan::numbers::value_of;
+use scan::signs::sign_at;
+use scan::signs::spaces_at;
+
+pub struct BytesAt {
+    pub room: Room,
+    pub cursor: Cursor,
+}
+
+// The byte behind those in use.
+pub fn put(room: Room, b: u8) -> Room
+    requires { ⌜ room .used < limits01 .room ⌝ }
+    ensures { λ r. ⌜ r ≡ appended room (b ∷ []) ⌝ }
+{
+    let mut bytes = room.bytes;
+    let used = room.used;
+    bytes[used] = b;
+    Room {
+        bytes: bytes,
+        used: used + 1,
+    }
+}
+
+fn is_hex_at(s: &[u8], at: usize) -> bool
+    ensures { λ r. ⌜ r ≡ begins hexDigits (drop at (now (s .entry))) ⌝ }
+{
+    if at < s.len() {
+        let b = s[at];
+        in_class(Class::HexDigit, b)
+    } else {
+        false
+    }
+}
+
+pub struct PairAt {
+    pub byte: u8,
+    pub cursor: Cursor,
+}
+
+// Two hex digits.
+fn pair_at(s: &[u8], at: usize) -> PairAt
+    requires { ⌜ at ≤ length (now s) ⌝ }
+    ensures { λ r. ⌜ Reads hexPair (now (s .entry)) (Going at) (r .byte) (r .cursor) ⌝ }
+{
+    if !is_hex_at(s, at) {
+        return PairAt {
+            byte: 0,
+            cursor: Cursor::Stopped(at),
+        };
+    }
+    if !is_hex_at(s, at + 1) {
+        return PairAt {
+            byte: 0,
+            cursor: Cursor::Stopped(at + 1),
+        };
+    }
+    let v = value_of(s, at, at + 2, 16);
+    PairAt {
+        byte: v as u8,
+        cursor: Cursor::Going(at + 2),
+    }
+}
+
+// One or more pairs, spaces behind each.
+fn pairs_at(s: &[u8], at: usize, room: Room) -> BytesAt
+    requires { ⌜ Ready (now s) at room ⌝ }
+    ensures { λ r. ⌜ Stores pairs (now (s .entry)) at room (r .room) (r .cursor) ⌝ }
+{
+    let mut here = at;
+    let mut to = room;
+    loop {
+        let p = pair_at(s, here);
+        let c = p.cursor;
+        let Cursor::Going(n) = c else {
+            return BytesAt {
+                room: to,
+                cursor: c,
+            };
+        };
+        to = put(to, p.byte);
+        here = spaces_at(s, n);
+        if !is_hex_at(s, here) {
+            return BytesAt {
+                room: to,
+                cursor: Cursor::Going(here),
+            };
+        }
+    }
+}
+
+// A block between two bars.
+pub fn block_at(s: &[u8], at: usize, room: Room) -> BytesAt
+    requires { ⌜ Ready (now s) at room ⌝ }
+    ensures { λ r. ⌜ Stores block (now (s .entry)) at room (r .room) (r .cursor) ⌝ }
+{
+    let c1 = sign_at(s, at, 124);
+    let a1 = place(c1);
+    let from = spaces_at(s, a1);
+    let c2 = join(c1, Cursor::Going(from));
+    let a2 = place(c2);
+    let p = pairs_at(s, a2, room);
+    let d = p.cursor;
+    let c3 = join(c2, d);
+    let a3 = place(c3);
+    let bar = sign_at(s, a3, 124);
+    let c4 = join(c3, bar);
+    let to = p.room;
+    BytesAt {
+        room: to,
+        cursor: c4,
+    }
+}

@@ -1,0 +1,128 @@
+// The bytes of a pattern, stored as they are read: one pass over the text.
+ghost use mathlib.Core.Path.{_≡_};
+ghost use lib.ListN.{drop};
+ghost use Rattle.forms.specs.Form.{has};
+ghost use Rattle.forms.specs.Scan.{first, begins};
+ghost use Rattle.definitions.specs.Forms.{plainBytes, patternBytes};
+ghost use Rattle.values.specs.Storing.{element, Ready, Stores, PatternReads};
+use crate::blocks::BytesAt;
+use crate::blocks::block_at;
+use crate::blocks::put;
+use entry::Room;
+use scan::bytes::is_between;
+use scan::cursor::Cursor;
+use scan::cursor::join;
+use scan::cursor::place;
+use scan::signs::sign_at;
+use scan::signs::stands;
+
+// Whether the byte stands for itself in a pattern.
+fn is_plain(b: u8) -> bool
+    ensures { λ r. ⌜ r ≡ has plainBytes b ⌝ }
+{
+    if is_between(32, 33, b) {
+        return true;
+    }
+    if is_between(35, 57, b) {
+        return true;
+    }
+    if is_between(60, 91, b) {
+        return true;
+    }
+    if is_between(93, 123, b) {
+        return true;
+    }
+    is_between(125, 126, b)
+}
+
+fn is_plain_at(s: &[u8], at: usize) -> bool
+    ensures { λ r. ⌜ r ≡ begins plainBytes (drop at (now (s .entry))) ⌝ }
+{
+    if at < s.len() {
+        let b = s[at];
+        is_plain(b)
+    } else {
+        false
+    }
+}
+
+// Whether pattern bytes go on at the place.
+fn goes_on(s: &[u8], at: usize) -> bool
+    ensures { λ r. ⌜ r ≡ begins (first element) (drop at (now (s .entry))) ⌝ }
+{
+    if is_plain_at(s, at) {
+        return true;
+    }
+    stands(s, at, 124)
+}
+
+// A plain byte or a block.
+fn element_at(s: &[u8], at: usize, room: Room) -> BytesAt
+    requires { ⌜ Ready (now s) at room ⌝ }
+    ensures { λ r. ⌜ Stores element (now (s .entry)) at room (r .room) (r .cursor) ⌝ }
+{
+    if is_plain_at(s, at) {
+        let b = s[at];
+        let to = put(room, b);
+        BytesAt {
+            room: to,
+            cursor: Cursor::Going(at + 1),
+        }
+    } else {
+        block_at(s, at, room)
+    }
+}
+
+// One or more elements.
+fn bytes_at(s: &[u8], at: usize, room: Room) -> BytesAt
+    requires { ⌜ Ready (now s) at room ⌝ }
+    ensures { λ r. ⌜ Stores patternBytes (now (s .entry)) at room (r .room) (r .cursor) ⌝ }
+{
+    let mut here = at;
+    let mut to = room;
+    loop {
+        let e = element_at(s, here, to);
+        to = e.room;
+        let c = e.cursor;
+        let Cursor::Going(n) = c else {
+            return BytesAt {
+                room: to,
+                cursor: c,
+            };
+        };
+        here = n;
+        if !goes_on(s, here) {
+            return BytesAt {
+                room: to,
+                cursor: Cursor::Going(here),
+            };
+        }
+    }
+}
+
+pub struct PatternAt {
+    pub room: Room,
+    pub len: usize,
+    pub cursor: Cursor,
+}
+
+// A pattern in quotes.
+pub fn pattern_at(s: &[u8], at: usize, room: Room) -> PatternAt
+    requires { ⌜ Ready (now s) at room ⌝ }
+    ensures { λ r. ⌜ PatternReads (now (s .entry)) at room (r .room) (r .len) (r .cursor) ⌝ }
+{
+    let c1 = sign_at(s, at, 34);
+    let from = place(c1);
+    let p = bytes_at(s, from, room);
+    let d = p.cursor;
+    let c2 = join(c1, d);
+    let closing = place(c2);
+    let quote = sign_at(s, closing, 34);
+    let c3 = join(c2, quote);
+    let to = p.room;
+    PatternAt {
+        room: to,
+        len: to.used - room.used,
+        cursor: c3,
+    }
+}
