@@ -1,0 +1,2 @@
+-- Names and words.
+pub mod Same

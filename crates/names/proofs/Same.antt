@@ -1,0 +1,78 @@
+-- Comparing a name with words: letter by letter, and word by word in the table.
+use mathlib.Core.Path.{_≡_, refl, ap, _∙_}
+use mathlib.Core.Bool.{true, false, _&&_}
+use mathlib.Core.List.{List, [], _∷_}
+use Prim.Native.Nat.{ℕ, suc, _+_, _-_, _≤_, _<_}
+use native.Mathlib.Omega.{arith}
+use native.Mathlib.Numerals.{add-one}
+use lib.ListN.{length, getD, take, drop, length-take, length-drop, drop-of-length-le}
+use lib.Seq.{drop-cons, getD-take, getD-drop}
+use lib.Dec.{eqb, leb}
+use borrow.Author.Tests.{eq-eqb, ne-eqb, leb-true}
+use Rattle.forms.specs.Bytes.{between, lower, sameWord}
+use Rattle.forms.proofs.Bools.{by-cases, both-right}
+use Rattle.names.specs.Names.{placeIn}
+
+pub capital-low : (b : ℕ) → between 65 90 b ≡ true → b ≤ 90
+capital-low b e = leb-true b 90 (both-right (leb 65 b) (leb b 90) e)
+
+-- words of other lengths are not the same
+pub other-length : (x w : List ℕ) → (length x ≡ length w → ⊥) → sameWord x w ≡ false
+unfolding sameWord
+other-length [] [] n = absurd (n refl)
+other-length [] (y ∷ w) n = refl
+other-length (b ∷ x) [] n = refl
+other-length (b ∷ x) (y ∷ w) n = by-cases (eqb (lower b) y) (λ t. rw t (other-length x w (λ e. n (ap suc e)))) (λ t. rw t)
+
+-- what is still to come of two words of one length
+abbrev pub Still : List ℕ → List ℕ → ℕ → Type 0
+Still x w i = sameWord x w ≡ sameWord (drop i x) (drop i w)
+
+module _ (x w : List ℕ) (i : ℕ) (same : length x ≡ length w) (h : i < length w) (u : Still x w i) where
+  heads : sameWord (drop i x) (drop i w) ≡ (eqb (lower (getD x i 0)) (getD w i 0) && sameWord (drop (i + 1) x) (drop (i + 1) w))
+  unfolding sameWord
+  heads = rw (add-one, drop-cons x i 0 (omega arith), drop-cons w i 0 h)
+
+  pub letters-on : lower (getD x i 0) ≡ getD w i 0 → Still x w (i + 1)
+  letters-on e = u ∙ heads ∙ rw (eq-eqb (lower (getD x i 0)) (getD w i 0) e)
+
+  pub letters-off : (lower (getD x i 0) ≡ getD w i 0 → ⊥) → sameWord x w ≡ false
+  letters-off n = u ∙ heads ∙ rw (ne-eqb (lower (getD x i 0)) (getD w i 0) n)
+
+pub letters-out : (x w : List ℕ) (i : ℕ) → length x ≡ length w → length w ≤ i → Still x w i → sameWord x w ≡ true
+unfolding sameWord
+letters-out x w i same h u = u ∙ rw (drop-of-length-le x {i = i} (omega arith), drop-of-length-le w {i = i} h)
+
+-- ---- a part of a text
+
+module _ (s : List ℕ) (from to : ℕ) (h : from ≤ to) (g : to ≤ length s) where
+  pub part-length : length (take (to - from) (drop from s)) ≡ to - from
+  part-length = simp (length-take, length-drop) (omega arith)
+
+  pub part-at : (i : ℕ) → i < to - from → getD (take (to - from) (drop from s)) i 0 ≡ getD s (from + i) 0
+  part-at i k = getD-take (to - from) (drop from s) i 0 k ∙ getD-drop from s i 0
+
+-- ---- a place among words
+
+abbrev pub Place : List (List ℕ) → List ℕ → ℕ → Type 0
+Place ws n k = placeIn ws n ≡ k + placeIn (drop k ws) n
+
+module _ (ws : List (List ℕ)) (n : List ℕ) (k : ℕ) (h : k < length ws) (u : Place ws n k) where
+  pub place-found : sameWord n (getD ws k []) ≡ true → k ≡ placeIn ws n
+  unfolding placeIn
+  place-found e = let z : placeIn (drop k ws) n ≡ 0 = rw (drop-cons ws k [] h, e) in omega (arith, u, z)
+
+  pub place-on : sameWord n (getD ws k []) ≡ false → Place ws n (k + 1)
+  unfolding placeIn
+  place-on e = let z : placeIn (drop k ws) n ≡ suc (placeIn (drop (suc k) ws) n) = rw (drop-cons ws k [] h, e) in rw add-one (omega (arith, u, z))
+
+pub place-none : (ws : List (List ℕ)) (n : List ℕ) (k : ℕ) → length ws ≤ k → Place ws n k → k ≡ placeIn ws n
+unfolding placeIn
+place-none ws n k h u = let z : placeIn (drop k ws) n ≡ 0 = rw (drop-of-length-le ws {i = k} h) in omega (arith, u, z)
+
+-- a number that is at least j and not j is more
+pub past : (j k : ℕ) → j ≤ k → (k ≡ j → ⊥) → j + 1 ≤ k
+past j k h n = omega (arith, h, n)
+
+pub place-start : (ws : List (List ℕ)) (n : List ℕ) → Place ws n 0
+place-start ws n = omega arith
