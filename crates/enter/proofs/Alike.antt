@@ -1,0 +1,106 @@
+-- What two states, or what is given in two, have to agree in; and what one entry more leaves as it is.
+use mathlib.Core.Path.{_≡_, ap, _∙_}
+use mathlib.Core.Bool.{Bool, true, false}
+use mathlib.Core.List.{List, [], _∷_, _++_, append-nil}
+use Prim.Native.Nat.{ℕ, _+_}
+use native.Mathlib.Omega.{arith}
+use lib.ListN.{length}
+use Rattle.definitions.specs.declared.table.Flow.the-variants.{Any}
+use Rattle.definitions.specs.declared.table.Pattern as patterns
+use Rattle.definitions.specs.declared.table.Slot.{Slot}
+use Rattle.definitions.specs.Lists.{any?, count, padded}
+use Rattle.definitions.specs.Entries.{Modifier, Entry, Name, Protocol, Flow}
+use Rattle.definitions.specs.Tables.{bytesIn, slotsIn, modified}
+use Rattle.definitions.specs.Standing.{sameKind, latest}
+use Rattle.entry.specs.declared.Room.{Room}
+use Rattle.enter.specs.declared.Given.{Given}
+use Rattle.enter.specs.declared.State.{State}
+use Rattle.enter.specs.State.{modifierAmong, givenIn}
+use Rattle.enter.proofs.Behind.{or-false, or-true, any-append, count-append, bytes-append, slots-append, latest-append}
+
+-- ---- two states whose fields are equal
+
+pub record Alike (a b : State) : Type 0 where
+  pub name : a .name ≡ b .name
+  pub len : a .len ≡ b .len
+  pub protocol : a .protocol ≡ b .protocol
+  pub flow : a .flow ≡ b .flow
+  pub room : a .room ≡ b .room
+  pub items : a .items ≡ b .items
+  pub count : a .count ≡ b .count
+  pub given : a .given ≡ b .given
+  pub patterns : a .patterns ≡ b .patterns
+  pub tests : a .tests ≡ b .tests
+  pub last : a .last ≡ b .last
+  pub dashes : a .dashes ≡ b .dashes
+
+pub alike : (a b : State) → Alike a b → a ≡ b
+alike a b k = λ i.
+    record {
+      name = k .name i;
+      len = k .len i;
+      protocol = k .protocol i;
+      flow = k .flow i;
+      room = k .room i;
+      items = k .items i;
+      count = k .count i;
+      given = k .given i;
+      patterns = k .patterns i;
+      tests = k .tests i;
+      last = k .last i;
+      dashes = k .dashes i;
+    }
+
+pub alike-room : (room : ℕ) (a b : List ℕ) → a ≡ b
+    → _≡_ {A = Room} (record { bytes = padded room 0 a; used = length a }) (record { bytes = padded room 0 b; used = length b })
+alike-room room a b e = ap (λ (l : List ℕ). record { bytes = padded room 0 l; used = length l }) e
+
+abbrev pub givenBy : Bool → Bool → Bool → List Modifier → Given
+givenBy n p f ms =
+    record {
+      name = n;
+      protocol = p;
+      flow = f;
+      context = modifierAmong 0 ms;
+      nocase = modifierAmong 1 ms;
+      distance = modifierAmong 2 ms;
+      within = modifierAmong 3 ms;
+    }
+
+-- ---- an entry e more, of whatever kind, at what it leaves as it is
+
+module _ (es : List Entry) (e : Entry) where
+  pub any-same : (k : Entry → Bool) → any? k (e ∷ []) ≡ false → any? k (es ++ (e ∷ [])) ≡ any? k es
+  any-same k h = any-append k es (e ∷ []) ∙ rw h (or-false (any? k es))
+
+  pub any-new : (k : Entry → Bool) → any? k (e ∷ []) ≡ true → any? k (es ++ (e ∷ [])) ≡ true
+  any-new k h = any-append k es (e ∷ []) ∙ rw h (or-true (any? k es))
+
+  pub count-same : (k : Entry → Bool) → count k (e ∷ []) ≡ 0 → count k (es ++ (e ∷ [])) ≡ count k es
+  count-same k h = omega (arith, count-append k es (e ∷ []))
+
+  pub count-new : (k : Entry → Bool) → count k (e ∷ []) ≡ 1 → count k (es ++ (e ∷ [])) ≡ count k es + 1
+  count-new k h = omega (arith, count-append k es (e ∷ []))
+
+  pub bytes-same : bytesIn (e ∷ []) ≡ [] → bytesIn (es ++ (e ∷ [])) ≡ bytesIn es
+  bytes-same h = bytes-append es (e ∷ []) ∙ rw h (append-nil (bytesIn es))
+
+  pub slots-same : ((p : patterns.Pattern) → modified (e ∷ []) p ≡ p) → slotsIn (e ∷ []) ≡ []
+      → slotsIn (es ++ (e ∷ [])) ≡ slotsIn es
+  slots-same h s = slots-append es (e ∷ []) h ∙ rw s (append-nil (slotsIn es))
+
+  pub slots-new : (sl : Slot) → ((p : patterns.Pattern) → modified (e ∷ []) p ≡ p) → slotsIn (e ∷ []) ≡ sl ∷ []
+      → slotsIn (es ++ (e ∷ [])) ≡ slotsIn es ++ (sl ∷ [])
+  slots-new sl h s = slots-append es (e ∷ []) h ∙ rw s
+
+  -- what is given, from whether name, protocol and flow are, and the modifiers behind the last pattern
+  pub given-now : {n p f : Bool} (ms : List Modifier) → any? (sameKind (Name [])) (es ++ (e ∷ [])) ≡ n → any? (sameKind (Protocol 0)) (es ++ (e ∷ [])) ≡ p
+      → any? (sameKind (Flow Any)) (es ++ (e ∷ [])) ≡ f → latest (latest [] es) (e ∷ []) ≡ ms → givenIn (es ++ (e ∷ [])) ≡ givenBy n p f ms
+  given-now ms hn hp hf hm =
+      let h : latest [] (es ++ (e ∷ [])) ≡ ms = latest-append [] es (e ∷ []) ∙ hm in
+      λ i. givenBy (hn i) (hp i) (hf i) (h i)
+
+  pub given-kept : (ms : List Modifier) → any? (sameKind (Name [])) (e ∷ []) ≡ false → any? (sameKind (Protocol 0)) (e ∷ []) ≡ false
+      → any? (sameKind (Flow Any)) (e ∷ []) ≡ false → latest (latest [] es) (e ∷ []) ≡ ms
+      → givenIn (es ++ (e ∷ [])) ≡ givenBy (any? (sameKind (Name [])) es) (any? (sameKind (Protocol 0)) es) (any? (sameKind (Flow Any)) es) ms
+  given-kept ms hn hp hf hm = given-now ms (any-same (sameKind (Name [])) hn) (any-same (sameKind (Protocol 0)) hp) (any-same (sameKind (Flow Any)) hf) hm

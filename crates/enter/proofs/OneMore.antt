@@ -1,0 +1,85 @@
+-- The options said and one more: their entries, the dashes of their patterns, and what holds of the state behind them.
+use mathlib.Core.Path.{_≡_, refl, sym, ap, subst, _∙_}
+use mathlib.Core.Bool.{Bool, true, false, not, _||_}
+use mathlib.Core.List.{List, [], _∷_, _++_, map, append-nil, map-append}
+use Prim.Native.Nat.{ℕ, suc, _≤_, _<_}
+use native.Mathlib.Omega.{arith}
+use lib.ListN.{length}
+use lib.Dec.{eqb, eqb·suc-zero}
+use Rattle.forms.proofs.Bools.{by-cases}
+use Rattle.definitions.specs.Limits.{patternsMost, testsMost, itemsMost}
+use Rattle.definitions.specs.Lists.{any?, keep, keepOne, count}
+use Rattle.definitions.specs.Entries.{Entry}
+use Rattle.definitions.specs.Standing.{isTest, isPattern}
+use Rattle.definitions.specs.Reading.{Said, entriesOf}
+use Rattle.enter.specs.declared.State.{State}
+use Rattle.enter.specs.State.{dashesOf, lastPlace, stateFrom, saidAlso, Holds}
+use Rattle.enter.specs.Entering.{Sound}
+use Rattle.enter.proofs.Behind.{keep-append, slots-length, last-none}
+use Rattle.enter.proofs.LastPattern.{last-is}
+
+-- ---- a test that some element passes, and how many do
+
+count-by : {A : Type 0} (t : Bool) (x : A) (l : List A) (any : Bool) → eqb (length l) 0 ≡ not any → eqb (length (keepOne t x l)) 0 ≡ not (t || any)
+count-by true x l any e = eqb·suc-zero (length l)
+count-by false x l any e = e
+
+pub count-none : {A : Type 0} (f : A → Bool) (l : List A) → eqb (count f l) 0 ≡ not (any? f l)
+unfolding keep any?
+count-none f [] = refl
+count-none f (x ∷ l) = count-by (f x) x (keep f l) (any? f l) (count-none f l)
+
+-- ---- entries and dashes
+
+pub entries-also : (said : List Said) (dash : ℕ) (e : Entry) → entriesOf (saidAlso said dash e) ≡ entriesOf said ++ (e ∷ [])
+entries-also said dash e = map-append (λ (d : Said). d .entry) said (record { dash = dash; entry = e } ∷ [])
+
+dashes-append : (a b : List Said) → dashesOf (a ++ b) ≡ dashesOf a ++ dashesOf b
+dashes-append a b =
+    let patterned : Said → Bool = λ d. isPattern (d .entry) in
+    rw (keep-append patterned a b) (map-append (λ (d : Said). d .dash) (keep patterned a) (keep patterned b))
+
+pub dashes-same : (said : List Said) (dash : ℕ) (e : Entry) → isPattern e ≡ false → dashesOf (saidAlso said dash e) ≡ dashesOf said
+unfolding keep
+dashes-same said dash e h = dashes-append said (record { dash = dash; entry = e } ∷ []) ∙ rw h (append-nil (dashesOf said))
+
+pub dashes-new : (said : List Said) (dash : ℕ) (e : Entry) → isPattern e ≡ true → dashesOf (saidAlso said dash e) ≡ dashesOf said ++ (dash ∷ [])
+unfolding keep
+dashes-new said dash e h = dashes-append said (record { dash = dash; entry = e } ∷ []) ∙ rw h
+
+dash-kept : (t : Bool) (d : Said) (l : List Said) (m : List Entry) → length (map (λ (x : Said). x .dash) l) ≡ length m
+    → length (map (λ (x : Said). x .dash) (keepOne t d l)) ≡ length (keepOne t (d .entry) m)
+dash-kept true d l m h = ap suc h
+dash-kept false d l m h = h
+
+pub dashes-length : (said : List Said) → length (dashesOf said) ≡ count isPattern (entriesOf said)
+unfolding keep
+dashes-length [] = refl
+dashes-length (d ∷ said) = dash-kept (isPattern (d .entry)) d _ _ (dashes-length said)
+
+-- ---- what holds
+
+-- behind one option more, from its entry, its dash and the counts
+pub holds-also : (said : List Said) (dash : ℕ) (e : Entry) (ds : List ℕ) (st : State) → dashesOf (saidAlso said dash e) ≡ ds
+    → st ≡ stateFrom 1024 (entriesOf said ++ (e ∷ [])) ds → count isPattern (entriesOf said ++ (e ∷ [])) ≤ patternsMost
+    → count isTest (entriesOf said ++ (e ∷ [])) ≤ testsMost
+    → Holds (saidAlso said dash e) st
+holds-also said dash e ds st d k p t =
+    record {
+      is = k ∙ sym (rw (entries-also said dash e, d));
+      patterns = rw (entries-also said dash e) p;
+      tests = rw (entries-also said dash e) t;
+    }
+
+few : (es : List Entry) → count isPattern es ≤ patternsMost → count isTest es ≤ testsMost → lastPlace es < itemsMost
+few es p t =
+    by-cases (any? isPattern es)
+    (λ a. omega (arith, last-is es a .1 .within, slots-length es))
+    (λ f. omega (arith, last-none es f))
+
+-- what the code's stores and sums rest on
+pub sound : (said : List Said) (st : State) → Holds said st → Sound st
+unfolding stateFrom
+sound said st h =
+    subst (λ (s : State). Sound s) (sym (h .is))
+    (record { count = slots-length (entriesOf said); patterns = h .patterns; tests = h .tests; last = few (entriesOf said) (h .patterns) (h .tests) })

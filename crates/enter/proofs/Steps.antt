@@ -1,0 +1,177 @@
+-- The state of one entry more is the state before it with the code's change: field by field, by what one entry more does.
+use mathlib.Core.Path.{_≡_, refl, sym, ap, _∙_}
+use mathlib.Core.Bool.{Bool, true, false}
+use mathlib.Core.List.{List, [], _∷_, _++_, append-nil}
+use Prim.Native.Nat.{ℕ, _+_, _≤_, _<_}
+use lib.ListN.{length, length-append, set, length-set}
+use Rattle.definitions.specs.declared.table.Flow.the-variants.{Any}
+use Rattle.definitions.specs.declared.table.Flow as flows
+use Rattle.definitions.specs.declared.table.Pattern as patterns
+use Rattle.definitions.specs.declared.table.Item.{Item}
+use Rattle.definitions.specs.declared.table.Item.the-variants as item
+use Rattle.definitions.specs.declared.table.Address.{Address}
+use Rattle.definitions.specs.declared.table.Slot.{Slot}
+use Rattle.definitions.specs.Limits.{nameMost, patternsMost, itemsMost}
+use Rattle.definitions.specs.Lists.{any?, keep, count, padded}
+use Rattle.definitions.specs.Entries.{Modifier, Context, NoCase, Distance, Within, Entry, Name, Protocol, Flow, Test, Pattern, Modified}
+use Rattle.definitions.specs.Tables.{nameIn, protocolIn, flowIn, bytesIn, slotsIn, slotOf, noSlot, modified, bare, with}
+use Rattle.definitions.specs.Standing.{sameKind, isTest, isPattern, latest}
+use Rattle.entry.specs.Values.{appended}
+use Rattle.enter.specs.declared.State.{State}
+use Rattle.enter.specs.State.{lastPlace, givenIn, stateFrom}
+use Rattle.enter.specs.Entering.{withName, withProtocol, withFlow, withTest, withNewPattern, withPattern, givenAlso, lastSlot, lastPattern, patternOf}
+use Rattle.enter.proofs.Padding.{padded-one, padded-more, padded-set, padded-at}
+use Rattle.enter.proofs.Behind.{name-behind, name-first, protocol-behind, protocol-first, flow-behind, flow-first, bytes-append, last-behind, last-new}
+use Rattle.enter.proofs.LastPattern.{LastIs, last-is}
+use Rattle.enter.proofs.Alike.{alike, alike-room, given-now, given-kept, any-same, any-new, count-same, count-new, bytes-same, slots-same, slots-new}
+
+module _ (room : ℕ) (es : List Entry) (ds : List ℕ) where
+  pub name-step : (x : List ℕ) → any? (sameKind (Name [])) es ≡ false
+      → stateFrom room (es ++ (Name x ∷ [])) ds ≡ withName (stateFrom room es ds) (padded nameMost 0 x) (length x)
+  unfolding stateFrom nameIn protocolIn flowIn bytesIn slotsIn modified any? keep latest lastPlace
+  name-step x h =
+      alike (stateFrom room (es ++ (Name x ∷ [])) ds) (withName (stateFrom room es ds) (padded nameMost 0 x) (length x))
+      (record {
+        name = ap (padded nameMost 0) (name-first es (Name x ∷ []) h);
+        len = ap length (name-first es (Name x ∷ []) h);
+        protocol = protocol-behind es (Name x ∷ []) refl;
+        flow = flow-behind es (Name x ∷ []) refl;
+        room = alike-room room _ _ (bytes-same es (Name x) refl);
+        items = ap (padded itemsMost noSlot) (slots-same es (Name x) (λ p. refl) refl);
+        count = ap length (slots-same es (Name x) (λ p. refl) refl);
+        given = given-now es (Name x) (latest [] es)
+            (any-new es (Name x) (sameKind (Name [])) refl)
+            (any-same es (Name x) (sameKind (Protocol 0)) refl)
+            (any-same es (Name x) (sameKind (Flow Any)) refl) refl;
+        patterns = count-same es (Name x) isPattern refl;
+        tests = count-same es (Name x) isTest refl;
+        last = last-behind es (Name x ∷ []) refl refl;
+        dashes = refl;
+      })
+
+  pub protocol-step : (p : ℕ) → any? (sameKind (Protocol 0)) es ≡ false
+      → stateFrom room (es ++ (Protocol p ∷ [])) ds ≡ withProtocol (stateFrom room es ds) p
+  unfolding stateFrom nameIn protocolIn flowIn bytesIn slotsIn modified any? keep latest lastPlace
+  protocol-step p h =
+      alike (stateFrom room (es ++ (Protocol p ∷ [])) ds) (withProtocol (stateFrom room es ds) p)
+      (record {
+        name = ap (padded nameMost 0) (name-behind es (Protocol p ∷ []) refl);
+        len = ap length (name-behind es (Protocol p ∷ []) refl);
+        protocol = protocol-first es (Protocol p ∷ []) h;
+        flow = flow-behind es (Protocol p ∷ []) refl;
+        room = alike-room room _ _ (bytes-same es (Protocol p) refl);
+        items = ap (padded itemsMost noSlot) (slots-same es (Protocol p) (λ p. refl) refl);
+        count = ap length (slots-same es (Protocol p) (λ p. refl) refl);
+        given = given-now es (Protocol p) (latest [] es)
+            (any-same es (Protocol p) (sameKind (Name [])) refl)
+            (any-new es (Protocol p) (sameKind (Protocol 0)) refl)
+            (any-same es (Protocol p) (sameKind (Flow Any)) refl) refl;
+        patterns = count-same es (Protocol p) isPattern refl;
+        tests = count-same es (Protocol p) isTest refl;
+        last = last-behind es (Protocol p ∷ []) refl refl;
+        dashes = refl;
+      })
+
+  pub flow-step : (f : flows.Flow) → any? (sameKind (Flow Any)) es ≡ false
+      → stateFrom room (es ++ (Flow f ∷ [])) ds ≡ withFlow (stateFrom room es ds) f
+  unfolding stateFrom nameIn protocolIn flowIn bytesIn slotsIn modified any? keep latest lastPlace
+  flow-step f h =
+      alike (stateFrom room (es ++ (Flow f ∷ [])) ds) (withFlow (stateFrom room es ds) f)
+      (record {
+        name = ap (padded nameMost 0) (name-behind es (Flow f ∷ []) refl);
+        len = ap length (name-behind es (Flow f ∷ []) refl);
+        protocol = protocol-behind es (Flow f ∷ []) refl;
+        flow = flow-first es (Flow f ∷ []) h;
+        room = alike-room room _ _ (bytes-same es (Flow f) refl);
+        items = ap (padded itemsMost noSlot) (slots-same es (Flow f) (λ p. refl) refl);
+        count = ap length (slots-same es (Flow f) (λ p. refl) refl);
+        given = given-now es (Flow f) (latest [] es)
+            (any-same es (Flow f) (sameKind (Name [])) refl)
+            (any-same es (Flow f) (sameKind (Protocol 0)) refl)
+            (any-new es (Flow f) (sameKind (Flow Any)) refl) refl;
+        patterns = count-same es (Flow f) isPattern refl;
+        tests = count-same es (Flow f) isTest refl;
+        last = last-behind es (Flow f ∷ []) refl refl;
+        dashes = refl;
+      })
+
+  pub test-step : (it : Item) (al : List Address) → length (slotsIn es) < itemsMost
+      → stateFrom room (es ++ (Test it al ∷ [])) ds ≡ withTest (stateFrom room es ds) (slotOf it al)
+  unfolding stateFrom nameIn protocolIn flowIn bytesIn slotsIn modified any? keep latest lastPlace
+  test-step it al h =
+      alike (stateFrom room (es ++ (Test it al ∷ [])) ds) (withTest (stateFrom room es ds) (slotOf it al))
+      (record {
+        name = ap (padded nameMost 0) (name-behind es (Test it al ∷ []) refl);
+        len = ap length (name-behind es (Test it al ∷ []) refl);
+        protocol = protocol-behind es (Test it al ∷ []) refl;
+        flow = flow-behind es (Test it al ∷ []) refl;
+        room = alike-room room _ _ (bytes-same es (Test it al) refl);
+        items = ap (padded itemsMost noSlot) (slots-new es (Test it al) (slotOf it al) (λ p. refl) refl) ∙ padded-one itemsMost noSlot (slotsIn es) (slotOf it al) h;
+        count = ap length (slots-new es (Test it al) (slotOf it al) (λ p. refl) refl) ∙ length-append (slotsIn es) (slotOf it al ∷ []);
+        given = given-kept es (Test it al) (latest [] es) refl refl refl refl;
+        patterns = count-same es (Test it al) isPattern refl;
+        tests = count-new es (Test it al) isTest refl;
+        last = last-behind es (Test it al ∷ []) refl refl;
+        dashes = refl;
+      })
+
+  pub pattern-step : (neg : Bool) (b : List ℕ) (dash : ℕ) → length (slotsIn es) < itemsMost → length ds < patternsMost → length ds ≡ count isPattern es
+      → length (bytesIn es) + length b ≤ room
+      → stateFrom room (es ++ (Pattern neg b ∷ [])) (ds ++ (dash ∷ []))
+      ≡ withNewPattern (stateFrom room es ds) dash (slotOf (item.Pattern (bare neg (length b))) []) (appended (stateFrom room es ds .room) b)
+  unfolding stateFrom nameIn protocolIn flowIn bytesIn slotsIn modified any? keep latest lastPlace
+  pattern-step neg b dash h g e f =
+      let sl : Slot = slotOf (item.Pattern (bare neg (length b))) [] in
+      let more : bytesIn (es ++ (Pattern neg b ∷ [])) ≡ bytesIn es ++ b = bytes-append es (Pattern neg b ∷ []) ∙ ap (λ (l : List ℕ). bytesIn es ++ l) (append-nil b) in
+      alike (stateFrom room (es ++ (Pattern neg b ∷ [])) (ds ++ (dash ∷ []))) (withNewPattern (stateFrom room es ds) dash sl (appended (stateFrom room es ds .room) b))
+      (record {
+        name = ap (padded nameMost 0) (name-behind es (Pattern neg b ∷ []) refl);
+        len = ap length (name-behind es (Pattern neg b ∷ []) refl);
+        protocol = protocol-behind es (Pattern neg b ∷ []) refl;
+        flow = flow-behind es (Pattern neg b ∷ []) refl;
+        room = alike-room room _ _ more ∙ (λ i. record { bytes = padded-more room 0 b (bytesIn es) f i; used = length-append (bytesIn es) b i });
+        items = ap (padded itemsMost noSlot) (slots-new es (Pattern neg b) sl (λ p. refl) refl) ∙ padded-one itemsMost noSlot (slotsIn es) sl h;
+        count = ap length (slots-new es (Pattern neg b) sl (λ p. refl) refl) ∙ length-append (slotsIn es) (sl ∷ []);
+        given = given-kept es (Pattern neg b) [] refl refl refl refl;
+        patterns = count-new es (Pattern neg b) isPattern refl;
+        tests = count-same es (Pattern neg b) isTest refl;
+        last = last-new es neg b;
+        dashes = padded-one patternsMost 0 ds dash g ∙ ap (λ (k : ℕ). set (padded patternsMost 0 ds) k dash) e;
+      })
+
+  -- a modifier that is given
+  given-step : (m : Modifier) → givenIn (es ++ (Modified m ∷ [])) ≡ givenAlso m (givenIn es)
+  unfolding any? latest
+  given-step (Context c) = given-kept es (Modified (Context c)) (Context c ∷ latest [] es) refl refl refl refl
+  given-step NoCase = given-kept es (Modified NoCase) (NoCase ∷ latest [] es) refl refl refl refl
+  given-step (Distance d) = given-kept es (Modified (Distance d)) (Distance d ∷ latest [] es) refl refl refl refl
+  given-step (Within w) = given-kept es (Modified (Within w)) (Within w ∷ latest [] es) refl refl refl refl
+
+  pub modifier-step : (m : Modifier) → any? isPattern es ≡ true
+      → stateFrom room (es ++ (Modified m ∷ [])) ds
+      ≡ withPattern (stateFrom room es ds) (with m (lastPattern (stateFrom room es ds))) (givenAlso m (stateFrom room es ds .given))
+  unfolding stateFrom nameIn protocolIn flowIn bytesIn any? keep lastPlace patternOf
+  modifier-step m h =
+      let p : patterns.Pattern = last-is es h .0 in
+      let k : LastIs es p = last-is es h .1 in
+      let st : State = stateFrom room es ds in
+      let at-last : lastSlot st ≡ slotOf (item.Pattern p) [] = padded-at itemsMost noSlot (slotsIn es) (lastPlace es) _ (k .within) ∙ k .slot _ in
+      let changed : Slot → Slot = λ sl. record { item = item.Pattern (with m (patternOf (sl .item))); addresses = sl .addresses } in
+      alike (stateFrom room (es ++ (Modified m ∷ [])) ds) (withPattern st (with m (lastPattern st)) (givenAlso m (st .given)))
+      (record {
+        name = ap (padded nameMost 0) (name-behind es (Modified m ∷ []) refl);
+        len = ap length (name-behind es (Modified m ∷ []) refl);
+        protocol = protocol-behind es (Modified m ∷ []) refl;
+        flow = flow-behind es (Modified m ∷ []) refl;
+        room = alike-room room _ _ (bytes-same es (Modified m) refl);
+        items =
+            ap (padded itemsMost noSlot) (k .changed m)
+            ∙ padded-set itemsMost noSlot (slotsIn es) (lastPlace es) _ (k .within)
+            ∙ ap (λ (sl : Slot). set (padded itemsMost noSlot (slotsIn es)) (lastPlace es) (changed sl)) (sym at-last);
+        count = ap length (k .changed m) ∙ length-set (slotsIn es) (lastPlace es) _;
+        given = given-step m;
+        patterns = count-same es (Modified m) isPattern refl;
+        tests = count-same es (Modified m) isTest refl;
+        last = last-behind es (Modified m ∷ []) refl refl;
+        dashes = refl;
+      })

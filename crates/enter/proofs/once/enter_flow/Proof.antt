@@ -1,0 +1,15 @@
+-- The state made anew is that of the definition, with what `due_again` ensures.
+use Rattle.enter.specs.Entering.{flowEntered}
+use borrow.Author.Needs.{needs}
+use Rattle.enter.proofs.once.enter_flow.Statement.{statement}
+use Rattle.enter.proofs.once.enter_flow.Tie as tie
+
+due-again-requires : tie.Need-due-again-requires
+due-again-requires c κs = search needs
+
+returns : tie.Need-returns
+unfolding flowEntered
+returns c = simp (c .before .before .before .before .due-again .ensures)
+
+pub enter-flow-spec : {M : Type 1} → statement M
+enter-flow-spec = tie.close (tie.spec due-again-requires returns)
