@@ -106,7 +106,7 @@ fn table_of(st: State) -> Table
 }
 
 // A refusal with its place, and the table of a text that says nothing.
-fn refused(r: Refusal, place: usize) -> Reading
+pub fn refused(r: Refusal, place: usize) -> Reading
     ensures { λ a. ⌜ a ≡ refusedReading 1024 r place ⌝ }
 {
     let none = fresh();

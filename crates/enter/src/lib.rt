@@ -1,7 +1,7 @@
 // What was read of a text so far: one more option's value is entered, and at the end the whole is judged. The contracts go by the
 // options that were said, whatever these were.
 mod counted;
-mod judging;
+pub mod judging;
 mod modifiers;
 mod once;
 mod references;

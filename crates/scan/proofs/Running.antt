@@ -45,7 +45,7 @@ module _ (p : ℕ → Bool) (s : List ℕ) (at i : ℕ) (e : Run p s at i) where
   pub run-out : length s ≤ i → i ≡ at + run p (drop at s)
   run-out h = omega (arith, e, run-end p s i h)
 
-run-le : (p : ℕ → Bool) (l : List ℕ) → run p l ≤ length l
+pub run-le : (p : ℕ → Bool) (l : List ℕ) → run p l ≤ length l
 unfolding run
 run-le p [] = omega arith
 run-le p (b ∷ l) = by-cases (p b) (λ t. rw t (omega (arith, run-le p l))) (λ t. rw t (omega arith))

@@ -1,0 +1,83 @@
+-- What an option's reading and entering say of the definition's turn.
+use mathlib.Core.Path.{_≡_, refl, sym, ap, _∙_, subst}
+use mathlib.Core.List.{List, [], _∷_, _++_, append-nil}
+use Prim.Native.Nat.{ℕ, _+_, _≤_}
+use native.Mathlib.Omega.{arith}
+use lib.ListN.{length, length-append}
+use Rattle.forms.specs.Place.{Is}
+use Rattle.definitions.specs.declared.answers.Due.{Due}
+use Rattle.definitions.specs.declared.answers.Due.the-variants.{Fine, No as Not}
+use Rattle.definitions.specs.declared.answers.Refusal.the-variants as refusal
+use Rattle.definitions.specs.declared.table.Address.{Address}
+use Rattle.definitions.specs.Entries.{Entry}
+use Rattle.definitions.specs.Options.{unlisted, listed, optionAt}
+use Rattle.definitions.specs.Standing.{dueFor}
+use Rattle.definitions.specs.Lists.{keep}
+use Rattle.definitions.specs.Tables.{bytesIn}
+use Rattle.definitions.specs.Reading.{Said, entriesOf, Options, refused, taken}
+use Rattle.entry.specs.declared.Value.{Value}
+use Rattle.entry.specs.declared.Value.the-variants as value
+use Rattle.entry.specs.Values.{entryOf}
+use Rattle.scan.specs.declared.cursor.Cursor.{Cursor}
+use Rattle.scan.specs.declared.cursor.Cursor.the-variants.{Going, Over, Stopped}
+use Rattle.scan.specs.Reads.{readBy, placeOf}
+use Rattle.enter.specs.declared.State.{State}
+use Rattle.enter.specs.State.{Holds, Apart, saidAlso, stateFrom, stateOf}
+use Rattle.enter.proofs.Behind.{bytes-append}
+use Rattle.enter.proofs.OneMore.{entries-also}
+use Rattle.reader.specs.Turning.{turnBy, TurnsTo}
+
+module _ (s : List ℕ) (at : ℕ) (es : List Entry) (K : Entry → ℕ → Options) where
+  pub taken-unlisted : optionAt s at ≡ unlisted → taken (optionAt s at) es at K ≡ refused refusal.NotListed at
+  taken-unlisted e = rw e
+
+  pub taken-stopped : (v : Entry) (d : Cursor) {p : ℕ} → optionAt s at ≡ listed (readBy v d) → d ≡ Stopped p → taken (optionAt s at) es at K ≡ refused refusal.Form at
+  taken-stopped v d e f = rw (e, f)
+
+  pub taken-over : (v : Entry) (d : Cursor) {p n : ℕ} → optionAt s at ≡ listed (readBy v d) → d ≡ Over p n → taken (optionAt s at) es at K ≡ refused refusal.Limit at
+  taken-over v d e f = rw (e, f)
+
+-- how many pattern bytes one option more brings
+bytes-said : (s : List ℕ) (v : Value) (al : List Address) (b : List ℕ) → Apart s v al b → bytesIn (entryOf s v al b ∷ []) ≡ b
+unfolding bytesIn entryOf
+bytes-said s (value.Name from n) al b a = sym (a .4)
+bytes-said s (value.Protocol p) al b a = sym (a .1)
+bytes-said s (value.Flow f) al b a = sym (a .1)
+bytes-said s (value.Test it) al b a = sym (a .1)
+bytes-said s (value.Addresses t) al b a = sym (a .1)
+bytes-said s (value.Pattern negated n) al b a = append-nil b
+bytes-said s (value.Context c) al b a = sym (a .1)
+bytes-said s value.NoCase al b a = sym (a .1)
+bytes-said s (value.Distance d) al b a = sym (a .1)
+bytes-said s (value.Within w) al b a = sym (a .1)
+
+used-is : (said : List Said) (st : State) → Holds said st → st .room .used ≡ length (bytesIn (entriesOf said))
+unfolding stateFrom
+used-is said st h = ap (λ (x : State). x .room .used) (h .is)
+
+used-also : (s : List ℕ) (said : List Said) (st u : State) (dash : ℕ) (v : Value) (al : List Address) (b : List ℕ) → Apart s v al b
+    → Holds said st → Holds (saidAlso said dash (entryOf s v al b)) u → u .room .used ≡ st .room .used + length b
+used-also s said st u dash v al b a h g =
+    used-is (saidAlso said dash (entryOf s v al b)) u g
+    ∙ ap (λ (l : List Entry). length (bytesIn l)) (entries-also said dash (entryOf s v al b))
+    ∙ ap length (bytes-append (entriesOf said) (entryOf s v al b ∷ []) ∙ ap (λ (l : List ℕ). bytesIn (entriesOf said) ++ l) (bytes-said s v al b a))
+    ∙ length-append (bytesIn (entriesOf said)) b
+    ∙ ap (λ (n : ℕ). n + length b) (sym (used-is said st h))
+
+-- the option is read and entered: on behind it, unless something is due
+module _ (s : List ℕ) (said : List Said) (st u : State) (at n : ℕ) (v : Value) (al : List Address) (b : List ℕ) (apart : Apart s v al b) (held : Holds said st)
+    (is : optionAt s at ≡ listed (Is (entryOf s v al b) n)) (inside : n ≤ length s) (onward : at + 2 ≤ n) (grown : st .room .used + length b ≤ n) where
+  pub turned : (due : Due) → due ≡ dueFor (entriesOf said) (entryOf s v al b) → (due ≡ Fine → Holds (saidAlso said at (entryOf s v al b)) u) → TurnsTo s said at (turnBy due at n) u
+  turned Fine e h =
+      let g = h refl in
+      (entryOf s v al b, (λ K. rw (is, sym e)), g, (let q = used-also s said st u at v al b apart held g in omega (arith, q, grown)), onward, inside)
+  turned (Not r) e h = λ K. rw (is, sym e)
+
+-- the place behind a cursor that goes on
+pub going-inside : (s : List ℕ) (d : Cursor) (n : ℕ) → placeOf d ≤ length s → d ≡ Going n → n ≤ length s
+going-inside s d n h e = subst (λ (x : Cursor). placeOf x ≤ length s) e h
+
+-- before the first option
+pub fresh-holds : (st : State) → st ≡ stateOf 1024 [] → Holds [] st × (st .room .used ≤ 0)
+unfolding stateFrom bytesIn keep
+fresh-holds st e = (record { is = e; patterns = omega arith; tests = omega arith }, (let z : st .room .used ≡ 0 = ap (λ (x : State). x .room .used) e in omega (arith, z)))

@@ -1,0 +1,4 @@
+-- What the parts of the reader promise.
+pub mod Parsing
+pub mod Turning
+pub mod Framing

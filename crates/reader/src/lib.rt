@@ -1,0 +1,105 @@
+// Reading a text into its table.
+ghost use mathlib.Core.Path.{_≡_};
+ghost use Prim.Native.Nat.{_≤_};
+ghost use lib.ListN.{length, drop};
+ghost use Rattle.forms.specs.Bytes.{run};
+ghost use Rattle.definitions.specs.Limits.{limits01};
+ghost use Rattle.definitions.specs.Reading.{printable, opening, options, finished};
+ghost use mathlib.Core.List.{[]};
+ghost use Rattle.definitions.specs.Reading.{read as readText};
+ghost use Rattle.reader.specs.Framing.{isOpened};
+use crate::turns::Turn;
+use crate::turns::turn_at;
+use definitions::answers::Reading;
+use definitions::answers::Refusal;
+use definitions::limits::TEXT_BYTES;
+use enter::finish;
+use enter::fresh;
+use enter::judging::refused;
+use scan::bytes::is_between;
+
+pub mod lists;
+pub mod parsed;
+pub mod places;
+pub mod turns;
+
+// The options of a text, from behind `F-SBID(` on.
+fn read_options(s: &[u8]) -> Reading
+    requires { ⌜ (7 ≤ length (now s)) × (length (now s) ≤ limits01 .text) ⌝ }
+    ensures { λ r. ⌜ r ≡ finished 1024 (now (s .entry)) (options (now (s .entry)) (drop 7 (now (s .entry))) 0 7 []) ⌝ }
+{
+    let mut st = fresh();
+    let mut at = 7;
+    while at < s.len() {
+        let t = turn_at(s, st, at);
+        let turn = t.turn;
+        let state = t.state;
+        match turn {
+            Turn::Next(n) => {
+                st = state;
+                at = n;
+            }
+            Turn::Done => {
+                return finish(state, s.len());
+            }
+            Turn::Refused(r, p) => {
+                return refused(r, p);
+            }
+        }
+    }
+    refused(Refusal::NotDue, at)
+}
+
+// How many bytes at the front a text may hold.
+fn printable_run(s: &[u8]) -> usize
+    ensures { λ r. ⌜ r ≡ run printable (now (s .entry)) ⌝ }
+{
+    let mut i = 0;
+    while i < s.len() {
+        let b = s[i];
+        if !is_between(32, 126, b) {
+            return i;
+        }
+        i += 1;
+    }
+    i
+}
+
+// Whether `F-SBID(` stands at the front.
+fn is_opened(s: &[u8]) -> bool
+    ensures { λ r. ⌜ r ≡ isOpened (now (s .entry)) ⌝ }
+{
+    let w = b"F-SBID(";
+    if s.len() < 7 {
+        return false;
+    }
+    let mut i = 0;
+    while i < 7 {
+        if s[i] != w[i] {
+            return false;
+        }
+        i += 1;
+    }
+    true
+}
+
+// THE READER: any bytes in, the table or a refusal with its place out.
+pub fn read(s: &[u8]) -> Reading
+    ensures { λ r. ⌜ r ≡ readText limits01 (now (s .entry)) ⌝ }
+{
+    let len = s.len();
+    if len == 0 {
+        return refused(Refusal::TextLength, 0);
+    }
+    if TEXT_BYTES < len {
+        return refused(Refusal::TextLength, 0);
+    }
+    let run = printable_run(s);
+    if run < len {
+        return refused(Refusal::TextByte, run);
+    }
+    if !is_opened(s) {
+        return refused(Refusal::Opening, 0);
+    }
+    read_options(s)
+}
