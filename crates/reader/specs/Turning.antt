@@ -2,7 +2,7 @@
 use Prim.Native.Nat.{ℕ, _+_, _≤_, _<_}
 use mathlib.Core.Path.{_≡_}
 use mathlib.Core.List.{List}
-use lib.ListN.{length, drop}
+use lib.ListN.{length, getD, drop}
 use lib.Dec.{eqb}
 use Rattle.forms.specs.Bytes.{if_then_else_}
 use Rattle.definitions.specs.declared.answers.Due.{Due}
@@ -46,12 +46,13 @@ Turns s st at r = (said : List Said) → Holds said st → TurnsTo s said at (r 
 abbrev pub closingTurn : ℕ → ℕ → Turn
 closingTurn behind len = if eqb behind len then Done else Refused refusal.NotDue behind
 
--- where the loop stands: some options make the state, and no more pattern bytes are in use than stand before
+-- where the loop stands, at no space: some options make the state, and no more pattern bytes are in use than stand before
 pub record Placed (s : List ℕ) (st : State) (at : ℕ) : Type 0 where
   pub said : List Said
   pub holds : Holds said st
   pub behind : st .room .used ≤ at
   pub inside : at < length s
+  pub solid : getD s at 0 ≡ 32 → ⊥
   pub short : length s ≤ limits01 .text
 
 -- what the definition's loop does from the place on

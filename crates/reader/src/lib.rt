@@ -31,19 +31,24 @@ fn read_options(s: &[u8]) -> Reading
     let mut st = fresh();
     let mut at = 7;
     while at < s.len() {
-        let t = turn_at(s, st, at);
-        let turn = t.turn;
-        let state = t.state;
-        match turn {
-            Turn::Next(n) => {
-                st = state;
-                at = n;
-            }
-            Turn::Done => {
-                return finish(state, s.len());
-            }
-            Turn::Refused(r, p) => {
-                return refused(r, p);
+        let b = s[at];
+        if b == 32 {
+            at += 1;
+        } else {
+            let t = turn_at(s, st, at);
+            let turn = t.turn;
+            let state = t.state;
+            match turn {
+                Turn::Next(n) => {
+                    st = state;
+                    at = n;
+                }
+                Turn::Done => {
+                    return finish(state, s.len());
+                }
+                Turn::Refused(r, p) => {
+                    return refused(r, p);
+                }
             }
         }
     }

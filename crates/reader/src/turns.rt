@@ -76,18 +76,12 @@ fn turn_by(due: Due, at: usize, next: usize) -> Turn
     }
 }
 
-// A space, the last `)`, an option, or neither where one is due.
+// The last `)`, an option, or neither where one is due.
 pub fn turn_at(s: &[u8], st: State, at: usize) -> Turned
     requires { ⌜ Placed (now s) st at ⌝ }
     ensures { λ r. ⌜ Goes (now (s .entry)) st at r ⌝ }
 {
     let b = s[at];
-    if b == 32 {
-        return Turned {
-            turn: Turn::Next(at + 1),
-            state: st,
-        };
-    }
     if b == 41 {
         return Turned {
             turn: closing_turn(at + 1, s.len()),

@@ -5,34 +5,27 @@ use borrow.Author.Needs.{needs}
 use Rattle.names.proofs.in_name.Statement.{statement}
 use Rattle.names.proofs.in_name.Tie as tie
 
--- src/lib.rt:26:9
 small-requires : tie.Need-small-requires
 small-requires c κs = search needs
 
--- src/lib.rt:27:8
 is-between-requires : tie.Need-is-between-requires
 is-between-requires c κs = search needs
 
--- src/lib.rt:28:9
 returns : tie.Need-returns
 unfolding inName
 returns c = rw (← c .before .before .small .ensures, sym (c .before .is-between .ensures) ∙ c .if1 .taken)
 
--- src/lib.rt:30:8
 is-between-requires-2 : tie.Need-is-between-requires-2
 is-between-requires-2 c κs = search needs
 
--- src/lib.rt:31:9
 returns-2 : tie.Need-returns-2
 unfolding inName
 returns-2 c = rw (← c .before .before .before .before .small .ensures, sym (c .before .before .before .is-between .ensures) ∙ c .before .before .if1 .left, sym (c .before .is-between2 .ensures) ∙ c .if2 .taken)
 
--- src/lib.rt:34:9
 returns-3 : tie.Need-returns-3
 unfolding inName
 returns-3 c = rw (← c .before .before .before .before .before .small .ensures, sym (c .before .before .before .before .is-between .ensures) ∙ c .before .before .before .if1 .left, sym (c .before .before .is-between2 .ensures) ∙ c .before .if2 .left, eq-eqb _ _ (c .if3 .taken))
 
--- src/lib.rt:23:1
 returns-4 : tie.Need-returns-4
 unfolding inName
 returns-4 c = rw (← c .before .before .before .before .before .small .ensures, sym (c .before .before .before .before .is-between .ensures) ∙ c .before .before .before .if1 .left, sym (c .before .before .is-between2 .ensures) ∙ c .before .if2 .left, ne-eqb _ _ (c .if3 .left))

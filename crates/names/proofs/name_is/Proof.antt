@@ -8,288 +8,222 @@ use borrow.Author.Needs.{needs}
 use Rattle.names.proofs.name_is.Statement.{statement}
 use Rattle.names.proofs.name_is.Tie as tie
 
--- src/lib.rt:81:37
 slice-aggregate-same-word : tie.Need-slice-aggregate-same-word
 slice-aggregate-same-word c = search needs
 
--- src/lib.rt:81:14
 same-word-requires : tie.Need-same-word-requires
 same-word-requires c κs = search needs
 
--- src/lib.rt:82:37
 slice-aggregate-same-word-2 : tie.Need-slice-aggregate-same-word-2
 slice-aggregate-same-word-2 c = search needs
 
--- src/lib.rt:82:14
 same-word-requires-2 : tie.Need-same-word-requires-2
 same-word-requires-2 c κs = search needs
 
--- src/lib.rt:83:37
 slice-aggregate-same-word-3 : tie.Need-slice-aggregate-same-word-3
 slice-aggregate-same-word-3 c = search needs
 
--- src/lib.rt:83:14
 same-word-requires-3 : tie.Need-same-word-requires-3
 same-word-requires-3 c κs = search needs
 
--- src/lib.rt:84:37
 slice-aggregate-same-word-4 : tie.Need-slice-aggregate-same-word-4
 slice-aggregate-same-word-4 c = search needs
 
--- src/lib.rt:84:14
 same-word-requires-4 : tie.Need-same-word-requires-4
 same-word-requires-4 c κs = search needs
 
--- src/lib.rt:85:37
 slice-aggregate-same-word-5 : tie.Need-slice-aggregate-same-word-5
 slice-aggregate-same-word-5 c = search needs
 
--- src/lib.rt:85:14
 same-word-requires-5 : tie.Need-same-word-requires-5
 same-word-requires-5 c κs = search needs
 
--- src/lib.rt:86:37
 slice-aggregate-same-word-6 : tie.Need-slice-aggregate-same-word-6
 slice-aggregate-same-word-6 c = search needs
 
--- src/lib.rt:86:14
 same-word-requires-6 : tie.Need-same-word-requires-6
 same-word-requires-6 c κs = search needs
 
--- src/lib.rt:87:37
 slice-aggregate-same-word-7 : tie.Need-slice-aggregate-same-word-7
 slice-aggregate-same-word-7 c = search needs
 
--- src/lib.rt:87:14
 same-word-requires-7 : tie.Need-same-word-requires-7
 same-word-requires-7 c κs = search needs
 
--- src/lib.rt:88:37
 slice-aggregate-same-word-8 : tie.Need-slice-aggregate-same-word-8
 slice-aggregate-same-word-8 c = search needs
 
--- src/lib.rt:88:14
 same-word-requires-8 : tie.Need-same-word-requires-8
 same-word-requires-8 c κs = search needs
 
--- src/lib.rt:89:37
 slice-aggregate-same-word-9 : tie.Need-slice-aggregate-same-word-9
 slice-aggregate-same-word-9 c = search needs
 
--- src/lib.rt:89:14
 same-word-requires-9 : tie.Need-same-word-requires-9
 same-word-requires-9 c κs = search needs
 
--- src/lib.rt:90:37
 slice-aggregate-same-word-10 : tie.Need-slice-aggregate-same-word-10
 slice-aggregate-same-word-10 c = search needs
 
--- src/lib.rt:90:14
 same-word-requires-10 : tie.Need-same-word-requires-10
 same-word-requires-10 c κs = search needs
 
--- src/lib.rt:91:38
 slice-aggregate-same-word-11 : tie.Need-slice-aggregate-same-word-11
 slice-aggregate-same-word-11 c = search needs
 
--- src/lib.rt:91:15
 same-word-requires-11 : tie.Need-same-word-requires-11
 same-word-requires-11 c κs = search needs
 
--- src/lib.rt:92:38
 slice-aggregate-same-word-12 : tie.Need-slice-aggregate-same-word-12
 slice-aggregate-same-word-12 c = search needs
 
--- src/lib.rt:92:15
 same-word-requires-12 : tie.Need-same-word-requires-12
 same-word-requires-12 c κs = search needs
 
--- src/lib.rt:93:38
 slice-aggregate-same-word-13 : tie.Need-slice-aggregate-same-word-13
 slice-aggregate-same-word-13 c = search needs
 
--- src/lib.rt:93:15
 same-word-requires-13 : tie.Need-same-word-requires-13
 same-word-requires-13 c κs = search needs
 
--- src/lib.rt:94:38
 slice-aggregate-same-word-14 : tie.Need-slice-aggregate-same-word-14
 slice-aggregate-same-word-14 c = search needs
 
--- src/lib.rt:94:15
 same-word-requires-14 : tie.Need-same-word-requires-14
 same-word-requires-14 c κs = search needs
 
--- src/lib.rt:95:38
 slice-aggregate-same-word-15 : tie.Need-slice-aggregate-same-word-15
 slice-aggregate-same-word-15 c = search needs
 
--- src/lib.rt:95:15
 same-word-requires-15 : tie.Need-same-word-requires-15
 same-word-requires-15 c κs = search needs
 
--- src/lib.rt:96:38
 slice-aggregate-same-word-16 : tie.Need-slice-aggregate-same-word-16
 slice-aggregate-same-word-16 c = search needs
 
--- src/lib.rt:96:15
 same-word-requires-16 : tie.Need-same-word-requires-16
 same-word-requires-16 c κs = search needs
 
--- src/lib.rt:97:38
 slice-aggregate-same-word-17 : tie.Need-slice-aggregate-same-word-17
 slice-aggregate-same-word-17 c = search needs
 
--- src/lib.rt:97:15
 same-word-requires-17 : tie.Need-same-word-requires-17
 same-word-requires-17 c κs = search needs
 
--- src/lib.rt:98:38
 slice-aggregate-same-word-18 : tie.Need-slice-aggregate-same-word-18
 slice-aggregate-same-word-18 c = search needs
 
--- src/lib.rt:98:15
 same-word-requires-18 : tie.Need-same-word-requires-18
 same-word-requires-18 c κs = search needs
 
--- src/lib.rt:99:38
 slice-aggregate-same-word-19 : tie.Need-slice-aggregate-same-word-19
 slice-aggregate-same-word-19 c = search needs
 
--- src/lib.rt:99:15
 same-word-requires-19 : tie.Need-same-word-requires-19
 same-word-requires-19 c κs = search needs
 
--- src/lib.rt:100:38
 slice-aggregate-same-word-20 : tie.Need-slice-aggregate-same-word-20
 slice-aggregate-same-word-20 c = search needs
 
--- src/lib.rt:100:15
 same-word-requires-20 : tie.Need-same-word-requires-20
 same-word-requires-20 c κs = search needs
 
--- src/lib.rt:101:38
 slice-aggregate-same-word-21 : tie.Need-slice-aggregate-same-word-21
 slice-aggregate-same-word-21 c = search needs
 
--- src/lib.rt:101:15
 same-word-requires-21 : tie.Need-same-word-requires-21
 same-word-requires-21 c κs = search needs
 
--- src/lib.rt:102:37
 slice-aggregate-same-word-22 : tie.Need-slice-aggregate-same-word-22
 slice-aggregate-same-word-22 c = search needs
 
--- src/lib.rt:102:14
 same-word-requires-22 : tie.Need-same-word-requires-22
 same-word-requires-22 c κs = search needs
 
--- src/lib.rt:76:1
 returns : tie.Need-returns
 unfolding optionNames namesOf optionTable
 returns c = rw (c .before .before .match .keys1) (c .same-word .ensures)
 
--- src/lib.rt:76:1
 returns-2 : tie.Need-returns-2
 unfolding optionNames namesOf optionTable
 returns-2 c = rw (c .before .before .match .keys2) (c .same-word2 .ensures)
 
--- src/lib.rt:76:1
 returns-3 : tie.Need-returns-3
 unfolding optionNames namesOf optionTable
 returns-3 c = rw (c .before .before .match .keys3) (c .same-word3 .ensures)
 
--- src/lib.rt:76:1
 returns-4 : tie.Need-returns-4
 unfolding optionNames namesOf optionTable
 returns-4 c = rw (c .before .before .match .keys4) (c .same-word4 .ensures)
 
--- src/lib.rt:76:1
 returns-5 : tie.Need-returns-5
 unfolding optionNames namesOf optionTable
 returns-5 c = rw (c .before .before .match .keys5) (c .same-word5 .ensures)
 
--- src/lib.rt:76:1
 returns-6 : tie.Need-returns-6
 unfolding optionNames namesOf optionTable
 returns-6 c = rw (c .before .before .match .keys6) (c .same-word6 .ensures)
 
--- src/lib.rt:76:1
 returns-7 : tie.Need-returns-7
 unfolding optionNames namesOf optionTable
 returns-7 c = rw (c .before .before .match .keys7) (c .same-word7 .ensures)
 
--- src/lib.rt:76:1
 returns-8 : tie.Need-returns-8
 unfolding optionNames namesOf optionTable
 returns-8 c = rw (c .before .before .match .keys8) (c .same-word8 .ensures)
 
--- src/lib.rt:76:1
 returns-9 : tie.Need-returns-9
 unfolding optionNames namesOf optionTable
 returns-9 c = rw (c .before .before .match .keys9) (c .same-word9 .ensures)
 
--- src/lib.rt:76:1
 returns-10 : tie.Need-returns-10
 unfolding optionNames namesOf optionTable
 returns-10 c = rw (c .before .before .match .keys10) (c .same-word10 .ensures)
 
--- src/lib.rt:76:1
 returns-11 : tie.Need-returns-11
 unfolding optionNames namesOf optionTable
 returns-11 c = rw (c .before .before .match .keys11) (c .same-word11 .ensures)
 
--- src/lib.rt:76:1
 returns-12 : tie.Need-returns-12
 unfolding optionNames namesOf optionTable
 returns-12 c = rw (c .before .before .match .keys12) (c .same-word12 .ensures)
 
--- src/lib.rt:76:1
 returns-13 : tie.Need-returns-13
 unfolding optionNames namesOf optionTable
 returns-13 c = rw (c .before .before .match .keys13) (c .same-word13 .ensures)
 
--- src/lib.rt:76:1
 returns-14 : tie.Need-returns-14
 unfolding optionNames namesOf optionTable
 returns-14 c = rw (c .before .before .match .keys14) (c .same-word14 .ensures)
 
--- src/lib.rt:76:1
 returns-15 : tie.Need-returns-15
 unfolding optionNames namesOf optionTable
 returns-15 c = rw (c .before .before .match .keys15) (c .same-word15 .ensures)
 
--- src/lib.rt:76:1
 returns-16 : tie.Need-returns-16
 unfolding optionNames namesOf optionTable
 returns-16 c = rw (c .before .before .match .keys16) (c .same-word16 .ensures)
 
--- src/lib.rt:76:1
 returns-17 : tie.Need-returns-17
 unfolding optionNames namesOf optionTable
 returns-17 c = rw (c .before .before .match .keys17) (c .same-word17 .ensures)
 
--- src/lib.rt:76:1
 returns-18 : tie.Need-returns-18
 unfolding optionNames namesOf optionTable
 returns-18 c = rw (c .before .before .match .keys18) (c .same-word18 .ensures)
 
--- src/lib.rt:76:1
 returns-19 : tie.Need-returns-19
 unfolding optionNames namesOf optionTable
 returns-19 c = rw (c .before .before .match .keys19) (c .same-word19 .ensures)
 
--- src/lib.rt:76:1
 returns-20 : tie.Need-returns-20
 unfolding optionNames namesOf optionTable
 returns-20 c = rw (c .before .before .match .keys20) (c .same-word20 .ensures)
 
--- src/lib.rt:76:1
 returns-21 : tie.Need-returns-21
 unfolding optionNames namesOf optionTable
 returns-21 c = rw (c .before .before .match .keys21) (c .same-word21 .ensures)
 
--- src/lib.rt:76:1
 returns-22 : tie.Need-returns-22
 unfolding optionNames namesOf optionTable
 returns-22 c =

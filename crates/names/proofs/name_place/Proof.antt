@@ -14,32 +14,25 @@ Inv-loop s from to k₀ k = (length optionNames ≡ 22) × (k ≤ 22) × Place o
 abbrev μ-loop : tie.MeasureT-loop
 μ-loop s from to k₀ k = 22 - k
 
--- src/lib.rt:112:5
 loop-holds : tie.Need-loop-holds Inv-loop μ-loop
 unfolding optionNames namesOf optionTable
 loop-holds c = (refl, omega arith, place-start optionNames _)
 
--- src/lib.rt:113:12
 name-is-requires : tie.Need-name-is-requires Inv-loop μ-loop
 name-is-requires c κs = (c .before .before .before .pre .0, c .before .before .before .pre .1, c .loop-test .taken)
 
--- src/lib.rt:114:13
 returns : tie.Need-returns Inv-loop μ-loop
 returns c = place-found _ _ _ (let q = c .before .before .before .loop .inv .0 in let h = c .before .before .loop-test .taken in omega arith) (c .before .before .before .loop .inv .2) (sym (c .before .name-is .ensures) ∙ c .if1 .taken)
 
--- src/lib.rt:116:9
 add-k : tie.Need-add-k Inv-loop μ-loop
 add-k c = omega arith
 
--- src/lib.rt:112:5
 loop-less : tie.Need-loop-less Inv-loop μ-loop
 loop-less c = omega arith
 
--- src/lib.rt:112:5
 loop-again : tie.Need-loop-again Inv-loop μ-loop
 loop-again c = (c .before .before .before .loop .inv .0, (let h = c .before .before .loop-test .taken in omega arith), place-on _ _ _ (let q = c .before .before .before .loop .inv .0 in let h = c .before .before .loop-test .taken in omega arith) (c .before .before .before .loop .inv .2) (sym (c .before .name-is .ensures) ∙ c .if1 .left))
 
--- src/lib.rt:107:1
 returns-2 : tie.Need-returns-2 Inv-loop μ-loop
 returns-2 c = place-none _ _ _ (let q = c .before .loop .inv .0 in let h = c .loop-test .left in omega arith) (c .before .loop .inv .2)
 

@@ -14,51 +14,39 @@ Inv-loop s from to w i₀ i = (length (take (to - from) (drop from s)) ≡ lengt
 abbrev μ-loop : tie.MeasureT-loop
 μ-loop s from to w i₀ i = length w - i
 
--- src/lib.rt:60:8
 sub-if1 : tie.Need-sub-if1 Inv-loop μ-loop
 sub-if1 c = c .before .before .pre .0
 
--- src/lib.rt:61:9
 returns : tie.Need-returns Inv-loop μ-loop
 returns c = sym (other-length _ _ (λ e. c .if1 .taken (sym (part-length _ _ _ (c .before .before .before .pre .0) (c .before .before .before .pre .1)) ∙ e)))
 
--- src/lib.rt:64:5
 loop-holds : tie.Need-loop-holds Inv-loop μ-loop
 loop-holds c = (part-length _ _ _ (c .before .before .before .pre .0) (c .before .before .before .pre .1) ∙ c .if1 .left, c .if1 .left, refl)
 
--- src/lib.rt:65:19
 add-b : tie.Need-add-b Inv-loop μ-loop
 add-b c = let p = c .before .before .before .before .before .pre in let q = c .before .loop .inv .1 in omega arith
 
--- src/lib.rt:65:17
 shared-slice-read-b : tie.Need-shared-slice-read-b Inv-loop μ-loop
 shared-slice-read-b c = let p = c .before .before .before .before .before .before .pre in let q = c .before .before .loop .inv .1 in omega arith
 
--- src/lib.rt:66:13
 small-requires : tie.Need-small-requires Inv-loop μ-loop
 small-requires c κs = search needs
 
--- src/lib.rt:67:17
 shared-slice-read-if2 : tie.Need-shared-slice-read-if2 Inv-loop μ-loop
 shared-slice-read-if2 c = omega arith
 
--- src/lib.rt:68:13
 returns-2 : tie.Need-returns-2 Inv-loop μ-loop
 returns-2 c = sym (letters-off _ _ _ (c .before .before .before .before .before .loop .inv .0) (c .before .before .before .before .loop-test .taken) (c .before .before .before .before .before .loop .inv .2) (λ e. c .if2 .taken (c .before .before .small .ensures ∙ ap lower (sym (part-at _ _ _ (c .before .before .before .before .before .before .before .before .before .pre .0) (c .before .before .before .before .before .before .before .before .before .pre .1) (c .before .before .before .before .before .loop .i) (let q = c .before .before .before .before .before .loop .inv .1 in let h = c .before .before .before .before .loop-test .taken in omega arith))) ∙ e)))
 
--- src/lib.rt:70:9
 add-i : tie.Need-add-i Inv-loop μ-loop
 add-i c = omega arith
 
--- src/lib.rt:64:5
 loop-less : tie.Need-loop-less Inv-loop μ-loop
 loop-less c = omega arith
 
--- src/lib.rt:64:5
 loop-again : tie.Need-loop-again Inv-loop μ-loop
 loop-again c = (c .before .before .before .before .before .loop .inv .0, c .before .before .before .before .before .loop .inv .1, letters-on _ _ _ (c .before .before .before .before .before .loop .inv .0) (c .before .before .before .before .loop-test .taken) (c .before .before .before .before .before .loop .inv .2) (ap lower (part-at _ _ _ (c .before .before .before .before .before .before .before .before .before .pre .0) (c .before .before .before .before .before .before .before .before .before .pre .1) (c .before .before .before .before .before .loop .i) (let q = c .before .before .before .before .before .loop .inv .1 in let h = c .before .before .before .before .loop-test .taken in omega arith)) ∙ sym (c .before .before .small .ensures) ∙ c .if2 .left))
 
--- src/lib.rt:56:1
 returns-3 : tie.Need-returns-3 Inv-loop μ-loop
 returns-3 c = sym (letters-out _ _ _ (c .before .loop .inv .0) (c .loop-test .left) (c .before .loop .inv .2))
 

@@ -6,20 +6,16 @@ use borrow.Author.Needs.{needs}
 use Rattle.names.proofs.small.Statement.{statement}
 use Rattle.names.proofs.small.Tie as tie
 
--- src/lib.rt:15:8
 is-between-requires : tie.Need-is-between-requires
 is-between-requires c κs = search needs
 
--- src/lib.rt:16:9
 add-result : tie.Need-add-result
 add-result c = omega (arith, capital-low (c .before .before .args .b) (sym (c .before .is-between .ensures) ∙ c .if1 .taken))
 
--- src/lib.rt:12:1
 returns : tie.Need-returns
 unfolding lower
 returns c = rw (sym (c .before .is-between .ensures) ∙ c .if1 .taken)
 
--- src/lib.rt:12:1
 returns-2 : tie.Need-returns-2
 unfolding lower
 returns-2 c = rw (sym (c .before .is-between .ensures) ∙ c .if1 .left)

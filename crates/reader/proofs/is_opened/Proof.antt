@@ -12,39 +12,30 @@ Inv-loop s w i₀ i = (7 ≤ length s) × Still s i
 abbrev μ-loop : tie.MeasureT-loop
 μ-loop s w i₀ i = 7 - i
 
--- src/lib.rt:74:9
 returns : tie.Need-returns Inv-loop μ-loop
 returns c = too-short (c .before .before .args .s .now) (c .if1 .taken)
 
--- src/lib.rt:77:5
 loop-holds : tie.Need-loop-holds Inv-loop μ-loop
 loop-holds c = (c .if1 .left, refl)
 
--- src/lib.rt:78:12
 shared-slice-read-if2 : tie.Need-shared-slice-read-if2 Inv-loop μ-loop
 shared-slice-read-if2 c = let h = c .before .loop-test .taken in let g = c .before .before .loop .inv .0 in omega arith
 
--- src/lib.rt:78:20
 element-copy-out-if2 : tie.Need-element-copy-out-if2 Inv-loop μ-loop
 element-copy-out-if2 c = c .before .loop-test .taken
 
--- src/lib.rt:79:13
 returns-2 : tie.Need-returns-2 Inv-loop μ-loop
 returns-2 c = letters-off (c .before .before .before .before .before .before .before .args .s .now) _ (c .before .before .before .before .loop .inv .0) (c .before .before .before .loop-test .taken) (c .before .before .before .before .loop .inv .1) (c .if2 .taken)
 
--- src/lib.rt:81:9
 add-i : tie.Need-add-i Inv-loop μ-loop
 add-i c = omega arith
 
--- src/lib.rt:77:5
 loop-less : tie.Need-loop-less Inv-loop μ-loop
 loop-less c = omega arith
 
--- src/lib.rt:77:5
 loop-again : tie.Need-loop-again Inv-loop μ-loop
 loop-again c = (c .before .before .before .before .loop .inv .0, letters-on (c .before .before .before .before .before .before .before .args .s .now) _ (c .before .before .before .before .loop .inv .0) (c .before .before .before .loop-test .taken) (c .before .before .before .before .loop .inv .1) (c .if2 .left))
 
--- src/lib.rt:69:1
 returns-3 : tie.Need-returns-3 Inv-loop μ-loop
 returns-3 c = letters-out (c .before .before .before .before .args .s .now) _ (c .before .loop .inv .0) (c .loop-test .left) (c .before .loop .inv .1)
 

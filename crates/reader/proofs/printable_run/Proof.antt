@@ -16,37 +16,29 @@ Inv-loop s i₀ i = Run printable s 0 i
 abbrev μ-loop : tie.MeasureT-loop
 μ-loop s i₀ i = length s - i
 
--- src/lib.rt:58:5
 loop-holds : tie.Need-loop-holds Inv-loop μ-loop
 loop-holds c = refl
 
--- src/lib.rt:59:17
 shared-slice-read-b : tie.Need-shared-slice-read-b Inv-loop μ-loop
 shared-slice-read-b c = omega arith
 
--- src/lib.rt:60:13
 is-between-requires : tie.Need-is-between-requires Inv-loop μ-loop
 is-between-requires c κs = search needs
 
--- src/lib.rt:61:13
 returns : tie.Need-returns Inv-loop μ-loop
 unfolding printable
 returns c = run-halt _ _ 0 _ (c .before .before .before .before .loop .inv) (c .before .before .before .loop-test .taken) (sym (c .before .is-between .ensures) ∙ not-true _ (c .if1 .taken)) ∙ zero-add _
 
--- src/lib.rt:63:9
 add-i : tie.Need-add-i Inv-loop μ-loop
 add-i c = omega arith
 
--- src/lib.rt:58:5
 loop-less : tie.Need-loop-less Inv-loop μ-loop
 loop-less c = omega arith
 
--- src/lib.rt:58:5
 loop-again : tie.Need-loop-again Inv-loop μ-loop
 unfolding printable
 loop-again c = run-on _ _ 0 _ (c .before .before .before .before .loop .inv) (c .before .before .before .loop-test .taken) (sym (c .before .is-between .ensures) ∙ not-false _ (c .if1 .left))
 
--- src/lib.rt:54:1
 returns-2 : tie.Need-returns-2 Inv-loop μ-loop
 returns-2 c = run-out _ _ 0 _ (c .before .loop .inv) (c .loop-test .left) ∙ zero-add _
 

@@ -9,51 +9,39 @@ use borrow.Author.Needs.{needs}
 use Rattle.reader.proofs.read.Statement.{statement}
 use Rattle.reader.proofs.read.Tie as tie
 
--- src/lib.rt:92:9
 refused-requires : tie.Need-refused-requires
 refused-requires c κs = search needs
 
--- src/lib.rt:92:9
 returns : tie.Need-returns
 returns c = c .refused .ensures ∙ sym (read-empty (c .before .before .before .args .s .now) (c .before .if1 .taken))
 
--- src/lib.rt:95:9
 refused-requires-2 : tie.Need-refused-requires-2
 refused-requires-2 c κs = search needs
 
--- src/lib.rt:95:9
 returns-2 : tie.Need-returns-2
 returns-2 c = c .refused2 .ensures ∙ sym (read-long (c .before .before .before .before .args .s .now) (c .before .if2 .taken))
 
--- src/lib.rt:97:9
 printable-run-requires : tie.Need-printable-run-requires
 printable-run-requires c κs = search needs
 
--- src/lib.rt:99:9
 refused-requires-3 : tie.Need-refused-requires-3
 refused-requires-3 c κs = search needs
 
--- src/lib.rt:99:9
 returns-3 : tie.Need-returns-3
 returns-3 c = c .refused3 .ensures ∙ ap (λ (n : ℕ). refusedReading 1024 TextByte n) (c .before .before .printable-run .ensures) ∙ sym (read-byte (c .before .before .before .before .before .before .args .s .now) (c .before .before .before .before .if1 .left) (c .before .before .before .if2 .left) (let e = c .before .before .printable-run .ensures in let h = c .before .if3 .taken in omega (arith, e, h)))
 
--- src/lib.rt:101:9
 is-opened-requires : tie.Need-is-opened-requires
 is-opened-requires c κs = search needs
 
--- src/lib.rt:102:9
 refused-requires-4 : tie.Need-refused-requires-4
 refused-requires-4 c κs = search needs
 
--- src/lib.rt:102:9
 returns-4 : tie.Need-returns-4
 returns-4 c = c .refused4 .ensures ∙ sym (read-unopened (c .before .before .before .before .before .before .before .before .args .s .now) (c .before .before .before .before .before .before .if1 .left) (c .before .before .before .before .before .if2 .left) (let e = c .before .before .before .before .printable-run .ensures in let h = c .before .before .before .if3 .left in omega (arith, e, h)) (sym (c .before .before .is-opened .ensures) ∙ not-true _ (c .before .if4 .taken)))
 
--- src/lib.rt:104:5
 read-options-requires : tie.Need-read-options-requires
 read-options-requires c κs = (opened-long (c .before .before .before .before .before .before .before .args .s .now) (sym (c .before .is-opened .ensures) ∙ not-false _ (c .if4 .left)), c .before .before .before .before .if2 .left)
 
--- src/lib.rt:87:1
 returns-5 : tie.Need-returns-5
 returns-5 c = c .read-options .ensures ∙ sym (read-opened (c .before .before .before .before .before .before .before .before .args .s .now) (c .before .before .before .before .before .before .if1 .left) (c .before .before .before .before .before .if2 .left) (let e = c .before .before .before .before .printable-run .ensures in let h = c .before .before .before .if3 .left in omega (arith, e, h)) (sym (c .before .before .is-opened .ensures) ∙ not-false _ (c .before .if4 .left)))
 

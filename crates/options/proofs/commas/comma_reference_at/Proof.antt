@@ -5,23 +5,18 @@ use borrow.Author.Needs.{needs}
 use Rattle.options.proofs.commas.comma_reference_at.Statement.{statement}
 use Rattle.options.proofs.commas.comma_reference_at.Tie as tie
 
--- src/commas.rt:79:8
 stands-requires : tie.Need-stands-requires
 stands-requires c κs = search needs
 
--- src/commas.rt:80:32
 add-reference-at : tie.Need-add-reference-at
 add-reference-at c = omega (arith, behind-in 44 (c .before .before .before .args .s .now) (c .before .before .before .args .at) (sym (c .before .stands .ensures) ∙ c .if1 .taken))
 
--- src/commas.rt:80:9
 reference-at-requires : tie.Need-reference-at-requires
 reference-at-requires c κs = behind-in 44 _ _ (sym (c .before .stands .ensures) ∙ c .if1 .taken)
 
--- src/commas.rt:80:9
 returns : tie.Need-returns
 returns c = led 44 _ _ _ (sym (c .before .before .stands .ensures) ∙ c .before .if1 .taken) (c .reference-at .ensures)
 
--- src/commas.rt:75:1
 returns-2 : tie.Need-returns-2
 returns-2 c = not-led 44 _ _ _ (c .before .before .before .pre) (sym (c .before .stands .ensures) ∙ c .if1 .left)
 

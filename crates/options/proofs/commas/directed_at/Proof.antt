@@ -5,35 +5,27 @@ use borrow.Author.Needs.{needs}
 use Rattle.options.proofs.commas.directed_at.Statement.{statement}
 use Rattle.options.proofs.commas.directed_at.Tie as tie
 
--- src/commas.rt:93:8
 stands-requires : tie.Need-stands-requires
 stands-requires c κs = search needs
 
--- src/commas.rt:94:33
 add-reference-at : tie.Need-add-reference-at
 add-reference-at c = search needs
 
--- src/commas.rt:94:13
 reference-at-requires : tie.Need-reference-at-requires
 reference-at-requires c κs = behind-in 44 _ _ (sym (c .before .stands .ensures) ∙ c .if1 .taken)
 
--- src/commas.rt:96:13
 place-requires : tie.Need-place-requires
 place-requires c κs = search needs
 
--- src/commas.rt:97:13
 reverse-at-requires : tie.Need-reverse-at-requires
 reverse-at-requires c κs = search needs
 
--- src/commas.rt:103:21
 join-requires : tie.Need-join-requires
 join-requires c κs = search needs
 
--- src/commas.rt:100:9
 returns : tie.Need-returns
 returns c = led 44 _ _ _ (sym (c .before .before .before .before .before .stands .ensures) ∙ c .before .before .before .before .if1 .taken) (pair-reads (behind-in 44 _ _ (sym (c .before .before .before .before .before .stands .ensures) ∙ c .before .before .before .before .if1 .taken)) (c .before .before .before .reference-at .ensures) (joined-reads (c .before .before .before .reference-at .ensures) (c .before .before .place .ensures) (c .join .ensures) (c .before .reverse-at .ensures)))
 
--- src/commas.rt:89:1
 returns-2 : tie.Need-returns-2
 returns-2 c = not-led 44 _ _ _ (c .before .before .before .pre) (sym (c .before .stands .ensures) ∙ c .if1 .left)
 

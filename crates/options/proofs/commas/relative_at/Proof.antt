@@ -8,27 +8,21 @@ use borrow.Author.Needs.{needs}
 use Rattle.options.proofs.commas.relative_at.Statement.{statement}
 use Rattle.options.proofs.commas.relative_at.Tie as tie
 
--- src/commas.rt:45:8
 stands-requires : tie.Need-stands-requires
 stands-requires c κs = search needs
 
--- src/commas.rt:48:32
 add-word-at : tie.Need-add-word-at
 add-word-at c = omega (arith, behind-in 44 (c .before .before .before .args .s .now) (c .before .before .before .args .at) (sym (c .before .stands .ensures) ∙ c .if1 .taken))
 
--- src/commas.rt:48:40
 slice-aggregate-word-at : tie.Need-slice-aggregate-word-at
 slice-aggregate-word-at c = search needs
 
--- src/commas.rt:48:21
 word-at-requires : tie.Need-word-at-requires
 word-at-requires c κs = behind-in 44 _ _ (sym (c .before .before .stands .ensures) ∙ c .before .if1 .taken)
 
--- src/commas.rt:46:9
 returns : tie.Need-returns
 returns c = led 44 _ _ _ (sym (c .before .before .before .stands .ensures) ∙ c .before .before .if1 .taken) (says-reads (text "relative") true (c .word-at .ensures))
 
--- src/commas.rt:41:1
 returns-2 : tie.Need-returns-2
 returns-2 c = not-led 44 _ _ _ (c .before .before .before .pre) (sym (c .before .stands .ensures) ∙ c .if1 .left)
 

@@ -5,23 +5,18 @@ use borrow.Author.Needs.{needs}
 use Rattle.options.proofs.commas.size_field_at.Statement.{statement}
 use Rattle.options.proofs.commas.size_field_at.Tie as tie
 
--- src/commas.rt:31:8
 stands-requires : tie.Need-stands-requires
 stands-requires c κs = search needs
 
--- src/commas.rt:32:32
 add-size-word-at : tie.Need-add-size-word-at
 add-size-word-at c = omega (arith, behind-in 44 (c .before .before .before .args .s .now) (c .before .before .before .args .at) (sym (c .before .stands .ensures) ∙ c .if1 .taken))
 
--- src/commas.rt:32:9
 size-word-at-requires : tie.Need-size-word-at-requires
 size-word-at-requires c κs = behind-in 44 _ _ (sym (c .before .stands .ensures) ∙ c .if1 .taken)
 
--- src/commas.rt:32:9
 returns : tie.Need-returns
 returns c = led 44 _ _ _ (sym (c .before .before .stands .ensures) ∙ c .before .if1 .taken) (c .size-word-at .ensures)
 
--- src/commas.rt:27:1
 returns-2 : tie.Need-returns-2
 returns-2 c = not-led 44 _ _ _ (c .before .before .before .pre) (sym (c .before .stands .ensures) ∙ c .if1 .left)
 

@@ -5,39 +5,30 @@ use borrow.Author.Needs.{needs}
 use Rattle.options.proofs.heads.protocol_option.Statement.{statement}
 use Rattle.options.proofs.heads.protocol_option.Tie as tie
 
--- src/heads.rt:22:9
 gap-at-requires : tie.Need-gap-at-requires
 gap-at-requires c κs = search needs
 
--- src/heads.rt:23:9
 place-requires : tie.Need-place-requires
 place-requires c κs = search needs
 
--- src/heads.rt:24:9
 protocol-at-requires : tie.Need-protocol-at-requires
 protocol-at-requires c κs = inside-at (c .place .ensures) (c .before .gap-at .ensures .1)
 
--- src/heads.rt:26:9
 join-requires : tie.Need-join-requires
 join-requires c κs = search needs
 
--- src/heads.rt:27:9
 place-requires-2 : tie.Need-place-requires-2
 place-requires-2 c κs = search needs
 
--- src/heads.rt:28:9
 closing-at-requires : tie.Need-closing-at-requires
 closing-at-requires c κs = inside-at (c .place2 .ensures) (joined-reads (c .before .before .before .before .gap-at .ensures .1) (c .before .before .before .place .ensures) (c .before .join .ensures) (c .before .before .protocol-at .ensures .0))
 
--- src/heads.rt:29:9
 join-requires-2 : tie.Need-join-requires-2
 join-requires-2 c κs = search needs
 
--- src/heads.rt:31:32
 cast-t11 : tie.Need-cast-t11
 cast-t11 c = search needs
 
--- src/heads.rt:18:1
 returns : tie.Need-returns
 unfolding entryOf
 returns c = (valued-reads (c .before .before .before .before .before .before .before .before .before .pre) (c .before .before .before .before .before .before .before .gap-at .ensures) (made-reads _ (joined-reads (c .before .before .before .before .before .before .before .gap-at .ensures .1) (c .before .before .before .before .before .before .place .ensures) (c .before .before .before .before .join .ensures) (c .before .before .before .before .before .protocol-at .ensures .0))) (c .before .before .before .place2 .ensures) (c .before .before .closing-at .ensures) (c .before .join2 .ensures), tt)

@@ -5,35 +5,27 @@ use borrow.Author.Needs.{needs}
 use Rattle.options.proofs.modifiers.context_option.Statement.{statement}
 use Rattle.options.proofs.modifiers.context_option.Tie as tie
 
--- src/modifiers.rt:28:9
 gap-at-requires : tie.Need-gap-at-requires
 gap-at-requires c κs = search needs
 
--- src/modifiers.rt:29:9
 place-requires : tie.Need-place-requires
 place-requires c κs = search needs
 
--- src/modifiers.rt:30:9
 context-at-requires : tie.Need-context-at-requires
 context-at-requires c κs = inside-at (c .place .ensures) (c .before .gap-at .ensures .1)
 
--- src/modifiers.rt:32:9
 join-requires : tie.Need-join-requires
 join-requires c κs = search needs
 
--- src/modifiers.rt:33:9
 place-requires-2 : tie.Need-place-requires-2
 place-requires-2 c κs = search needs
 
--- src/modifiers.rt:34:9
 closing-at-requires : tie.Need-closing-at-requires
 closing-at-requires c κs = inside-at (c .place2 .ensures) (joined-reads (c .before .before .before .before .gap-at .ensures .1) (c .before .before .before .place .ensures) (c .before .join .ensures) (c .before .before .context-at .ensures))
 
--- src/modifiers.rt:35:9
 join-requires-2 : tie.Need-join-requires-2
 join-requires-2 c κs = search needs
 
--- src/modifiers.rt:24:1
 returns : tie.Need-returns
 unfolding entryOf
 returns c = (valued-reads (c .before .before .before .before .before .before .before .before .pre) (c .before .before .before .before .before .before .gap-at .ensures) (made-reads _ (joined-reads (c .before .before .before .before .before .before .gap-at .ensures .1) (c .before .before .before .before .before .place .ensures) (c .before .before .before .join .ensures) (c .before .before .before .before .context-at .ensures))) (c .before .before .place2 .ensures) (c .before .closing-at .ensures) (c .join2 .ensures), tt)

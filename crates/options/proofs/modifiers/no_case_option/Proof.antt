@@ -4,11 +4,9 @@ use borrow.Author.Needs.{needs}
 use Rattle.options.proofs.modifiers.no_case_option.Statement.{statement}
 use Rattle.options.proofs.modifiers.no_case_option.Tie as tie
 
--- src/modifiers.rt:49:17
 closing-at-requires : tie.Need-closing-at-requires
 closing-at-requires c κs = search needs
 
--- src/modifiers.rt:43:1
 returns : tie.Need-returns
 unfolding entryOf
 returns c = (bare-reads _ (c .before .before .pre) (c .closing-at .ensures), tt)

@@ -3,19 +3,15 @@ use borrow.Author.Needs.{needs}
 use Rattle.options.proofs.modifiers.signed_of.Statement.{statement}
 use Rattle.options.proofs.modifiers.signed_of.Tie as tie
 
--- src/modifiers.rt:58:13
 cast-v : tie.Need-cast-v
 cast-v c = search needs
 
--- src/modifiers.rt:60:9
 sub-result : tie.Need-sub-result
 sub-result c = minus-fits _ (c .before .pre)
 
--- src/modifiers.rt:54:1
 returns : tie.Need-returns
 returns c = rw (c .if1 .taken) (minus-reads _ (c .before .pre))
 
--- src/modifiers.rt:54:1
 returns-2 : tie.Need-returns-2
 returns-2 c = rw (c .if1 .left) (plain-is _ (c .before .pre))
 

@@ -7,71 +7,54 @@ use borrow.Author.Needs.{needs}
 use Rattle.options.proofs.operators.comparison_at.Statement.{statement}
 use Rattle.options.proofs.operators.comparison_at.Tie as tie
 
--- src/operators.rt:89:8
 stands-requires : tie.Need-stands-requires
 stands-requires c κs = search needs
 
--- src/operators.rt:92:35
 add-t5 : tie.Need-add-t5
 add-t5 c = omega (arith, behind-in 61 (c .before .before .before .args .s .now) (c .before .before .before .args .at) (sym (c .before .stands .ensures) ∙ c .if1 .taken))
 
--- src/operators.rt:90:9
 returns : tie.Need-returns
 returns c = is-equal _ _ (sym (c .before .stands .ensures) ∙ c .if1 .taken)
 
--- src/operators.rt:95:8
 stands-requires-2 : tie.Need-stands-requires-2
 stands-requires-2 c κs = search needs
 
--- src/operators.rt:98:32
 add-sign-at : tie.Need-add-sign-at
 add-sign-at c = omega (arith, behind-in 33 (c .before .before .before .before .before .args .s .now) (c .before .before .before .before .before .args .at) (sym (c .before .stands2 .ensures) ∙ c .if2 .taken))
 
--- src/operators.rt:98:21
 sign-at-requires : tie.Need-sign-at-requires
 sign-at-requires c κs = behind-in 33 _ _ (sym (c .before .stands2 .ensures) ∙ c .if2 .taken)
 
--- src/operators.rt:96:9
 returns-2 : tie.Need-returns-2
 returns-2 c = is-unequal _ _ (sym (c .before .before .before .before .stands .ensures) ∙ c .before .before .before .if1 .left) (sym (c .before .before .stands2 .ensures) ∙ c .before .if2 .taken) (c .sign-at .ensures)
 
--- src/operators.rt:101:8
 stands-requires-3 : tie.Need-stands-requires-3
 stands-requires-3 c κs = search needs
 
--- src/operators.rt:102:22
 add-stands : tie.Need-add-stands
 add-stands c = omega (arith, behind-in 60 (c .before .before .before .before .before .before .before .args .s .now) (c .before .before .before .before .before .before .before .args .at) (sym (c .before .stands3 .ensures) ∙ c .if3 .taken))
 
--- src/operators.rt:102:12
 stands-requires-4 : tie.Need-stands-requires-4
 stands-requires-4 c κs = search needs
 
--- src/operators.rt:105:39
 add-t15 : tie.Need-add-t15
 add-t15 c = omega (arith, behind-in 60 (c .before .before .before .before .before .before .before .before .before .args .s .now) (c .before .before .before .before .before .before .before .before .before .args .at) (sym (c .before .before .before .stands3 .ensures) ∙ c .before .before .if3 .taken))
 
--- src/operators.rt:105:39
 add-t16 : tie.Need-add-t16
 add-t16 c = omega (arith, behind-in 61 (c .before .before .before .before .before .before .before .before .before .args .s .now) (c .before .before .before .before .before .before .before .before .before .args .at + 1) (sym (c .before .stands4 .ensures) ∙ c .if4 .taken))
 
--- src/operators.rt:103:13
 returns-3 : tie.Need-returns-3
 returns-3 c = is-at-most _ _ (sym (c .before .before .before .before .before .before .before .stands .ensures) ∙ c .before .before .before .before .before .before .if1 .left) (sym (c .before .before .before .before .before .stands2 .ensures) ∙ c .before .before .before .before .if2 .left) (sym (c .before .before .before .stands3 .ensures) ∙ c .before .before .if3 .taken) (sym (c .before .stands4 .ensures) ∙ c .if4 .taken)
 
--- src/operators.rt:110:35
 add-t13 : tie.Need-add-t13
 add-t13 c = omega (arith, behind-in 60 (c .before .before .before .before .before .before .before .before .before .args .s .now) (c .before .before .before .before .before .before .before .before .before .args .at) (sym (c .before .before .before .stands3 .ensures) ∙ c .before .before .if3 .taken))
 
--- src/operators.rt:108:9
 returns-4 : tie.Need-returns-4
 returns-4 c = is-less _ _ (sym (c .before .before .before .before .before .before .before .stands .ensures) ∙ c .before .before .before .before .before .before .if1 .left) (sym (c .before .before .before .before .before .stands2 .ensures) ∙ c .before .before .before .before .if2 .left) (sym (c .before .before .before .stands3 .ensures) ∙ c .before .before .if3 .taken) (sym (c .before .stands4 .ensures) ∙ c .if4 .left)
 
--- src/operators.rt:113:5
 greater-at-requires : tie.Need-greater-at-requires
 greater-at-requires c κs = search needs
 
--- src/operators.rt:85:1
 returns-5 : tie.Need-returns-5
 returns-5 c = is-greater _ _ (sym (c .before .before .before .before .before .before .stands .ensures) ∙ c .before .before .before .before .before .if1 .left) (sym (c .before .before .before .before .stands2 .ensures) ∙ c .before .before .before .if2 .left) (sym (c .before .before .stands3 .ensures) ∙ c .before .if3 .left) (c .greater-at .ensures)
 

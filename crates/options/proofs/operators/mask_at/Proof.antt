@@ -6,39 +6,30 @@ use borrow.Author.Needs.{needs}
 use Rattle.options.proofs.operators.mask_at.Statement.{statement}
 use Rattle.options.proofs.operators.mask_at.Tie as tie
 
--- src/operators.rt:140:8
 stands-requires : tie.Need-stands-requires
 stands-requires c κs = search needs
 
--- src/operators.rt:141:33
 add-spaces-at : tie.Need-add-spaces-at
 add-spaces-at c = omega (arith, behind-in 38 (c .before .before .before .args .s .now) (c .before .before .before .args .at) (sym (c .before .stands .ensures) ∙ c .if1 .taken))
 
--- src/operators.rt:141:13
 spaces-at-requires : tie.Need-spaces-at-requires
 spaces-at-requires c κs = behind-in 38 _ _ (sym (c .before .stands .ensures) ∙ c .if1 .taken)
 
--- src/operators.rt:142:13
 numeral-at-requires : tie.Need-numeral-at-requires
 numeral-at-requires c κs = (c .spaces-at .ensures .1 .inside, c .before .before .before .before .pre .1)
 
--- src/operators.rt:144:13
 place-requires : tie.Need-place-requires
 place-requires c κs = search needs
 
--- src/operators.rt:145:13
 spaces-at-requires-2 : tie.Need-spaces-at-requires-2
 spaces-at-requires-2 c κs = inside-at (c .place .ensures) (c .before .numeral-at .ensures .0)
 
--- src/operators.rt:148:21
 join-requires : tie.Need-join-requires
 join-requires c κs = search needs
 
--- src/operators.rt:146:9
 returns : tie.Need-returns
 returns c = (led 38 _ _ _ (sym (c .before .before .before .before .before .before .stands .ensures) ∙ c .before .before .before .before .before .if1 .taken) (skip-reads (behind-in 38 _ _ (sym (c .before .before .before .before .before .before .stands .ensures) ∙ c .before .before .before .before .before .if1 .taken)) (c .before .before .before .before .spaces-at .ensures .1) (before-reads (c .before .before .before .before .spaces-at .ensures .1 .inside) (c .before .before .before .numeral-at .ensures .0) (joined-reads (c .before .before .before .numeral-at .ensures .0) (c .before .before .place .ensures) (c .join .ensures) (c .before .spaces-at2 .ensures .1)))), c .before .before .before .numeral-at .ensures .1)
 
--- src/operators.rt:136:1
 returns-2 : tie.Need-returns-2
 returns-2 c = (not-led 38 _ _ _ (c .before .before .before .pre .0) (sym (c .before .stands .ensures) ∙ c .if1 .left), omega arith)
 

@@ -6,31 +6,24 @@ use borrow.Author.Needs.{needs}
 use Rattle.options.proofs.operators.order_at.Statement.{statement}
 use Rattle.options.proofs.operators.order_at.Tie as tie
 
--- src/operators.rt:37:8
 stands-requires : tie.Need-stands-requires
 stands-requires c κs = search needs
 
--- src/operators.rt:40:35
 add-t5 : tie.Need-add-t5
 add-t5 c = omega (arith, behind-in 60 (c .before .before .before .args .s .now) (c .before .before .before .args .at) (sym (c .before .stands .ensures) ∙ c .if1 .taken))
 
--- src/operators.rt:38:9
 returns : tie.Need-returns
 returns c = less-order _ _ (sym (c .before .stands .ensures) ∙ c .if1 .taken)
 
--- src/operators.rt:43:8
 stands-requires-2 : tie.Need-stands-requires-2
 stands-requires-2 c κs = search needs
 
--- src/operators.rt:46:35
 add-t9 : tie.Need-add-t9
 add-t9 c = omega (arith, behind-in 62 (c .before .before .before .before .before .args .s .now) (c .before .before .before .before .before .args .at) (sym (c .before .stands2 .ensures) ∙ c .if2 .taken))
 
--- src/operators.rt:44:9
 returns-2 : tie.Need-returns-2
 returns-2 c = greater-order _ _ (sym (c .before .before .before .stands .ensures) ∙ c .before .before .if1 .left) (sym (c .before .stands2 .ensures) ∙ c .if2 .taken)
 
--- src/operators.rt:33:1
 returns-3 : tie.Need-returns-3
 returns-3 c = equal-order _ _ (c .before .before .before .before .before .pre) (sym (c .before .before .before .stands .ensures) ∙ c .before .before .if1 .left) (sym (c .before .stands2 .ensures) ∙ c .if2 .left)
 

@@ -6,51 +6,39 @@ use borrow.Author.Needs.{needs}
 use Rattle.options.proofs.tests.at_option.Statement.{statement}
 use Rattle.options.proofs.tests.at_option.Tie as tie
 
--- src/tests.rt:164:9
 gap-at-requires : tie.Need-gap-at-requires
 gap-at-requires c κs = search needs
 
--- src/tests.rt:165:9
 place-requires : tie.Need-place-requires
 place-requires c κs = search needs
 
--- src/tests.rt:166:9
 number-at-requires : tie.Need-number-at-requires
 number-at-requires c κs = (inside-at (c .place .ensures) (c .before .gap-at .ensures .1), omega arith)
 
--- src/tests.rt:168:9
 join-requires : tie.Need-join-requires
 join-requires c κs = search needs
 
--- src/tests.rt:169:9
 place-requires-2 : tie.Need-place-requires-2
 place-requires-2 c κs = search needs
 
--- src/tests.rt:170:9
 relative-at-requires : tie.Need-relative-at-requires
 relative-at-requires c κs = inside-at (c .place2 .ensures) (joined-reads (c .before .before .before .before .gap-at .ensures .1) (c .before .before .before .place .ensures) (c .before .join .ensures) (c .before .before .number-at .ensures .0))
 
--- src/tests.rt:172:9
 join-requires-2 : tie.Need-join-requires-2
 join-requires-2 c κs = search needs
 
--- src/tests.rt:173:9
 place-requires-3 : tie.Need-place-requires-3
 place-requires-3 c κs = search needs
 
--- src/tests.rt:174:9
 closing-at-requires : tie.Need-closing-at-requires
 closing-at-requires c κs = inside-at (c .place3 .ensures) (joined-reads (joined-reads (c .before .before .before .before .before .before .before .gap-at .ensures .1) (c .before .before .before .before .before .before .place .ensures) (c .before .before .before .before .join .ensures) (c .before .before .before .before .before .number-at .ensures .0)) (c .before .before .before .place2 .ensures) (c .before .join2 .ensures) (c .before .before .relative-at .ensures))
 
--- src/tests.rt:175:9
 join-requires-3 : tie.Need-join-requires-3
 join-requires-3 c κs = search needs
 
--- src/tests.rt:176:18
 cast-number : tie.Need-cast-number
 cast-number c = search needs
 
--- src/tests.rt:160:1
 returns : tie.Need-returns
 unfolding entryOf
 returns c = (valued-reads (c .before .before .before .before .before .before .before .before .before .before .before .before .pre) (c .before .before .before .before .before .before .before .before .before .before .gap-at .ensures) (made-reads _ (pair-reads ((c .before .before .before .before .before .before .before .before .before .before .gap-at .ensures .1) .inside) (joined-reads (c .before .before .before .before .before .before .before .before .before .before .gap-at .ensures .1) (c .before .before .before .before .before .before .before .before .before .place .ensures) (c .before .before .before .before .before .before .before .join .ensures) (c .before .before .before .before .before .before .before .before .number-at .ensures .0)) (joined-reads (joined-reads (c .before .before .before .before .before .before .before .before .before .before .gap-at .ensures .1) (c .before .before .before .before .before .before .before .before .before .place .ensures) (c .before .before .before .before .before .before .before .join .ensures) (c .before .before .before .before .before .before .before .before .number-at .ensures .0)) (c .before .before .before .before .before .before .place2 .ensures) (c .before .before .before .before .join2 .ensures) (c .before .before .before .before .before .relative-at .ensures)))) (c .before .before .before .place3 .ensures) (c .before .before .closing-at .ensures) (c .before .join3 .ensures), tt)

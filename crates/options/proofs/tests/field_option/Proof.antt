@@ -6,79 +6,60 @@ use borrow.Author.Needs.{needs}
 use Rattle.options.proofs.tests.field_option.Statement.{statement}
 use Rattle.options.proofs.tests.field_option.Tie as tie
 
--- src/tests.rt:94:9
 gap-at-requires : tie.Need-gap-at-requires
 gap-at-requires c κs = search needs
 
--- src/tests.rt:95:9
 place-requires : tie.Need-place-requires
 place-requires c κs = search needs
 
--- src/tests.rt:96:9
 mask-at-requires : tie.Need-mask-at-requires
 mask-at-requires c κs = (inside-at (c .place .ensures) (c .before .gap-at .ensures .1), let l = c .before .before .before .pre .1 in omega arith)
 
--- src/tests.rt:98:9
 join-requires : tie.Need-join-requires
 join-requires c κs = search needs
 
--- src/tests.rt:99:9
 place-requires-2 : tie.Need-place-requires-2
 place-requires-2 c κs = search needs
 
--- src/tests.rt:100:9
 comparison-at-requires : tie.Need-comparison-at-requires
 comparison-at-requires c κs = inside-at (c .place2 .ensures) (joined-reads (c .before .before .before .before .gap-at .ensures .1) (c .before .before .before .place .ensures) (c .before .join .ensures) (c .before .before .mask-at .ensures .0))
 
--- src/tests.rt:102:9
 join-requires-2 : tie.Need-join-requires-2
 join-requires-2 c κs = search needs
 
--- src/tests.rt:103:9
 place-requires-3 : tie.Need-place-requires-3
 place-requires-3 c κs = search needs
 
--- src/tests.rt:104:9
 spaces-at-requires : tie.Need-spaces-at-requires
 spaces-at-requires c κs = inside-at (c .place3 .ensures) (joined-reads (joined-reads (c .before .before .before .before .before .before .before .gap-at .ensures .1) (c .before .before .before .before .before .before .place .ensures) (c .before .before .before .before .join .ensures) (c .before .before .before .before .before .mask-at .ensures .0)) (c .before .before .before .place2 .ensures) (c .before .join2 .ensures) (c .before .before .comparison-at .ensures))
 
--- src/tests.rt:105:9
 join-requires-3 : tie.Need-join-requires-3
 join-requires-3 c κs = search needs
 
--- src/tests.rt:106:9
 place-requires-4 : tie.Need-place-requires-4
 place-requires-4 c κs = search needs
 
--- src/tests.rt:107:9
 numeral-at-requires : tie.Need-numeral-at-requires
 numeral-at-requires c κs = (inside-at (c .place4 .ensures) (joined-reads (joined-reads (joined-reads (c .before .before .before .before .before .before .before .before .before .before .gap-at .ensures .1) (c .before .before .before .before .before .before .before .before .before .place .ensures) (c .before .before .before .before .before .before .before .join .ensures) (c .before .before .before .before .before .before .before .before .mask-at .ensures .0)) (c .before .before .before .before .before .before .place2 .ensures) (c .before .before .before .before .join2 .ensures) (c .before .before .before .before .before .comparison-at .ensures)) (c .before .before .before .place3 .ensures) (c .before .join3 .ensures) (c .before .before .spaces-at .ensures .1)), let l = c .before .before .before .before .before .before .before .before .before .before .before .before .pre .1 in omega arith)
 
--- src/tests.rt:109:9
 join-requires-4 : tie.Need-join-requires-4
 join-requires-4 c κs = search needs
 
--- src/tests.rt:110:9
 place-requires-5 : tie.Need-place-requires-5
 place-requires-5 c κs = search needs
 
--- src/tests.rt:111:9
 closing-at-requires : tie.Need-closing-at-requires
 closing-at-requires c κs = inside-at (c .place5 .ensures) (joined-reads (joined-reads (joined-reads (joined-reads (c .before .before .before .before .before .before .before .before .before .before .before .before .before .gap-at .ensures .1) (c .before .before .before .before .before .before .before .before .before .before .before .before .place .ensures) (c .before .before .before .before .before .before .before .before .before .before .join .ensures) (c .before .before .before .before .before .before .before .before .before .before .before .mask-at .ensures .0)) (c .before .before .before .before .before .before .before .before .before .place2 .ensures) (c .before .before .before .before .before .before .before .join2 .ensures) (c .before .before .before .before .before .before .before .before .comparison-at .ensures)) (c .before .before .before .before .before .before .place3 .ensures) (c .before .before .before .before .join3 .ensures) (c .before .before .before .before .before .spaces-at .ensures .1)) (c .before .before .before .place4 .ensures) (c .before .join4 .ensures) (c .before .before .numeral-at .ensures .0))
 
--- src/tests.rt:112:9
 join-requires-5 : tie.Need-join-requires-5
 join-requires-5 c κs = search needs
 
--- src/tests.rt:113:16
 cast-mask : tie.Need-cast-mask
 cast-mask c = let l = c .before .before .before .before .before .before .before .before .before .before .before .before .before .before .before .before .before .before .pre .1 in omega (arith, c .before .before .before .before .before .before .before .before .before .before .before .before .before .before .mask-at .ensures .1)
 
--- src/tests.rt:115:18
 cast-number : tie.Need-cast-number
 cast-number c = let l = c .before .before .before .before .before .before .before .before .before .before .before .before .before .before .before .before .before .before .before .pre .1 in omega (arith, c .before .before .before .before .before .before .numeral-at .ensures .1)
 
--- src/tests.rt:90:1
 returns : tie.Need-returns
 unfolding entryOf
 returns c = (valued-reads (c .before .before .before .before .before .before .before .before .before .before .before .before .before .before .before .before .before .before .before .pre .0) (c .before .before .before .before .before .before .before .before .before .before .before .before .before .before .before .before .before .gap-at .ensures) (made-reads _ (pair-reads ((c .before .before .before .before .before .before .before .before .before .before .before .before .before .before .before .before .before .gap-at .ensures .1) .inside) (joined-reads (c .before .before .before .before .before .before .before .before .before .before .before .before .before .before .before .before .before .gap-at .ensures .1) (c .before .before .before .before .before .before .before .before .before .before .before .before .before .before .before .before .place .ensures) (c .before .before .before .before .before .before .before .before .before .before .before .before .before .before .join .ensures) (c .before .before .before .before .before .before .before .before .before .before .before .before .before .before .before .mask-at .ensures .0)) (pair-reads ((joined-reads (c .before .before .before .before .before .before .before .before .before .before .before .before .before .before .before .before .before .gap-at .ensures .1) (c .before .before .before .before .before .before .before .before .before .before .before .before .before .before .before .before .place .ensures) (c .before .before .before .before .before .before .before .before .before .before .before .before .before .before .join .ensures) (c .before .before .before .before .before .before .before .before .before .before .before .before .before .before .before .mask-at .ensures .0)) .inside) (before-reads ((joined-reads (c .before .before .before .before .before .before .before .before .before .before .before .before .before .before .before .before .before .gap-at .ensures .1) (c .before .before .before .before .before .before .before .before .before .before .before .before .before .before .before .before .place .ensures) (c .before .before .before .before .before .before .before .before .before .before .before .before .before .before .join .ensures) (c .before .before .before .before .before .before .before .before .before .before .before .before .before .before .before .mask-at .ensures .0)) .inside) (joined-reads (joined-reads (c .before .before .before .before .before .before .before .before .before .before .before .before .before .before .before .before .before .gap-at .ensures .1) (c .before .before .before .before .before .before .before .before .before .before .before .before .before .before .before .before .place .ensures) (c .before .before .before .before .before .before .before .before .before .before .before .before .before .before .join .ensures) (c .before .before .before .before .before .before .before .before .before .before .before .before .before .before .before .mask-at .ensures .0)) (c .before .before .before .before .before .before .before .before .before .before .before .before .before .place2 .ensures) (c .before .before .before .before .before .before .before .before .before .before .before .join2 .ensures) (c .before .before .before .before .before .before .before .before .before .before .before .before .comparison-at .ensures)) (joined-reads (joined-reads (joined-reads (c .before .before .before .before .before .before .before .before .before .before .before .before .before .before .before .before .before .gap-at .ensures .1) (c .before .before .before .before .before .before .before .before .before .before .before .before .before .before .before .before .place .ensures) (c .before .before .before .before .before .before .before .before .before .before .before .before .before .before .join .ensures) (c .before .before .before .before .before .before .before .before .before .before .before .before .before .before .before .mask-at .ensures .0)) (c .before .before .before .before .before .before .before .before .before .before .before .before .before .place2 .ensures) (c .before .before .before .before .before .before .before .before .before .before .before .join2 .ensures) (c .before .before .before .before .before .before .before .before .before .before .before .before .comparison-at .ensures)) (c .before .before .before .before .before .before .before .before .before .before .place3 .ensures) (c .before .before .before .before .before .before .before .before .join3 .ensures) (c .before .before .before .before .before .before .before .before .before .spaces-at .ensures .1))) (joined-reads (joined-reads (joined-reads (joined-reads (c .before .before .before .before .before .before .before .before .before .before .before .before .before .before .before .before .before .gap-at .ensures .1) (c .before .before .before .before .before .before .before .before .before .before .before .before .before .before .before .before .place .ensures) (c .before .before .before .before .before .before .before .before .before .before .before .before .before .before .join .ensures) (c .before .before .before .before .before .before .before .before .before .before .before .before .before .before .before .mask-at .ensures .0)) (c .before .before .before .before .before .before .before .before .before .before .before .before .before .place2 .ensures) (c .before .before .before .before .before .before .before .before .before .before .before .join2 .ensures) (c .before .before .before .before .before .before .before .before .before .before .before .before .comparison-at .ensures)) (c .before .before .before .before .before .before .before .before .before .before .place3 .ensures) (c .before .before .before .before .before .before .before .before .join3 .ensures) (c .before .before .before .before .before .before .before .before .before .spaces-at .ensures .1)) (c .before .before .before .before .before .before .before .place4 .ensures) (c .before .before .before .before .before .join4 .ensures) (c .before .before .before .before .before .before .numeral-at .ensures .0))))) (c .before .before .before .before .place5 .ensures) (c .before .before .before .closing-at .ensures) (c .before .before .join5 .ensures), tt)

@@ -6,39 +6,30 @@ use borrow.Author.Needs.{needs}
 use Rattle.options.proofs.tests.number_option.Statement.{statement}
 use Rattle.options.proofs.tests.number_option.Tie as tie
 
--- src/tests.rt:50:9
 gap-at-requires : tie.Need-gap-at-requires
 gap-at-requires c κs = search needs
 
--- src/tests.rt:51:9
 place-requires : tie.Need-place-requires
 place-requires c κs = search needs
 
--- src/tests.rt:52:9
 number-at-requires : tie.Need-number-at-requires
 number-at-requires c κs = (inside-at (c .place .ensures) (c .before .gap-at .ensures .1), let l = c .before .before .before .pre .1 in omega arith)
 
--- src/tests.rt:54:9
 join-requires : tie.Need-join-requires
 join-requires c κs = search needs
 
--- src/tests.rt:55:9
 place-requires-2 : tie.Need-place-requires-2
 place-requires-2 c κs = search needs
 
--- src/tests.rt:56:9
 closing-at-requires : tie.Need-closing-at-requires
 closing-at-requires c κs = inside-at (c .place2 .ensures) (joined-reads (c .before .before .before .before .gap-at .ensures .1) (c .before .before .before .place .ensures) (c .before .join .ensures) (c .before .before .number-at .ensures .0))
 
--- src/tests.rt:57:9
 join-requires-2 : tie.Need-join-requires-2
 join-requires-2 c κs = search needs
 
--- src/tests.rt:58:18
 cast-number : tie.Need-cast-number
 cast-number c = search needs
 
--- src/tests.rt:46:1
 returns : tie.Need-returns
 unfolding entryOf
 returns c = (valued-reads (c .before .before .before .before .before .before .before .before .before .pre .0) (c .before .before .before .before .before .before .before .gap-at .ensures) (made-reads _ (joined-reads (c .before .before .before .before .before .before .before .gap-at .ensures .1) (c .before .before .before .before .before .before .place .ensures) (c .before .before .before .before .join .ensures) (c .before .before .before .before .before .number-at .ensures .0))) (c .before .before .before .place2 .ensures) (c .before .before .closing-at .ensures) (c .before .join2 .ensures), tt)

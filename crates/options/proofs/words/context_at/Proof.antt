@@ -6,71 +6,54 @@ use borrow.Author.Needs.{needs}
 use Rattle.options.proofs.words.context_at.Statement.{statement}
 use Rattle.options.proofs.words.context_at.Tie as tie
 
--- src/words.rt:180:8
 starts-requires : tie.Need-starts-requires
 starts-requires c κs = search needs
 
--- src/words.rt:183:36
 slice-aggregate-word-at : tie.Need-slice-aggregate-word-at
 slice-aggregate-word-at c = search needs
 
--- src/words.rt:183:21
 word-at-requires : tie.Need-word-at-requires
 word-at-requires c κs = search needs
 
--- src/words.rt:181:9
 returns : tie.Need-returns
 returns c = first-reads (sym (c .before .before .before .starts .ensures) ∙ c .before .before .if1 .taken) (says-reads (text "packet") _ (c .word-at .ensures))
 
--- src/words.rt:186:8
 starts-requires-2 : tie.Need-starts-requires-2
 starts-requires-2 c κs = search needs
 
--- src/words.rt:189:36
 slice-aggregate-word-at-2 : tie.Need-slice-aggregate-word-at-2
 slice-aggregate-word-at-2 c = search needs
 
--- src/words.rt:189:21
 word-at-requires-2 : tie.Need-word-at-requires-2
 word-at-requires-2 c κs = search needs
 
--- src/words.rt:187:9
 returns-2 : tie.Need-returns-2
 returns-2 c = second-reads (sym (c .before .before .before .before .before .starts .ensures) ∙ c .before .before .before .before .if1 .left) (first-reads (sym (c .before .before .before .starts2 .ensures) ∙ c .before .before .if2 .taken) (says-reads (text "uri") _ (c .word-at2 .ensures)))
 
--- src/words.rt:192:8
 starts-requires-3 : tie.Need-starts-requires-3
 starts-requires-3 c κs = search needs
 
--- src/words.rt:193:9
 h-word-at-requires : tie.Need-h-word-at-requires
 h-word-at-requires c κs = search needs
 
--- src/words.rt:193:9
 returns-3 : tie.Need-returns-3
 returns-3 c = second-reads (sym (c .before .before .before .before .before .before .starts .ensures) ∙ c .before .before .before .before .before .if1 .left) (second-reads (sym (c .before .before .before .before .starts2 .ensures) ∙ c .before .before .before .if2 .left) (first-reads (sym (c .before .before .starts3 .ensures) ∙ c .before .if3 .taken) (c .h-word-at .ensures)))
 
--- src/words.rt:195:8
 starts-requires-4 : tie.Need-starts-requires-4
 starts-requires-4 c κs = search needs
 
--- src/words.rt:196:9
 b-word-at-requires : tie.Need-b-word-at-requires
 b-word-at-requires c κs = search needs
 
--- src/words.rt:196:9
 returns-4 : tie.Need-returns-4
 returns-4 c = second-reads (sym (c .before .before .before .before .before .before .before .before .starts .ensures) ∙ c .before .before .before .before .before .before .before .if1 .left) (second-reads (sym (c .before .before .before .before .before .before .starts2 .ensures) ∙ c .before .before .before .before .before .if2 .left) (second-reads (sym (c .before .before .before .before .starts3 .ensures) ∙ c .before .before .before .if3 .left) (first-reads (sym (c .before .before .starts4 .ensures) ∙ c .before .if4 .taken) (c .b-word-at .ensures))))
 
--- src/words.rt:200:32
 slice-aggregate-word-at-3 : tie.Need-slice-aggregate-word-at-3
 slice-aggregate-word-at-3 c = search needs
 
--- src/words.rt:200:17
 word-at-requires-3 : tie.Need-word-at-requires-3
 word-at-requires-3 c κs = search needs
 
--- src/words.rt:176:1
 returns-5 : tie.Need-returns-5
 returns-5 c = second-reads (sym (c .before .before .before .before .before .before .before .before .before .starts .ensures) ∙ c .before .before .before .before .before .before .before .before .if1 .left) (second-reads (sym (c .before .before .before .before .before .before .before .starts2 .ensures) ∙ c .before .before .before .before .before .before .if2 .left) (second-reads (sym (c .before .before .before .before .before .starts3 .ensures) ∙ c .before .before .before .before .if3 .left) (second-reads (sym (c .before .before .before .starts4 .ensures) ∙ c .before .before .if4 .left) (says-reads (text "file") _ (c .word-at3 .ensures)))))
 

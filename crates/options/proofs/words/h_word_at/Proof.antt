@@ -6,51 +6,39 @@ use borrow.Author.Needs.{needs}
 use Rattle.options.proofs.words.h_word_at.Statement.{statement}
 use Rattle.options.proofs.words.h_word_at.Tie as tie
 
--- src/words.rt:138:28
 slice-aggregate-word-at : tie.Need-slice-aggregate-word-at
 slice-aggregate-word-at c = search needs
 
--- src/words.rt:138:9
 word-at-requires : tie.Need-word-at-requires
 word-at-requires c κs = search needs
 
--- src/words.rt:139:9
 place-requires : tie.Need-place-requires
 place-requires c κs = search needs
 
--- src/words.rt:140:8
 starts-requires : tie.Need-starts-requires
 starts-requires c κs = search needs
 
--- src/words.rt:141:34
 slice-aggregate-word-at-2 : tie.Need-slice-aggregate-word-at-2
 slice-aggregate-word-at-2 c = search needs
 
--- src/words.rt:141:13
 word-at-requires-2 : tie.Need-word-at-requires-2
 word-at-requires-2 c κs = inside-at (c .before .before .before .place .ensures) (c .before .before .before .before .word-at .ensures)
 
--- src/words.rt:144:21
 join-requires : tie.Need-join-requires
 join-requires c κs = search needs
 
--- src/words.rt:142:9
 returns : tie.Need-returns
 returns c = skip-reads (c .before .before .before .before .before .before .before .before .before .pre) (c .before .before .before .before .before .before .word-at .ensures) (joined-reads (c .before .before .before .before .before .before .word-at .ensures) (c .before .before .before .before .before .place .ensures) (c .join .ensures) (first-reads (sym (c .before .before .before .before .starts .ensures) ∙ c .before .before .before .if1 .taken) (says-reads (text "eader") _ (c .before .word-at2 .ensures))))
 
--- src/words.rt:147:30
 slice-aggregate-word-at-3 : tie.Need-slice-aggregate-word-at-3
 slice-aggregate-word-at-3 c = search needs
 
--- src/words.rt:147:9
 word-at-requires-3 : tie.Need-word-at-requires-3
 word-at-requires-3 c κs = inside-at (c .before .before .before .place .ensures) (c .before .before .before .before .word-at .ensures)
 
--- src/words.rt:150:17
 join-requires-2 : tie.Need-join-requires-2
 join-requires-2 c κs = search needs
 
--- src/words.rt:134:1
 returns-2 : tie.Need-returns-2
 returns-2 c = skip-reads (c .before .before .before .before .before .before .before .before .before .pre) (c .before .before .before .before .before .before .word-at .ensures) (joined-reads (c .before .before .before .before .before .before .word-at .ensures) (c .before .before .before .before .before .place .ensures) (c .join2 .ensures) (second-reads (sym (c .before .before .before .before .starts .ensures) ∙ c .before .before .before .if1 .left) (says-reads (text "ost") _ (c .before .word-at3 .ensures))))
 

@@ -7,59 +7,45 @@ use borrow.Author.Needs.{needs}
 use Rattle.options.proofs.words.protocol_at.Statement.{statement}
 use Rattle.options.proofs.words.protocol_at.Tie as tie
 
--- src/words.rt:45:8
 starts-requires : tie.Need-starts-requires
 starts-requires c κs = search needs
 
--- src/words.rt:46:37
 slice-aggregate-word-at : tie.Need-slice-aggregate-word-at
 slice-aggregate-word-at c = search needs
 
--- src/words.rt:46:13
 word-at-requires : tie.Need-word-at-requires
 word-at-requires c κs = search needs
 
--- src/words.rt:47:9
 returns : tie.Need-returns
 returns c = (first-reads (sym (c .before .before .before .starts .ensures) ∙ c .before .before .if1 .taken) (says-reads (text "tcp") _ (c .word-at .ensures)), omega arith)
 
--- src/words.rt:49:8
 starts-requires-2 : tie.Need-starts-requires-2
 starts-requires-2 c κs = search needs
 
--- src/words.rt:50:37
 slice-aggregate-word-at-2 : tie.Need-slice-aggregate-word-at-2
 slice-aggregate-word-at-2 c = search needs
 
--- src/words.rt:50:13
 word-at-requires-2 : tie.Need-word-at-requires-2
 word-at-requires-2 c κs = search needs
 
--- src/words.rt:51:9
 returns-2 : tie.Need-returns-2
 returns-2 c = (second-reads (sym (c .before .before .before .before .before .starts .ensures) ∙ c .before .before .before .before .if1 .left) (first-reads (sym (c .before .before .before .starts2 .ensures) ∙ c .before .before .if2 .taken) (says-reads (text "udp") _ (c .word-at2 .ensures))), omega arith)
 
--- src/words.rt:53:8
 starts-requires-3 : tie.Need-starts-requires-3
 starts-requires-3 c κs = search needs
 
--- src/words.rt:54:37
 slice-aggregate-word-at-3 : tie.Need-slice-aggregate-word-at-3
 slice-aggregate-word-at-3 c = search needs
 
--- src/words.rt:54:13
 word-at-requires-3 : tie.Need-word-at-requires-3
 word-at-requires-3 c κs = search needs
 
--- src/words.rt:55:9
 returns-3 : tie.Need-returns-3
 returns-3 c = (second-reads (sym (c .before .before .before .before .before .before .before .starts .ensures) ∙ c .before .before .before .before .before .before .if1 .left) (second-reads (sym (c .before .before .before .before .before .starts2 .ensures) ∙ c .before .before .before .before .if2 .left) (first-reads (sym (c .before .before .before .starts3 .ensures) ∙ c .before .before .if3 .taken) (says-reads (text "icmp") _ (c .word-at3 .ensures)))), omega arith)
 
--- src/words.rt:57:5
 number-at-requires : tie.Need-number-at-requires
 number-at-requires c κs = (c .before .before .before .before .before .before .before .pre, omega arith)
 
--- src/words.rt:41:1
 returns-4 : tie.Need-returns-4
 returns-4 c = (second-reads (sym (c .before .before .before .before .before .before .starts .ensures) ∙ c .before .before .before .before .before .if1 .left) (second-reads (sym (c .before .before .before .before .starts2 .ensures) ∙ c .before .before .before .if2 .left) (second-reads (sym (c .before .before .starts3 .ensures) ∙ c .before .if3 .left) (c .number-at .ensures .0))), c .number-at .ensures .1)
 

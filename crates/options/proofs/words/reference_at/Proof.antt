@@ -6,47 +6,36 @@ use borrow.Author.Needs.{needs}
 use Rattle.options.proofs.words.reference_at.Statement.{statement}
 use Rattle.options.proofs.words.reference_at.Tie as tie
 
--- src/words.rt:86:8
 starts-requires : tie.Need-starts-requires
 starts-requires c κs = search needs
 
--- src/words.rt:89:36
 slice-aggregate-word-at : tie.Need-slice-aggregate-word-at
 slice-aggregate-word-at c = search needs
 
--- src/words.rt:89:21
 word-at-requires : tie.Need-word-at-requires
 word-at-requires c κs = search needs
 
--- src/words.rt:87:9
 returns : tie.Need-returns
 returns c = first-reads (sym (c .before .before .before .starts .ensures) ∙ c .before .before .if1 .taken) (says-reads (text "match") _ (c .word-at .ensures))
 
--- src/words.rt:92:8
 starts-requires-2 : tie.Need-starts-requires-2
 starts-requires-2 c κs = search needs
 
--- src/words.rt:95:36
 slice-aggregate-word-at-2 : tie.Need-slice-aggregate-word-at-2
 slice-aggregate-word-at-2 c = search needs
 
--- src/words.rt:95:21
 word-at-requires-2 : tie.Need-word-at-requires-2
 word-at-requires-2 c κs = search needs
 
--- src/words.rt:93:9
 returns-2 : tie.Need-returns-2
 returns-2 c = second-reads (sym (c .before .before .before .before .before .starts .ensures) ∙ c .before .before .before .before .if1 .left) (first-reads (sym (c .before .before .before .starts2 .ensures) ∙ c .before .before .if2 .taken) (says-reads (text "packet") _ (c .word-at2 .ensures)))
 
--- src/words.rt:100:32
 slice-aggregate-word-at-3 : tie.Need-slice-aggregate-word-at-3
 slice-aggregate-word-at-3 c = search needs
 
--- src/words.rt:100:17
 word-at-requires-3 : tie.Need-word-at-requires-3
 word-at-requires-3 c κs = search needs
 
--- src/words.rt:82:1
 returns-3 : tie.Need-returns-3
 returns-3 c = second-reads (sym (c .before .before .before .before .before .starts .ensures) ∙ c .before .before .before .before .if1 .left) (second-reads (sym (c .before .before .before .starts2 .ensures) ∙ c .before .before .if2 .left) (says-reads (text "context") _ (c .word-at3 .ensures)))
 

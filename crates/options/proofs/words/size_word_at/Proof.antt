@@ -6,63 +6,48 @@ use borrow.Author.Needs.{needs}
 use Rattle.options.proofs.words.size_word_at.Statement.{statement}
 use Rattle.options.proofs.words.size_word_at.Tie as tie
 
--- src/words.rt:109:8
 starts-requires : tie.Need-starts-requires
 starts-requires c κs = search needs
 
--- src/words.rt:112:36
 slice-aggregate-word-at : tie.Need-slice-aggregate-word-at
 slice-aggregate-word-at c = search needs
 
--- src/words.rt:112:21
 word-at-requires : tie.Need-word-at-requires
 word-at-requires c κs = search needs
 
--- src/words.rt:110:9
 returns : tie.Need-returns
 returns c = first-reads (sym (c .before .before .before .starts .ensures) ∙ c .before .before .if1 .taken) (says-reads (text "payload") _ (c .word-at .ensures))
 
--- src/words.rt:115:8
 starts-requires-2 : tie.Need-starts-requires-2
 starts-requires-2 c κs = search needs
 
--- src/words.rt:118:36
 slice-aggregate-word-at-2 : tie.Need-slice-aggregate-word-at-2
 slice-aggregate-word-at-2 c = search needs
 
--- src/words.rt:118:21
 word-at-requires-2 : tie.Need-word-at-requires-2
 word-at-requires-2 c κs = search needs
 
--- src/words.rt:116:9
 returns-2 : tie.Need-returns-2
 returns-2 c = second-reads (sym (c .before .before .before .before .before .starts .ensures) ∙ c .before .before .before .before .if1 .left) (first-reads (sym (c .before .before .before .starts2 .ensures) ∙ c .before .before .if2 .taken) (says-reads (text "uri") _ (c .word-at2 .ensures)))
 
--- src/words.rt:121:8
 starts-requires-3 : tie.Need-starts-requires-3
 starts-requires-3 c κs = search needs
 
--- src/words.rt:124:36
 slice-aggregate-word-at-3 : tie.Need-slice-aggregate-word-at-3
 slice-aggregate-word-at-3 c = search needs
 
--- src/words.rt:124:21
 word-at-requires-3 : tie.Need-word-at-requires-3
 word-at-requires-3 c κs = search needs
 
--- src/words.rt:122:9
 returns-3 : tie.Need-returns-3
 returns-3 c = second-reads (sym (c .before .before .before .before .before .before .before .starts .ensures) ∙ c .before .before .before .before .before .before .if1 .left) (second-reads (sym (c .before .before .before .before .before .starts2 .ensures) ∙ c .before .before .before .before .if2 .left) (first-reads (sym (c .before .before .before .starts3 .ensures) ∙ c .before .before .if3 .taken) (says-reads (text "header") _ (c .word-at3 .ensures))))
 
--- src/words.rt:129:32
 slice-aggregate-word-at-4 : tie.Need-slice-aggregate-word-at-4
 slice-aggregate-word-at-4 c = search needs
 
--- src/words.rt:129:17
 word-at-requires-4 : tie.Need-word-at-requires-4
 word-at-requires-4 c κs = search needs
 
--- src/words.rt:105:1
 returns-4 : tie.Need-returns-4
 returns-4 c = second-reads (sym (c .before .before .before .before .before .before .before .starts .ensures) ∙ c .before .before .before .before .before .before .if1 .left) (second-reads (sym (c .before .before .before .before .before .starts2 .ensures) ∙ c .before .before .before .before .if2 .left) (second-reads (sym (c .before .before .before .starts3 .ensures) ∙ c .before .before .if3 .left) (says-reads (text "body") _ (c .word-at4 .ensures))))
 

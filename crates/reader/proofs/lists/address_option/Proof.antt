@@ -8,47 +8,36 @@ use borrow.Author.Needs.{needs}
 use Rattle.reader.proofs.lists.address_option.Statement.{statement}
 use Rattle.reader.proofs.lists.address_option.Tie as tie
 
--- src/lists.rt:51:9
 gap-at-requires : tie.Need-gap-at-requires
 gap-at-requires c κs = search needs
 
--- src/lists.rt:52:9
 place-requires : tie.Need-place-requires
 place-requires c κs = search needs
 
--- src/lists.rt:53:9
 mark-at-requires : tie.Need-mark-at-requires
 mark-at-requires c κs = search needs
 
--- src/lists.rt:55:9
 join-requires : tie.Need-join-requires
 join-requires c κs = search needs
 
--- src/lists.rt:56:9
 place-requires-2 : tie.Need-place-requires-2
 place-requires-2 c κs = search needs
 
--- src/lists.rt:57:9
 addresses-at-requires : tie.Need-addresses-at-requires
 addresses-at-requires c κs = inside-at (c .place2 .ensures) (joined-reads (c .before .before .before .before .gap-at .ensures .1) (c .before .before .before .place .ensures) (c .before .join .ensures) (c .before .before .mark-at .ensures))
 
--- src/lists.rt:59:9
 join-requires-2 : tie.Need-join-requires-2
 join-requires-2 c κs = search needs
 
--- src/lists.rt:60:9
 place-requires-3 : tie.Need-place-requires-3
 place-requires-3 c κs = search needs
 
--- src/lists.rt:61:9
 closing-at-requires : tie.Need-closing-at-requires
 closing-at-requires c κs = inside-at (c .place3 .ensures) (joined-reads (joined-reads (c .before .before .before .before .before .before .before .gap-at .ensures .1) (c .before .before .before .before .before .before .place .ensures) (c .before .before .before .before .join .ensures) (c .before .before .before .before .before .mark-at .ensures)) (c .before .before .before .place2 .ensures) (c .before .join2 .ensures) (c .before .before .addresses-at .ensures .1 .read))
 
--- src/lists.rt:62:9
 join-requires-3 : tie.Need-join-requires-3
 join-requires-3 c κs = search needs
 
--- src/lists.rt:47:1
 returns : tie.Need-returns
 unfolding entryOf
 returns c = let r = valued-reads (c .before .before .before .before .before .before .before .before .before .before .before .before .pre) (c .before .before .before .before .before .before .before .before .before .before .gap-at .ensures) (made-reads _ (pair-reads (c .before .before .before .before .before .before .before .before .before .before .gap-at .ensures .1 .inside) (joined-reads (c .before .before .before .before .before .before .before .before .before .before .gap-at .ensures .1) (c .before .before .before .before .before .before .before .before .before .place .ensures) (c .before .before .before .before .before .before .before .join .ensures) (c .before .before .before .before .before .before .before .before .mark-at .ensures)) (joined-reads (joined-reads (c .before .before .before .before .before .before .before .before .before .before .gap-at .ensures .1) (c .before .before .before .before .before .before .before .before .before .place .ensures) (c .before .before .before .before .before .before .before .join .ensures) (c .before .before .before .before .before .before .before .before .mark-at .ensures)) (c .before .before .before .before .before .before .place2 .ensures) (c .before .before .before .before .join2 .ensures) (c .before .before .before .before .before .addresses-at .ensures .1 .read)))) (c .before .before .before .place3 .ensures) (c .before .before .closing-at .ensures) (c .before .join3 .ensures) in

@@ -12,35 +12,27 @@ use borrow.Author.Needs.{needs}
 use Rattle.reader.proofs.lists.name_option.Statement.{statement}
 use Rattle.reader.proofs.lists.name_option.Tie as tie
 
--- src/lists.rt:27:9
 gap-at-requires : tie.Need-gap-at-requires
 gap-at-requires c κs = search needs
 
--- src/lists.rt:28:9
 place-requires : tie.Need-place-requires
 place-requires c κs = search needs
 
--- src/lists.rt:29:9
 name-at-requires : tie.Need-name-at-requires
 name-at-requires c κs = search needs
 
--- src/lists.rt:31:9
 join-requires : tie.Need-join-requires
 join-requires c κs = search needs
 
--- src/lists.rt:32:9
 place-requires-2 : tie.Need-place-requires-2
 place-requires-2 c κs = search needs
 
--- src/lists.rt:33:9
 closing-at-requires : tie.Need-closing-at-requires
 closing-at-requires c κs = inside-at (c .place2 .ensures) (joined-reads (c .before .before .before .before .gap-at .ensures .1) (c .before .before .before .place .ensures) (c .before .join .ensures) (c .before .before .name-at .ensures .read))
 
--- src/lists.rt:34:9
 join-requires-2 : tie.Need-join-requires-2
 join-requires-2 c κs = search needs
 
--- src/lists.rt:23:1
 returns : tie.Need-returns
 unfolding entryOf
 returns c = let r : Reads nameForm (c .before .before .before .before .before .before .before .before .args .s .now) (Going (c .before .before .before .before .before .before .before .before .args .at)) (entryOf (c .before .before .before .before .before .before .before .before .args .s .now) (Name (c .before .before .before .before .name-at .result .from) (c .before .before .before .before .name-at .result .len)) [] []) (c .join2 .result) = (valued-reads (c .before .before .before .before .before .before .before .before .pre) (c .before .before .before .before .before .before .gap-at .ensures) (made-reads _ (joined-reads (c .before .before .before .before .before .before .gap-at .ensures .1) (c .before .before .before .before .before .place .ensures) (c .before .before .before .join .ensures) (c .before .before .before .before .name-at .ensures .read))) (c .before .before .place2 .ensures) (c .before .closing-at .ensures) (c .join2 .ensures)) in

@@ -11,47 +11,36 @@ use borrow.Author.Needs.{needs}
 use Rattle.reader.proofs.lists.pattern_option.Statement.{statement}
 use Rattle.reader.proofs.lists.pattern_option.Tie as tie
 
--- src/lists.rt:80:9
 gap-at-requires : tie.Need-gap-at-requires
 gap-at-requires c κs = search needs
 
--- src/lists.rt:81:9
 place-requires : tie.Need-place-requires
 place-requires c κs = search needs
 
--- src/lists.rt:82:9
 mark-at-requires : tie.Need-mark-at-requires
 mark-at-requires c κs = search needs
 
--- src/lists.rt:84:9
 join-requires : tie.Need-join-requires
 join-requires c κs = search needs
 
--- src/lists.rt:85:9
 place-requires-2 : tie.Need-place-requires-2
 place-requires-2 c κs = search needs
 
--- src/lists.rt:86:9
 pattern-at-requires : tie.Need-pattern-at-requires
 pattern-at-requires c κs = let h = onward {f = skip gap negation} refl (c .before .before .before .before .before .before .pre .0) (skip-reads (c .before .before .before .before .before .before .pre .0) (c .before .before .before .before .gap-at .ensures .1) (joined-reads (c .before .before .before .before .gap-at .ensures .1) (c .before .before .before .place .ensures) (c .before .join .ensures) (c .before .before .mark-at .ensures))) in let p = c .place2 .ensures in record { inside = inside-at (c .place2 .ensures) (joined-reads (c .before .before .before .before .gap-at .ensures .1) (c .before .before .before .place .ensures) (c .before .join .ensures) (c .before .before .mark-at .ensures)); short = c .before .before .before .before .before .before .pre .1; behind = omega (arith, h, p, c .before .before .before .before .before .before .pre .2) }
 
--- src/lists.rt:88:9
 join-requires-2 : tie.Need-join-requires-2
 join-requires-2 c κs = search needs
 
--- src/lists.rt:89:9
 place-requires-3 : tie.Need-place-requires-3
 place-requires-3 c κs = search needs
 
--- src/lists.rt:90:9
 closing-at-requires : tie.Need-closing-at-requires
 closing-at-requires c κs = inside-at (c .place3 .ensures) (joined-reads (joined-reads (c .before .before .before .before .before .before .before .gap-at .ensures .1) (c .before .before .before .before .before .before .place .ensures) (c .before .before .before .before .join .ensures) (c .before .before .before .before .before .mark-at .ensures)) (c .before .before .before .place2 .ensures) (c .before .join2 .ensures) (c .before .before .pattern-at .ensures .1 .stored .read))
 
--- src/lists.rt:91:9
 join-requires-3 : tie.Need-join-requires-3
 join-requires-3 c κs = search needs
 
--- src/lists.rt:76:1
 returns : tie.Need-returns
 unfolding entryOf
 returns c = let r = valued-reads (c .before .before .before .before .before .before .before .before .before .before .before .before .pre .0) (c .before .before .before .before .before .before .before .before .before .before .gap-at .ensures) (made-reads _ (pair-reads (c .before .before .before .before .before .before .before .before .before .before .gap-at .ensures .1 .inside) (joined-reads (c .before .before .before .before .before .before .before .before .before .before .gap-at .ensures .1) (c .before .before .before .before .before .before .before .before .before .place .ensures) (c .before .before .before .before .before .before .before .join .ensures) (c .before .before .before .before .before .before .before .before .mark-at .ensures)) (joined-reads (joined-reads (c .before .before .before .before .before .before .before .before .before .before .gap-at .ensures .1) (c .before .before .before .before .before .before .before .before .before .place .ensures) (c .before .before .before .before .before .before .before .join .ensures) (c .before .before .before .before .before .before .before .before .mark-at .ensures)) (c .before .before .before .before .before .before .place2 .ensures) (c .before .before .before .before .join2 .ensures) (c .before .before .before .before .before .pattern-at .ensures .1 .stored .read)))) (c .before .before .before .place3 .ensures) (c .before .before .closing-at .ensures) (c .before .join3 .ensures) in

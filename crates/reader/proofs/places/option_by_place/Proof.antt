@@ -5,51 +5,40 @@ use borrow.Author.Needs.{needs}
 use Rattle.reader.proofs.places.option_by_place.Statement.{statement}
 use Rattle.reader.proofs.places.option_by_place.Tie as tie
 
--- src/places.rt:68:14
 name-option-requires : tie.Need-name-option-requires
 name-option-requires c κs = c .before .before .pre .0
 
--- src/places.rt:69:14
 address-option-requires : tie.Need-address-option-requires
 address-option-requires c κs = c .before .before .pre .0
 
--- src/places.rt:70:14
 address-option-requires-2 : tie.Need-address-option-requires-2
 address-option-requires-2 c κs = c .before .before .pre .0
 
--- src/places.rt:71:15
 pattern-option-requires : tie.Need-pattern-option-requires
 pattern-option-requires c κs = (c .before .before .pre .0, c .before .before .pre .1, c .before .before .pre .2)
 
--- src/places.rt:73:17
 plain-option-requires : tie.Need-plain-option-requires
 plain-option-requires c κs = (c .before .before .pre .0, c .before .before .pre .3, c .match .rest .0 .0 .0 .1, c .match .rest .0 .0 .1, c .match .rest .0 .1, c .match .rest .1)
 
--- src/places.rt:74:13
 plain-requires : tie.Need-plain-requires
 plain-requires c κs = search needs
 
--- src/places.rt:63:1
 returns : tie.Need-returns
 unfolding nthForm optionTable
 returns c = rw (c .before .match .keys1) (c .name-option .ensures)
 
--- src/places.rt:63:1
 returns-2 : tie.Need-returns-2
 unfolding nthForm optionTable
 returns-2 c = rw (c .before .match .keys2) (c .address-option .ensures)
 
--- src/places.rt:63:1
 returns-3 : tie.Need-returns-3
 unfolding nthForm optionTable
 returns-3 c = rw (c .before .match .keys3) (c .address-option2 .ensures)
 
--- src/places.rt:63:1
 returns-4 : tie.Need-returns-4
 unfolding nthForm optionTable
 returns-4 c = rw (c .before .match .keys4) (c .pattern-option .ensures)
 
--- src/places.rt:63:1
 returns-5 : tie.Need-returns-5
 returns-5 c = plain-parses (nth-fair _) (c .before .before .before .before .pre .0) (c .before .plain-option .ensures .0) (c .before .plain-option .ensures .1) (c .plain .ensures)
 

@@ -7,164 +7,128 @@ use Rattle.reader.proofs.Plainly.{past}
 use Rattle.reader.proofs.places.plain_option.Statement.{statement}
 use Rattle.reader.proofs.places.plain_option.Tie as tie
 
--- src/places.rt:41:14
 protocol-option-requires : tie.Need-protocol-option-requires
 protocol-option-requires c κs = c .before .before .pre .0
 
--- src/places.rt:42:14
 flow-option-requires : tie.Need-flow-option-requires
 flow-option-requires c κs = c .before .before .pre .0
 
--- src/places.rt:43:14
 same-ip-option-requires : tie.Need-same-ip-option-requires
 same-ip-option-requires c κs = c .before .before .pre .0
 
--- src/places.rt:44:14
 number-option-requires : tie.Need-number-option-requires
 number-option-requires c κs = (c .before .before .pre .0, omega arith)
 
--- src/places.rt:45:14
 number-option-requires-2 : tie.Need-number-option-requires-2
 number-option-requires-2 c κs = (c .before .before .pre .0, omega arith)
 
--- src/places.rt:46:14
 number-option-requires-3 : tie.Need-number-option-requires-3
 number-option-requires-3 c κs = (c .before .before .pre .0, omega arith)
 
--- src/places.rt:47:14
 number-option-requires-4 : tie.Need-number-option-requires-4
 number-option-requires-4 c κs = (c .before .before .pre .0, omega arith)
 
--- src/places.rt:48:15
 ttl-option-requires : tie.Need-ttl-option-requires
 ttl-option-requires c κs = c .before .before .pre .0
 
--- src/places.rt:49:15
 field-option-requires : tie.Need-field-option-requires
 field-option-requires c κs = (c .before .before .pre .0, omega arith)
 
--- src/places.rt:50:15
 field-option-requires-2 : tie.Need-field-option-requires-2
 field-option-requires-2 c κs = (c .before .before .pre .0, omega arith)
 
--- src/places.rt:51:15
 field-option-requires-3 : tie.Need-field-option-requires-3
 field-option-requires-3 c κs = (c .before .before .pre .0, omega arith)
 
--- src/places.rt:52:15
 field-option-requires-4 : tie.Need-field-option-requires-4
 field-option-requires-4 c κs = (c .before .before .pre .0, omega arith)
 
--- src/places.rt:53:15
 size-option-requires : tie.Need-size-option-requires
 size-option-requires c κs = c .before .before .pre .0
 
--- src/places.rt:54:15
 at-option-requires : tie.Need-at-option-requires
 at-option-requires c κs = c .before .before .pre .0
 
--- src/places.rt:55:15
 context-option-requires : tie.Need-context-option-requires
 context-option-requires c κs = c .before .before .pre .0
 
--- src/places.rt:56:15
 no-case-option-requires : tie.Need-no-case-option-requires
 no-case-option-requires c κs = c .before .before .pre .0
 
--- src/places.rt:57:15
 distance-option-requires : tie.Need-distance-option-requires
 distance-option-requires c κs = c .before .before .pre .0
 
--- src/places.rt:58:14
 within-option-requires : tie.Need-within-option-requires
 within-option-requires c κs = c .before .before .pre .0
 
--- src/places.rt:36:1
 returns : tie.Need-returns
 unfolding nthForm optionTable
 returns c = rw (c .before .match .keys1) (c .protocol-option .ensures)
 
--- src/places.rt:36:1
 returns-2 : tie.Need-returns-2
 unfolding nthForm optionTable
 returns-2 c = rw (c .before .match .keys2) (c .flow-option .ensures)
 
--- src/places.rt:36:1
 returns-3 : tie.Need-returns-3
 unfolding nthForm optionTable
 returns-3 c = rw (c .before .match .keys3) (c .same-ip-option .ensures)
 
--- src/places.rt:36:1
 returns-4 : tie.Need-returns-4
 unfolding nthForm optionTable
 returns-4 c = rw (c .before .match .keys4) (c .number-option .ensures)
 
--- src/places.rt:36:1
 returns-5 : tie.Need-returns-5
 unfolding nthForm optionTable
 returns-5 c = rw (c .before .match .keys5) (c .number-option2 .ensures)
 
--- src/places.rt:36:1
 returns-6 : tie.Need-returns-6
 unfolding nthForm optionTable
 returns-6 c = rw (c .before .match .keys6) (c .number-option3 .ensures)
 
--- src/places.rt:36:1
 returns-7 : tie.Need-returns-7
 unfolding nthForm optionTable
 returns-7 c = rw (c .before .match .keys7) (c .number-option4 .ensures)
 
--- src/places.rt:36:1
 returns-8 : tie.Need-returns-8
 unfolding nthForm optionTable
 returns-8 c = rw (c .before .match .keys8) (c .ttl-option .ensures)
 
--- src/places.rt:36:1
 returns-9 : tie.Need-returns-9
 unfolding nthForm optionTable
 returns-9 c = rw (c .before .match .keys9) (c .field-option .ensures)
 
--- src/places.rt:36:1
 returns-10 : tie.Need-returns-10
 unfolding nthForm optionTable
 returns-10 c = rw (c .before .match .keys10) (c .field-option2 .ensures)
 
--- src/places.rt:36:1
 returns-11 : tie.Need-returns-11
 unfolding nthForm optionTable
 returns-11 c = rw (c .before .match .keys11) (c .field-option3 .ensures)
 
--- src/places.rt:36:1
 returns-12 : tie.Need-returns-12
 unfolding nthForm optionTable
 returns-12 c = rw (c .before .match .keys12) (c .field-option4 .ensures)
 
--- src/places.rt:36:1
 returns-13 : tie.Need-returns-13
 unfolding nthForm optionTable
 returns-13 c = rw (c .before .match .keys13) (c .size-option .ensures)
 
--- src/places.rt:36:1
 returns-14 : tie.Need-returns-14
 unfolding nthForm optionTable
 returns-14 c = rw (c .before .match .keys14) (c .at-option .ensures)
 
--- src/places.rt:36:1
 returns-15 : tie.Need-returns-15
 unfolding nthForm optionTable
 returns-15 c = rw (c .before .match .keys15) (c .context-option .ensures)
 
--- src/places.rt:36:1
 returns-16 : tie.Need-returns-16
 unfolding nthForm optionTable
 returns-16 c = rw (c .before .match .keys16) (c .no-case-option .ensures)
 
--- src/places.rt:36:1
 returns-17 : tie.Need-returns-17
 unfolding nthForm optionTable
 returns-17 c = rw (c .before .match .keys17) (c .distance-option .ensures)
 
--- src/places.rt:36:1
 returns-18 : tie.Need-returns-18
 unfolding nthForm optionTable
 returns-18 c = let h0 : 0 ≤ c .before .before .before .args .k = omega arith in

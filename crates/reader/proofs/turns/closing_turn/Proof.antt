@@ -2,11 +2,9 @@ use borrow.Author.Tests.{eq-eqb, ne-eqb}
 use Rattle.reader.proofs.turns.closing_turn.Statement.{statement}
 use Rattle.reader.proofs.turns.closing_turn.Tie as tie
 
--- src/turns.rt:107:1
 returns : tie.Need-returns
 returns c = rw (eq-eqb _ _ (c .if1 .taken))
 
--- src/turns.rt:107:1
 returns-2 : tie.Need-returns-2
 returns-2 c = rw (ne-eqb _ _ (c .if1 .left))
 

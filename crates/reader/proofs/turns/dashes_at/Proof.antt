@@ -3,27 +3,21 @@ use borrow.Author.Needs.{needs}
 use Rattle.reader.proofs.turns.dashes_at.Statement.{statement}
 use Rattle.reader.proofs.turns.dashes_at.Tie as tie
 
--- src/turns.rt:122:8
 shared-slice-read-if1 : tie.Need-shared-slice-read-if1
 shared-slice-read-if1 c = search needs
 
--- src/turns.rt:123:20
 add-next : tie.Need-add-next
 add-next c = search needs
 
--- src/turns.rt:125:20
 shared-slice-read-result : tie.Need-shared-slice-read-result
 shared-slice-read-result c = search needs
 
--- src/turns.rt:125:13
 returns : tie.Need-returns
 returns c = dashes-both _ _ (c .before .before .before .before .pre) (c .before .before .if1 .taken) (c .before .if2 .taken)
 
--- src/turns.rt:118:1
 returns-2 : tie.Need-returns-2
 returns-2 c = dashes-one _ _ (c .before .before .before .pre) (c .before .if1 .taken) (c .if2 .left)
 
--- src/turns.rt:118:1
 returns-3 : tie.Need-returns-3
 returns-3 c = dashes-none _ _ (c .before .before .pre) (c .if1 .left)
 

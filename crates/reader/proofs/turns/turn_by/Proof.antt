@@ -2,19 +2,15 @@ use borrow.Author.Needs.{needs}
 use Rattle.reader.proofs.turns.turn_by.Statement.{statement}
 use Rattle.reader.proofs.turns.turn_by.Tie as tie
 
--- src/turns.rt:70:22
 enum-told : tie.Need-enum-told
 enum-told c = search needs
 
--- src/turns.rt:71:17
 enum-known-due : tie.Need-enum-known-due
 enum-known-due c = search needs
 
--- src/turns.rt:66:1
 returns : tie.Need-returns
 returns c = rw (c .enum-told .given .1)
 
--- src/turns.rt:66:1
 returns-2 : tie.Need-returns-2
 returns-2 c = rw (c .before .due .given .1)
 

@@ -4,35 +4,27 @@ use borrow.Author.Needs.{needs}
 use Rattle.scan.proofs.bytes.in_case.Statement.{statement}
 use Rattle.scan.proofs.bytes.in_case.Tie as tie
 
--- src/bytes.rt:67:8
 is-between-requires : tie.Need-is-between-requires
 is-between-requires c κs = search needs
 
--- src/bytes.rt:68:9
 returns : tie.Need-returns
 returns c = case-same (c .before .before .args .y) (c .before .before .args .b) (sym (c .before .is-between .ensures) ∙ c .if1 .taken)
 
--- src/bytes.rt:70:8
 is-between-requires-2 : tie.Need-is-between-requires-2
 is-between-requires-2 c κs = search needs
 
--- src/bytes.rt:71:27
 sub-is-between : tie.Need-sub-is-between
 sub-is-between c = case-low _ (sym (c .before .is-between2 .ensures) ∙ c .if2 .taken)
 
--- src/bytes.rt:71:35
 sub-is-between-2 : tie.Need-sub-is-between-2
 sub-is-between-2 c = case-low _ (sym (c .before .is-between2 .ensures) ∙ c .if2 .taken)
 
--- src/bytes.rt:71:9
 is-between-requires-3 : tie.Need-is-between-requires-3
 is-between-requires-3 c κs = search needs
 
--- src/bytes.rt:71:9
 returns-2 : tie.Need-returns-2
 returns-2 c = case-other (c .before .before .before .before .before .args .y) (c .before .before .before .before .before .args .b) _ (sym (c .before .before .before .before .is-between .ensures) ∙ c .before .before .before .if1 .left) (sym (c .before .before .is-between2 .ensures) ∙ c .before .if2 .taken) (c .is-between3 .ensures)
 
--- src/bytes.rt:64:1
 returns-3 : tie.Need-returns-3
 returns-3 c = case-only (c .before .before .before .before .args .y) (c .before .before .before .before .args .b) (sym (c .before .before .before .is-between .ensures) ∙ c .before .before .if1 .left) (sym (c .before .is-between2 .ensures) ∙ c .if2 .left)
 

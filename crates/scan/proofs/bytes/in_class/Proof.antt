@@ -5,53 +5,41 @@ use borrow.Author.Needs.{needs}
 use Rattle.scan.proofs.bytes.in_class.Statement.{statement}
 use Rattle.scan.proofs.bytes.in_class.Tie as tie
 
--- src/bytes.rt:56:25
 enum-told : tie.Need-enum-told
 enum-told c = search needs
 
--- src/bytes.rt:56:25
 is-between-requires : tie.Need-is-between-requires
 is-between-requires c κs = search needs
 
--- src/bytes.rt:57:25
 enum-told-2 : tie.Need-enum-told-2
 enum-told-2 c = search needs
 
--- src/bytes.rt:57:25
 is-between-requires-2 : tie.Need-is-between-requires-2
 is-between-requires-2 c κs = search needs
 
--- src/bytes.rt:58:28
 enum-told-3 : tie.Need-enum-told-3
 enum-told-3 c = search needs
 
--- src/bytes.rt:58:28
 is-hex-requires : tie.Need-is-hex-requires
 is-hex-requires c κs = search needs
 
--- src/bytes.rt:59:28
 enum-told-4 : tie.Need-enum-told-4
 enum-told-4 c = search needs
 
--- src/bytes.rt:59:28
 is-quotable-requires : tie.Need-is-quotable-requires
 is-quotable-requires c κs = search needs
 
--- src/bytes.rt:52:1
 returns : tie.Need-returns
 unfolding has
 returns c = rw (c .before .enum-told .given .1) (c .is-between .ensures ∙ sym (or-false _))
 
--- src/bytes.rt:52:1
 returns-2 : tie.Need-returns-2
 unfolding has
 returns-2 c = rw (c .before .enum-told2 .given .1) (c .is-between2 .ensures ∙ sym (or-false _))
 
--- src/bytes.rt:52:1
 returns-3 : tie.Need-returns-3
 returns-3 c = rw (c .before .enum-told3 .given .1) (c .is-hex .ensures)
 
--- src/bytes.rt:52:1
 returns-4 : tie.Need-returns-4
 returns-4 c = rw (c .before .enum-told4 .given .1) (c .is-quotable .ensures)
 

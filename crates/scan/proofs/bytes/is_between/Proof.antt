@@ -2,11 +2,9 @@ use borrow.Author.Tests.{le-leb, lt-leb}
 use Rattle.scan.proofs.bytes.is_between.Statement.{statement}
 use Rattle.scan.proofs.bytes.is_between.Tie as tie
 
--- src/bytes.rt:17:1
 returns : tie.Need-returns
 returns c = simp (le-leb _ _ (c .if1 .taken))
 
--- src/bytes.rt:17:1
 returns-2 : tie.Need-returns-2
 returns-2 c = simp (lt-leb _ _ (c .if1 .left))
 

@@ -5,29 +5,23 @@ use borrow.Author.Needs.{needs}
 use Rattle.scan.proofs.bytes.is_hex.Statement.{statement}
 use Rattle.scan.proofs.bytes.is_hex.Tie as tie
 
--- src/bytes.rt:30:8
 is-between-requires : tie.Need-is-between-requires
 is-between-requires c κs = search needs
 
--- src/bytes.rt:31:9
 returns : tie.Need-returns
 unfolding has
 returns c = simp (sym (c .before .is-between .ensures) ∙ c .if1 .taken)
 
--- src/bytes.rt:33:8
 is-between-requires-2 : tie.Need-is-between-requires-2
 is-between-requires-2 c κs = search needs
 
--- src/bytes.rt:34:9
 returns-2 : tie.Need-returns-2
 unfolding has
 returns-2 c = second-of _ _ _ (sym (c .before .before .before .is-between .ensures) ∙ c .before .before .if1 .left) (sym (c .before .is-between2 .ensures) ∙ c .if2 .taken)
 
--- src/bytes.rt:36:5
 is-between-requires-3 : tie.Need-is-between-requires-3
 is-between-requires-3 c κs = search needs
 
--- src/bytes.rt:27:1
 returns-3 : tie.Need-returns-3
 unfolding has
 returns-3 c = third-of _ _ _ _ (sym (c .before .before .before .before .is-between .ensures) ∙ c .before .before .before .if1 .left) (sym (c .before .before .is-between2 .ensures) ∙ c .before .if2 .left) (c .is-between3 .ensures)

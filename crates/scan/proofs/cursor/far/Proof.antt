@@ -2,27 +2,21 @@ use borrow.Author.Needs.{needs}
 use Rattle.scan.proofs.cursor.far.Statement.{statement}
 use Rattle.scan.proofs.cursor.far.Tie as tie
 
--- src/cursor.rt:26:23
 enum-known-d : tie.Need-enum-known-d
 enum-known-d c = search needs
 
--- src/cursor.rt:27:25
 enum-known-d-2 : tie.Need-enum-known-d-2
 enum-known-d-2 c = search needs
 
--- src/cursor.rt:28:25
 enum-known-d-3 : tie.Need-enum-known-d-3
 enum-known-d-3 c = search needs
 
--- src/cursor.rt:22:1
 returns : tie.Need-returns
 returns c = simp (c .before .d .given .1)
 
--- src/cursor.rt:22:1
 returns-2 : tie.Need-returns-2
 returns-2 c = simp (c .before .d2 .given .1)
 
--- src/cursor.rt:22:1
 returns-3 : tie.Need-returns-3
 returns-3 c = simp (c .before .d3 .given .1)
 

@@ -2,11 +2,9 @@ use borrow.Author.Tests.{lt-ltb, le-ltb}
 use Rattle.scan.proofs.numbers.cap.Statement.{statement}
 use Rattle.scan.proofs.numbers.cap.Tie as tie
 
--- src/numbers.rt:43:1
 returns : tie.Need-returns
 returns c = rw (lt-ltb _ _ (c .if1 .taken))
 
--- src/numbers.rt:43:1
 returns-2 : tie.Need-returns-2
 returns-2 c = rw (le-ltb _ _ (c .if1 .left))
 

@@ -4,29 +4,23 @@ use borrow.Author.Needs.{needs}
 use Rattle.scan.proofs.numbers.digit_value.Statement.{statement}
 use Rattle.scan.proofs.numbers.digit_value.Tie as tie
 
--- src/numbers.rt:35:9
 less-requires : tie.Need-less-requires
 less-requires c κs = search needs
 
--- src/numbers.rt:35:9
 returns : tie.Need-returns
 unfolding digitValue
 returns c = rw (le-leb _ _ (c .before .if1 .taken)) (c .less .ensures)
 
--- src/numbers.rt:38:9
 less-requires-2 : tie.Need-less-requires-2
 less-requires-2 c κs = search needs
 
--- src/numbers.rt:38:9
 returns-2 : tie.Need-returns-2
 unfolding digitValue
 returns-2 c = rw (lt-leb _ _ (c .before .before .if1 .left), le-leb _ _ (c .before .if2 .taken)) (c .less2 .ensures)
 
--- src/numbers.rt:40:5
 less-requires-3 : tie.Need-less-requires-3
 less-requires-3 c κs = search needs
 
--- src/numbers.rt:31:1
 returns-3 : tie.Need-returns-3
 unfolding digitValue
 returns-3 c = rw (lt-leb _ _ (c .before .before .if1 .left), lt-leb _ _ (c .before .if2 .left)) (c .less3 .ensures)

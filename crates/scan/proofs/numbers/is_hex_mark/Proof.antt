@@ -6,23 +6,18 @@ use borrow.Author.Needs.{needs}
 use Rattle.scan.proofs.numbers.is_hex_mark.Statement.{statement}
 use Rattle.scan.proofs.numbers.is_hex_mark.Tie as tie
 
--- src/numbers.rt:112:8
 stands-requires : tie.Need-stands-requires
 stands-requires c κs = search needs
 
--- src/numbers.rt:113:19
 add-starts : tie.Need-add-starts
 add-starts c = omega (arith, begins-in ((48, 48) ∷ []) (c .before .before .before .args .s .now) (c .before .before .before .args .at) (sym (c .before .stands .ensures) ∙ c .if1 .taken))
 
--- src/numbers.rt:113:9
 starts-requires : tie.Need-starts-requires
 starts-requires c κs = search needs
 
--- src/numbers.rt:109:1
 returns : tie.Need-returns
 returns c = rw (sym (c .before .before .stands .ensures) ∙ c .before .if1 .taken) (c .starts .ensures)
 
--- src/numbers.rt:109:1
 returns-2 : tie.Need-returns-2
 returns-2 c = rw (sym (c .before .stands .ensures) ∙ c .if1 .left)
 

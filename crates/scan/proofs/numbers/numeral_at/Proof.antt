@@ -5,27 +5,21 @@ use borrow.Author.Needs.{needs}
 use Rattle.scan.proofs.numbers.numeral_at.Statement.{statement}
 use Rattle.scan.proofs.numbers.numeral_at.Tie as tie
 
--- src/numbers.rt:124:8
 is-hex-mark-requires : tie.Need-is-hex-mark-requires
 is-hex-mark-requires c κs = search needs
 
--- src/numbers.rt:125:22
 add-digits-at : tie.Need-add-digits-at
 add-digits-at c = search needs
 
--- src/numbers.rt:125:9
 digits-at-requires : tie.Need-digits-at-requires
 digits-at-requires c κs = (hex-inside _ _ (sym (c .before .is-hex-mark .ensures) ∙ c .if1 .taken), c .before .before .before .pre .1, omega arith, omega arith)
 
--- src/numbers.rt:127:9
 number-at-requires : tie.Need-number-at-requires
 number-at-requires c κs = search needs
 
--- src/numbers.rt:120:1
 returns : tie.Need-returns
 returns c = (hex-reads _ (sym (c .before .before .is-hex-mark .ensures) ∙ c .before .if1 .taken) (c .digits-at .ensures .0), c .digits-at .ensures .1)
 
--- src/numbers.rt:120:1
 returns-2 : tie.Need-returns-2
 returns-2 c = (decimal-reads _ (c .before .before .before .before .pre .0) (sym (c .before .before .is-hex-mark .ensures) ∙ c .before .if1 .left) (c .number-at .ensures .0), c .number-at .ensures .1)
 

@@ -13,43 +13,33 @@ Inv-loop s at end base v₀ i₀ v i = (low : 1 ≤ base) × Sum base low s at e
 abbrev μ-loop : tie.MeasureT-loop
 μ-loop s at end base v₀ i₀ v i = end - i
 
--- src/numbers.rt:60:5
 loop-holds : tie.Need-loop-holds Inv-loop μ-loop
 loop-holds c = (c .before .pre .2, record { from = omega arith; to = c .before .pre .0; small = omega arith; sum = refl })
 
--- src/numbers.rt:61:17
 shared-slice-read-b : tie.Need-shared-slice-read-b Inv-loop μ-loop
 shared-slice-read-b c = let p = c .before .before .before .before .pre in omega (arith, p .1)
 
--- src/numbers.rt:62:13
 digit-value-requires : tie.Need-digit-value-requires Inv-loop μ-loop
 digit-value-requires c κs = search needs
 
--- src/numbers.rt:63:17
 mul-cap : tie.Need-mul-cap Inv-loop μ-loop
 mul-cap c = omega (arith, product-fits (c .before .before .before .loop .v) (c .before .before .before .before .before .args .base) 0 (c .before .before .before .loop .inv .1 .small) (c .before .before .before .before .before .pre .3) (omega arith))
 
--- src/numbers.rt:63:17
 add-cap : tie.Need-add-cap Inv-loop μ-loop
 add-cap c = let d = c .digit-value .ensures in omega (arith, product-fits (c .before .before .before .loop .v) (c .before .before .before .before .before .args .base) (c .digit-value .result) (c .before .before .before .loop .inv .1 .small) (c .before .before .before .before .before .pre .3) (omega (arith, d, digit-le (getD (c .before .before .before .before .before .args .s .now) (c .before .before .before .loop .i) 0), c .before .shared-slice-known2 .given (c .before .before .before .loop .i))))
 
--- src/numbers.rt:63:9
 cap-requires : tie.Need-cap-requires Inv-loop μ-loop
 cap-requires c κs = search needs
 
--- src/numbers.rt:64:9
 add-i : tie.Need-add-i Inv-loop μ-loop
 add-i c = omega arith
 
--- src/numbers.rt:60:5
 loop-less : tie.Need-loop-less Inv-loop μ-loop
 loop-less c = omega arith
 
--- src/numbers.rt:60:5
 loop-again : tie.Need-loop-again Inv-loop μ-loop
 loop-again c = (c .before .before .before .before .loop .inv .0, sum-on _ _ _ _ _ _ _ (c .before .before .before .before .loop .inv .1) (c .before .before .before .loop-test .taken) (c .before .before .before .before .before .before .pre .1) _ (c .cap .ensures ∙ rw (c .before .digit-value .ensures)))
 
--- src/numbers.rt:54:1
 returns : tie.Need-returns Inv-loop μ-loop
 returns c = sum-out _ _ _ _ _ _ _ (c .before .loop .inv .1) (c .loop-test .left)
 

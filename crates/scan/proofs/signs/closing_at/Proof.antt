@@ -3,15 +3,12 @@ use borrow.Author.Needs.{needs}
 use Rattle.scan.proofs.signs.closing_at.Statement.{statement}
 use Rattle.scan.proofs.signs.closing_at.Tie as tie
 
--- src/signs.rt:102:9
 spaces-at-requires : tie.Need-spaces-at-requires
 spaces-at-requires c κs = search needs
 
--- src/signs.rt:103:5
 sign-at-requires : tie.Need-sign-at-requires
 sign-at-requires c κs = c .spaces-at .ensures .1 .inside
 
--- src/signs.rt:98:1
 returns : tie.Need-returns
 returns c = (59, skip-reads (c .before .before .before .pre) (c .before .spaces-at .ensures .1) (c .sign-at .ensures))
 

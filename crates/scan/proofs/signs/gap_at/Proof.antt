@@ -4,15 +4,12 @@ use borrow.Author.Needs.{needs}
 use Rattle.scan.proofs.signs.gap_at.Statement.{statement}
 use Rattle.scan.proofs.signs.gap_at.Tie as tie
 
--- src/signs.rt:58:9
 run-of-requires : tie.Need-run-of-requires
 run-of-requires c κs = search needs
 
--- src/signs.rt:54:1
 returns : tie.Need-returns
 returns c = ([], no-gap _ _ _ _ (c .before .before .before .pre) (c .before .run-of .ensures) (c .if1 .taken) [])
 
--- src/signs.rt:54:1
 returns-2 : tie.Need-returns-2
 returns-2 c = (_, run-gap _ _ _ _ (c .before .before .before .pre) (c .before .run-of .ensures) (c .if1 .left))
 

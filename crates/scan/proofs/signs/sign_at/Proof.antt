@@ -6,19 +6,15 @@ use borrow.Author.Needs.{needs}
 use Rattle.scan.proofs.signs.sign_at.Statement.{statement}
 use Rattle.scan.proofs.signs.sign_at.Tie as tie
 
--- src/signs.rt:46:8
 stands-requires : tie.Need-stands-requires
 stands-requires c κs = search needs
 
--- src/signs.rt:47:23
 add-t6 : tie.Need-add-t6
 add-t6 c = omega (arith, begins-in ((c .before .before .before .args .b, c .before .before .before .args .b) ∷ []) (c .before .before .before .args .s .now) (c .before .before .before .args .at) (sym (c .before .stands .ensures) ∙ c .if1 .taken))
 
--- src/signs.rt:42:1
 returns : tie.Need-returns
 returns c = sign-begun _ _ _ (sym (c .before .stands .ensures) ∙ c .if1 .taken)
 
--- src/signs.rt:42:1
 returns-2 : tie.Need-returns-2
 returns-2 c = byte-none _ _ _ (c .before .before .before .pre) (sym (c .before .stands .ensures) ∙ c .if1 .left) _
 

@@ -3,11 +3,9 @@ use borrow.Author.Needs.{needs}
 use Rattle.scan.proofs.signs.spaces_at.Statement.{statement}
 use Rattle.scan.proofs.signs.spaces_at.Tie as tie
 
--- src/signs.rt:94:5
 run-of-requires : tie.Need-run-of-requires
 run-of-requires c κs = search needs
 
--- src/signs.rt:90:1
 returns : tie.Need-returns
 returns c = (_, run-spaces _ _ _ _ (c .before .before .pre) (c .run-of .ensures))
 

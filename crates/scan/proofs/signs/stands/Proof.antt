@@ -4,15 +4,12 @@ use borrow.Author.Needs.{needs}
 use Rattle.scan.proofs.signs.stands.Statement.{statement}
 use Rattle.scan.proofs.signs.stands.Tie as tie
 
--- src/signs.rt:23:9
 shared-slice-read-result : tie.Need-shared-slice-read-result
 shared-slice-read-result c = search needs
 
--- src/signs.rt:19:1
 returns : tie.Need-returns
 returns c = sym (begins-at _ _ _ (c .before .if1 .taken) ∙ has-one _ _)
 
--- src/signs.rt:19:1
 returns-2 : tie.Need-returns-2
 returns-2 c = sym (begins-out _ _ _ (c .if1 .left))
 

@@ -4,19 +4,15 @@ use borrow.Author.Needs.{needs}
 use Rattle.scan.proofs.signs.starts.Statement.{statement}
 use Rattle.scan.proofs.signs.starts.Tie as tie
 
--- src/signs.rt:34:17
 shared-slice-read-b : tie.Need-shared-slice-read-b
 shared-slice-read-b c = search needs
 
--- src/signs.rt:35:9
 in-case-requires : tie.Need-in-case-requires
 in-case-requires c κs = search needs
 
--- src/signs.rt:30:1
 returns : tie.Need-returns
 returns c = c .in-case .ensures ∙ sym (begins-at _ _ _ (c .before .before .if1 .taken))
 
--- src/signs.rt:30:1
 returns-2 : tie.Need-returns-2
 returns-2 c = sym (begins-out _ _ _ (c .if1 .left))
 

@@ -17,39 +17,30 @@ Inv-loop s at w i₀ from₀ i from = Word s at w i from
 abbrev μ-loop : tie.MeasureT-loop
 μ-loop s at w i₀ from₀ i from = length w - i
 
--- src/words.rt:18:5
 loop-holds : tie.Need-loop-holds Inv-loop μ-loop
 loop-holds c = record { inside = c .before .before .pre; rest = λ d r. r }
 
--- src/words.rt:19:17
 shared-slice-read-y : tie.Need-shared-slice-read-y Inv-loop μ-loop
 shared-slice-read-y c = omega arith
 
--- src/words.rt:20:13
 starts-requires : tie.Need-starts-requires Inv-loop μ-loop
 starts-requires c κs = search needs
 
--- src/words.rt:21:13
 returns : tie.Need-returns Inv-loop μ-loop
 returns c = word-halt _ _ _ _ _ (c .before .before .before .before .loop .inv) (c .before .before .before .loop-test .taken) (sym (c .before .starts .ensures) ∙ not-true _ (c .if1 .taken))
 
--- src/words.rt:23:9
 add-from : tie.Need-add-from Inv-loop μ-loop
 add-from c = omega (arith, begins-in (caseClass (getD (c .before .before .before .before .before .before .before .args .w .now) (c .before .before .before .before .loop .i) 0)) (c .before .before .before .before .before .before .before .args .s .now) (c .before .before .before .before .loop .from) (sym (c .before .starts .ensures) ∙ not-false _ (c .if1 .left)))
 
--- src/words.rt:24:9
 add-i : tie.Need-add-i Inv-loop μ-loop
 add-i c = omega arith
 
--- src/words.rt:18:5
 loop-less : tie.Need-loop-less Inv-loop μ-loop
 loop-less c = omega arith
 
--- src/words.rt:18:5
 loop-again : tie.Need-loop-again Inv-loop μ-loop
 loop-again c = word-on _ _ _ _ _ (c .before .before .before .before .loop .inv) (c .before .before .before .loop-test .taken) (sym (c .before .starts .ensures) ∙ not-false _ (c .if1 .left))
 
--- src/words.rt:12:1
 returns-2 : tie.Need-returns-2 Inv-loop μ-loop
 returns-2 c = word-out _ _ _ _ _ (c .before .loop .inv) (c .loop-test .left)
 
