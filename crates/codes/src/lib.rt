@@ -1,0 +1,55 @@
+// Document 01's numbers: of a refusal, and number and place of what the reader answers.
+ghost use mathlib.Core.Path.{_≡_};
+ghost use Rattle.definitions.specs.Refusals.{numberOf, readNumber, readPlace};
+use definitions::answers::ReadOutcome;
+use definitions::answers::Refusal;
+
+// The number of a refusal.
+pub fn number_of(r: Refusal) -> u64
+    ensures { λ n. ⌜ n ≡ numberOf r ⌝ }
+{
+    match r {
+        Refusal::TextLength => 1,
+        Refusal::TextByte => 2,
+        Refusal::Opening => 3,
+        Refusal::NotDue => 4,
+        Refusal::NotListed => 5,
+        Refusal::Form => 6,
+        Refusal::Limit => 7,
+        Refusal::Again => 8,
+        Refusal::Orphan => 9,
+        Refusal::Unusable => 10,
+        Refusal::TooMany => 11,
+        Refusal::Missing => 12,
+        Refusal::IllFormed => 20,
+        Refusal::HouseLength => 21,
+        Refusal::ShortBuffer => 22,
+        Refusal::LentLength => 30,
+        Refusal::NotIpv4 => 31,
+        Refusal::Lengths => 32,
+        Refusal::Fragment => 33,
+        Refusal::Transport => 34,
+        Refusal::FieldSpan => 35,
+        Refusal::EarlierCount => 36,
+    }
+}
+
+// 0 for a text that reads.
+pub fn read_number(o: ReadOutcome) -> u64
+    ensures { λ n. ⌜ n ≡ readNumber o ⌝ }
+{
+    match o {
+        ReadOutcome::Accepted => 0,
+        ReadOutcome::Refused(r, _) => number_of(r),
+    }
+}
+
+// 0 for a text that reads.
+pub fn read_place(o: ReadOutcome) -> usize
+    ensures { λ p. ⌜ p ≡ readPlace o ⌝ }
+{
+    match o {
+        ReadOutcome::Accepted => 0,
+        ReadOutcome::Refused(_, p) => p,
+    }
+}
