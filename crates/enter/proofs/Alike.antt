@@ -8,6 +8,7 @@ use lib.ListN.{length}
 use Rattle.definitions.specs.declared.table.Flow.the-variants.{Any}
 use Rattle.definitions.specs.declared.table.Pattern as patterns
 use Rattle.definitions.specs.declared.table.Slot.{Slot}
+use Rattle.forms.proofs.Bools.{or-false}
 use Rattle.definitions.specs.Lists.{any?, count, padded}
 use Rattle.definitions.specs.Entries.{Modifier, Entry, Name, Protocol, Flow}
 use Rattle.definitions.specs.Tables.{bytesIn, slotsIn, modified}
@@ -16,7 +17,7 @@ use Rattle.entry.specs.declared.Room.{Room}
 use Rattle.enter.specs.declared.Given.{Given}
 use Rattle.enter.specs.declared.State.{State}
 use Rattle.enter.specs.State.{modifierAmong, givenIn}
-use Rattle.enter.proofs.Behind.{or-false, or-true, any-append, count-append, bytes-append, slots-append, latest-append}
+use Rattle.enter.proofs.Behind.{or-true, any-append, count-append, bytes-append, slots-append, latest-append}
 
 -- ---- two states whose fields are equal
 

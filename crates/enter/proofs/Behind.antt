@@ -8,6 +8,7 @@ use lib.ListN.{length, length-append}
 use Rattle.definitions.specs.declared.table.Flow.the-variants.{Any}
 use Rattle.definitions.specs.declared.table.Pattern as patterns
 use Rattle.definitions.specs.declared.table.Slot.{Slot}
+use Rattle.forms.proofs.Bools.{or-false}
 use Rattle.definitions.specs.Lists.{any?, keep, keepOne, count}
 use Rattle.definitions.specs.Entries.{Modifier, Entry, Name, Protocol, Flow, Test, Pattern, Modified}
 use Rattle.definitions.specs.Tables.{nameIn, protocolIn, flowIn, bytesIn, slotsIn, slotOf, modified, bare, with}
@@ -15,10 +16,6 @@ use Rattle.definitions.specs.Standing.{sameKind, isTest, isPattern, latest}
 use Rattle.enter.specs.State.{lastPlace}
 
 -- ---- tests over lists
-
-pub or-false : (a : Bool) → (a || false) ≡ a
-or-false true = refl
-or-false false = refl
 
 pub or-true : (a : Bool) → (a || true) ≡ true
 or-true true = refl

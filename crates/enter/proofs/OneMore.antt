@@ -7,7 +7,7 @@ use native.Mathlib.Omega.{arith}
 use lib.ListN.{length}
 use lib.Dec.{eqb, eqb·suc-zero}
 use Rattle.forms.proofs.Bools.{by-cases}
-use Rattle.definitions.specs.Limits.{patternsMost, testsMost, itemsMost}
+use Rattle.definitions.specs.Limits.{limits01, patternsMost, testsMost, itemsMost}
 use Rattle.definitions.specs.Lists.{any?, keep, keepOne, count}
 use Rattle.definitions.specs.Entries.{Entry}
 use Rattle.definitions.specs.Standing.{isTest, isPattern}
@@ -61,7 +61,7 @@ dashes-length (d ∷ said) = dash-kept (isPattern (d .entry)) d _ _ (dashes-leng
 
 -- behind one option more, from its entry, its dash and the counts
 pub holds-also : (said : List Said) (dash : ℕ) (e : Entry) (ds : List ℕ) (st : State) → dashesOf (saidAlso said dash e) ≡ ds
-    → st ≡ stateFrom 1024 (entriesOf said ++ (e ∷ [])) ds → count isPattern (entriesOf said ++ (e ∷ [])) ≤ patternsMost
+    → st ≡ stateFrom (limits01 .room) (entriesOf said ++ (e ∷ [])) ds → count isPattern (entriesOf said ++ (e ∷ [])) ≤ patternsMost
     → count isTest (entriesOf said ++ (e ∷ [])) ≤ testsMost
     → Holds (saidAlso said dash e) st
 holds-also said dash e ds st d k p t =

@@ -19,7 +19,7 @@ use Rattle.definitions.specs.declared.table.AddressTest.{AddressTest}
 use Rattle.definitions.specs.declared.table.Item.{Item}
 use Rattle.definitions.specs.declared.table.Item.the-variants as item
 use Rattle.definitions.specs.declared.table.Address.{Address}
-use Rattle.definitions.specs.Limits.{nameMost, patternsMost, testsMost, addressesMost}
+use Rattle.definitions.specs.Limits.{limits01, nameMost, patternsMost, testsMost, addressesMost}
 use Rattle.definitions.specs.Lists.{any?, keep, count, padded}
 use Rattle.definitions.specs.Refusals.{refuseIf}
 use Rattle.definitions.specs.Entries.{Modifier, Context, NoCase, Distance, Within, Entry, Name, Protocol, Flow, Test, Pattern, Modified}
@@ -67,77 +67,77 @@ already-is (Within w) es = refl
 module _ (said : List Said) (dash : ℕ) (hp : count isPattern (entriesOf said) ≤ patternsMost) (ht : count isTest (entriesOf said) ≤ testsMost) where
   -- an entry that is not counted
   uncounted : (e : Entry) (st : State) → isPattern e ≡ false → count isPattern (e ∷ []) ≡ 0 → count isTest (e ∷ []) ≡ 0
-      → st ≡ stateFrom 1024 (entriesOf said ++ (e ∷ [])) (dashesOf said) → Holds (saidAlso said dash e) st
+      → st ≡ stateFrom (limits01 .room) (entriesOf said ++ (e ∷ [])) (dashesOf said) → Holds (saidAlso said dash e) st
   uncounted e st d p t k =
       holds-also said dash e (dashesOf said) st (dashes-same said dash e d) k
       (omega (arith, count-same (entriesOf said) e isPattern p, hp))
       (omega (arith, count-same (entriesOf said) e isTest t, ht))
 
   pub name-outcome : (s : List ℕ) (from n : ℕ) → n ≤ nameMost → from + n ≤ length s
-      → Outcome said dash (Name (take n (drop from s))) (nameEntered s (stateOf 1024 said) from n)
+      → Outcome said dash (Name (take n (drop from s))) (nameEntered s (stateOf (limits01 .room) said) from n)
   unfolding nameEntered stateFrom dueFor keep
   name-outcome s from n h g =
       let x : List ℕ = take n (drop from s) in
       let l : length x ≡ n = length-take-le n (drop from s) (omega (arith, length-drop from s)) in
-      let named : ℕ → State = withName (stateOf 1024 said) (padded nameMost 0 x) in
+      let named : ℕ → State = withName (stateOf (limits01 .room) said) (padded nameMost 0 x) in
       record {
         due = refl;
         holds = λ f.
-            uncounted (Name x) (named n) refl refl refl (ap named (sym l) ∙ sym (name-step 1024 (entriesOf said) (dashesOf said) x (fine-only _ refusal.Again Fine f .0)));
+            uncounted (Name x) (named n) refl refl refl (ap named (sym l) ∙ sym (name-step (limits01 .room) (entriesOf said) (dashesOf said) x (fine-only _ refusal.Again Fine f .0)));
       }
 
-  pub protocol-outcome : (p : ℕ) → Outcome said dash (Protocol p) (protocolEntered (stateOf 1024 said) p)
+  pub protocol-outcome : (p : ℕ) → Outcome said dash (Protocol p) (protocolEntered (stateOf (limits01 .room) said) p)
   unfolding protocolEntered stateFrom dueFor keep
   protocol-outcome p =
       record {
         due = refl;
-        holds = λ f. uncounted (Protocol p) _ refl refl refl (sym (protocol-step 1024 (entriesOf said) (dashesOf said) p (fine-only _ refusal.Again Fine f .0)));
+        holds = λ f. uncounted (Protocol p) _ refl refl refl (sym (protocol-step (limits01 .room) (entriesOf said) (dashesOf said) p (fine-only _ refusal.Again Fine f .0)));
       }
 
-  pub flow-outcome : (w : flows.Flow) → Outcome said dash (Flow w) (flowEntered (stateOf 1024 said) w)
+  pub flow-outcome : (w : flows.Flow) → Outcome said dash (Flow w) (flowEntered (stateOf (limits01 .room) said) w)
   unfolding flowEntered stateFrom dueFor keep
   flow-outcome w =
       record {
         due = refl;
-        holds = λ f. uncounted (Flow w) _ refl refl refl (sym (flow-step 1024 (entriesOf said) (dashesOf said) w (fine-only _ refusal.Again Fine f .0)));
+        holds = λ f. uncounted (Flow w) _ refl refl refl (sym (flow-step (limits01 .room) (entriesOf said) (dashesOf said) w (fine-only _ refusal.Again Fine f .0)));
       }
 
   pub test-outcome : (it : Item) (al list : List Address) → length al ≤ addressesMost → list ≡ padded addressesMost noAddress al
-      → Outcome said dash (Test it al) (testEntered (stateOf 1024 said) it list)
+      → Outcome said dash (Test it al) (testEntered (stateOf (limits01 .room) said) it list)
   unfolding testEntered stateFrom dueFor keep
   test-outcome it al list h e =
       let es : List Entry = entriesOf said in
-      let st : State = withTest (stateOf 1024 said) (record { item = it; addresses = list }) in
+      let st : State = withTest (stateOf (limits01 .room) said) (record { item = it; addresses = list }) in
       let few : ltb addressesMost (length al) ≡ false = le-ltb addressesMost (length al) h in
-      outcome-if said dash (Test it al) (leb testsMost (count isTest es)) refusal.TooMany (stateOf 1024 said) (fineIn st)
+      outcome-if said dash (Test it al) (leb testsMost (count isTest es)) refusal.TooMany (stateOf (limits01 .room) said) (fineIn st)
       (λ t. rw (few, t))
       (λ f.
       let m : count isTest es < testsMost = leb-false testsMost (count isTest es) f in
       outcome-fine said dash (Test it al) st (rw (few, f))
       (holds-also said dash (Test it al) (dashesOf said) st (dashes-same said dash (Test it al) refl)
-      (ap (λ (l : List Address). withTest (stateOf 1024 said) (record { item = it; addresses = l })) e
-      ∙ sym (test-step 1024 es (dashesOf said) it al (omega (arith, slots-length es, hp, m))))
+      (ap (λ (l : List Address). withTest (stateOf (limits01 .room) said) (record { item = it; addresses = l })) e
+      ∙ sym (test-step (limits01 .room) es (dashesOf said) it al (omega (arith, slots-length es, hp, m))))
       (omega (arith, count-same es (Test it al) isPattern refl, hp))
       (omega (arith, count-new es (Test it al) isTest refl, m))))
 
   pub addresses-outcome : (a : AddressTest) (al list : List Address) → a .count ≡ length al
       → list ≡ padded addressesMost noAddress (take addressesMost al)
-      → Outcome said dash (Test (item.Address a) al) (addressesEntered (stateOf 1024 said) a list)
+      → Outcome said dash (Test (item.Address a) al) (addressesEntered (stateOf (limits01 .room) said) a list)
   unfolding addressesEntered dueFor
   addresses-outcome a al list h e =
-      outcome-if said dash (Test (item.Address a) al) (ltb addressesMost (a .count)) refusal.TooMany (stateOf 1024 said) (testEntered (stateOf 1024 said) (item.Address a) list)
+      outcome-if said dash (Test (item.Address a) al) (ltb addressesMost (a .count)) refusal.TooMany (stateOf (limits01 .room) said) (testEntered (stateOf (limits01 .room) said) (item.Address a) list)
       (λ t. rw (sym (ap (ltb addressesMost) h) ∙ t))
       (λ f.
       let m : length al ≤ addressesMost = omega (arith, ltb-false addressesMost (a .count) f, h) in
       test-outcome (item.Address a) al list m (e ∙ ap (padded addressesMost noAddress) (take-all addressesMost al m)))
 
   pub pattern-outcome : (neg : Bool) (n : ℕ) (b : List ℕ) (list : List Address) (room : Room) → n ≡ length b
-      → list ≡ padded addressesMost noAddress [] → room ≡ appended (stateOf 1024 said .room) b → stateOf 1024 said .room .used + length b ≤ 1024
-      → Outcome said dash (Pattern neg b) (patternEntered (stateOf 1024 said) dash neg n list room)
+      → list ≡ padded addressesMost noAddress [] → room ≡ appended (stateOf (limits01 .room) said .room) b → stateOf (limits01 .room) said .room .used + length b ≤ limits01 .room
+      → Outcome said dash (Pattern neg b) (patternEntered (stateOf (limits01 .room) said) dash neg n list room)
   unfolding patternEntered stateFrom dueFor keep
   pattern-outcome neg n b list room hn hl hr fits =
       let es : List Entry = entriesOf said in
-      let now : State = stateOf 1024 said in
+      let now : State = stateOf (limits01 .room) said in
       let st : State = withNewPattern now dash (record { item = item.Pattern (bare neg n); addresses = list }) room in
       outcome-if said dash (Pattern neg b) (leb patternsMost (count isPattern es)) refusal.TooMany now (fineIn st)
       (λ t. rw t)
@@ -147,11 +147,11 @@ module _ (said : List Said) (dash : ℕ) (hp : count isPattern (entriesOf said) 
       λ i. withNewPattern now dash (record { item = item.Pattern (bare neg (hn i)); addresses = hl i }) (hr i) in
       outcome-fine said dash (Pattern neg b) st (rw f)
       (holds-also said dash (Pattern neg b) (dashesOf said ++ (dash ∷ [])) st (dashes-new said dash (Pattern neg b) refl)
-      (e ∙ sym (pattern-step 1024 es (dashesOf said) neg b dash (omega (arith, slots-length es, ht, m)) (omega (arith, dashes-length said, m)) (dashes-length said) fits))
+      (e ∙ sym (pattern-step (limits01 .room) es (dashesOf said) neg b dash (omega (arith, slots-length es, ht, m)) (omega (arith, dashes-length said, m)) (dashes-length said) fits))
       (omega (arith, count-new es (Pattern neg b) isPattern refl, m))
       (omega (arith, count-same es (Pattern neg b) isTest refl, ht))))
 
-  pub modifier-outcome : (m : Modifier) → Outcome said dash (Modified m) (modifierEntered (stateOf 1024 said) m)
+  pub modifier-outcome : (m : Modifier) → Outcome said dash (Modified m) (modifierEntered (stateOf (limits01 .room) said) m)
   unfolding modifierBy stateFrom dueFor keep
   modifier-outcome m =
       let es : List Entry = entriesOf said in
@@ -159,5 +159,5 @@ module _ (said : List Said) (dash : ℕ) (hp : count isPattern (entriesOf said) 
         due = rw (already-is m es);
         holds = λ f.
             let some : any? isPattern es ≡ true = not-false (any? isPattern es) (sym (count-none isPattern es) ∙ fine-only (eqb (count isPattern es) 0) refusal.Orphan _ f .0) in
-            uncounted (Modified m) _ refl refl refl (sym (modifier-step 1024 es (dashesOf said) m some));
+            uncounted (Modified m) _ refl refl refl (sym (modifier-step (limits01 .room) es (dashesOf said) m some));
       }

@@ -15,7 +15,7 @@ use Rattle.definitions.specs.declared.answers.Reading.{Reading}
 use Rattle.definitions.specs.declared.packet.Last.the-variants.{Nothing}
 use Rattle.definitions.specs.declared.table.Address.{Address}
 use Rattle.definitions.specs.declared.table.Slot.{Slot}
-use Rattle.definitions.specs.Limits.{patternsMost, testsMost, itemsMost, addressesMost}
+use Rattle.definitions.specs.Limits.{limits01, patternsMost, testsMost, itemsMost, addressesMost}
 use Rattle.definitions.specs.Lists.{any?, count, padded}
 use Rattle.definitions.specs.Entries.{Context, NoCase, Distance, Within, Entry, Name, Protocol}
 use Rattle.definitions.specs.Tables.{slotsIn, noSlot, noAddress, patternsOf, tableOf}
@@ -42,7 +42,7 @@ no-addresses al list e h = h ∙ ap (λ (l : List Address). padded addressesMost
 
 module _ (said : List Said) (dash : ℕ) (hp : count isPattern (entriesOf said) ≤ patternsMost) (ht : count isTest (entriesOf said) ≤ testsMost) where
   value-outcome : (s : List ℕ) (v : Value) (list : List Address) (room : Room) (al : List Address) (b : List ℕ)
-      → Beside s (stateOf 1024 said) v list room al b → Outcome said dash (entryOf s v al b) (valueEntered s (stateOf 1024 said) dash v list room)
+      → Beside s (stateOf (limits01 .room) said) v list room al b → Outcome said dash (entryOf s v al b) (valueEntered s (stateOf (limits01 .room) said) dash v list room)
   unfolding entryOf valueEntered
   value-outcome s (value.Name from n) list room al b k = name-outcome said dash hp ht s from n (k .apart .1) (k .apart .2)
   value-outcome s (value.Protocol p) list room al b k = protocol-outcome said dash hp ht p
@@ -93,17 +93,17 @@ missing-by room es n r =
     rw (count-none (sameKind (Name [])) es, count-none (sameKind (Protocol 0)) es)
     (if-or (refusedReading room refusal.Missing n) r (not (any? (sameKind (Name [])) es)) (not (any? (sameKind (Protocol 0)) es)))
 
-judged-at : (said : List Said) (s : List ℕ) (n : ℕ) → length s ≡ n → judgedIn (stateOf 1024 said) n ≡ judged 1024 s said
+judged-at : (said : List Said) (s : List ℕ) (n : ℕ) → length s ≡ n → judgedIn (stateOf (limits01 .room) said) n ≡ judged (limits01 .room) s said
 unfolding judgedIn judged stateFrom tableIn tableOf
 judged-at said s n e =
     let es : List Entry = entriesOf said in
-    let u : usableHeld (stateOf 1024 said) ≡ usableIn es =
+    let u : usableHeld (stateOf (limits01 .room) said) ≡ usableIn es =
     ap (λ (l : List Slot). usableRun Nothing (patternsOf l)) (take-append-seam (slotsIn es) (replicate (itemsMost - length (slotsIn es)) noSlot)) in
     by-cases (ltb (usableIn es) (count isPattern es))
     (λ t.
     let m : usableIn es < length (dashesOf said) = omega (arith, ltb-true (usableIn es) (count isPattern es) t, dashes-length said) in
     rw (u, t, padded-at patternsMost 0 (dashesOf said) (usableIn es) 0 m))
-    (λ f. rw (u, f, e) (sym (missing-by 1024 es n (acceptedReading (tableOf 1024 es)))))
+    (λ f. rw (u, f, e) (sym (missing-by (limits01 .room) es n (acceptedReading (tableOf (limits01 .room) es)))))
 
 pub judged-right : (st : State) (n : ℕ) → JudgedRight st n (judgedIn st n)
 judged-right st n said s h e = rw (h .is) (judged-at said s n e)

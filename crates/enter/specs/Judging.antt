@@ -5,6 +5,7 @@ use mathlib.Core.List.{List}
 use lib.ListN.{getD, take}
 use lib.Dec.{ltb}
 use Rattle.forms.specs.Bytes.{if_then_else_}
+use Rattle.definitions.specs.Limits.{limits01}
 use Rattle.definitions.specs.declared.answers.Refusal.the-variants as refusal
 use Rattle.definitions.specs.declared.answers.Reading.{Reading}
 use Rattle.definitions.specs.declared.packet.Last.the-variants.{Nothing}
@@ -57,7 +58,7 @@ usableHeld st = usableRun Nothing (patternsOf (take (st .count) (st .items)))
 
 unfoldable pub judgedIn : State → ℕ → Reading
 judgedIn st n =
-    if ltb (usableHeld st) (st .patterns) then refusedReading 1024 refusal.Unusable (getD (st .dashes) (usableHeld st) 0)
-    else if not (st .given .name) then refusedReading 1024 refusal.Missing n
-    else if not (st .given .protocol) then refusedReading 1024 refusal.Missing n
+    if ltb (usableHeld st) (st .patterns) then refusedReading (limits01 .room) refusal.Unusable (getD (st .dashes) (usableHeld st) 0)
+    else if not (st .given .name) then refusedReading (limits01 .room) refusal.Missing n
+    else if not (st .given .protocol) then refusedReading (limits01 .room) refusal.Missing n
     else acceptedReading (tableIn st)

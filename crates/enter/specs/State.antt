@@ -10,7 +10,7 @@ use Rattle.definitions.specs.declared.answers.Due.the-variants.{Fine}
 use Rattle.definitions.specs.declared.answers.Reading.{Reading}
 use Rattle.definitions.specs.declared.table.Address.{Address}
 use Rattle.definitions.specs.declared.table.Flow.the-variants.{Any}
-use Rattle.definitions.specs.Limits.{nameMost, patternsMost, testsMost, itemsMost, addressesMost}
+use Rattle.definitions.specs.Limits.{limits01, nameMost, patternsMost, testsMost, itemsMost, addressesMost}
 use Rattle.definitions.specs.Lists.{any?, keep, count, padded}
 use Rattle.definitions.specs.Entries.{Modifier, Entry, Name, Protocol, Flow, Test, Pattern, Modified}
 use Rattle.definitions.specs.Tables.{nameIn, protocolIn, flowIn, bytesIn, slotsIn, noSlot, noAddress}
@@ -87,7 +87,7 @@ stateOf room said = stateFrom room (entriesOf said) (dashesOf said)
 
 -- it is that state, and no more was counted than a table holds
 pub record Holds (said : List Said) (st : State) : Type 0 where
-  pub is : st ≡ stateOf 1024 said
+  pub is : st ≡ stateOf (limits01 .room) said
   pub patterns : count isPattern (entriesOf said) ≤ patternsMost
   pub tests : count isTest (entriesOf said) ≤ testsMost
 
@@ -114,7 +114,7 @@ Apart s (value.Within w) al b = Alone al b
 pub record Beside (s : List ℕ) (st : State) (v : Value) (list : List Address) (room : Room) (al : List Address) (b : List ℕ) : Type 0 where
   pub addresses : list ≡ padded addressesMost noAddress (take addressesMost al)
   pub bytes : room ≡ appended (st .room) b
-  pub fits : st .room .used + length b ≤ 1024
+  pub fits : st .room .used + length b ≤ limits01 .room
   pub apart : Apart s v al b
 
 -- ---- the entries' contracts
@@ -144,4 +144,4 @@ pub record Finishable (st : State) : Type 0 where
 
 -- whichever options make the state, in whatever text of n bytes they stand
 abbrev pub JudgedRight : State → ℕ → Reading → Type 0
-JudgedRight st n r = (said : List Said) (s : List ℕ) → Holds said st → length s ≡ n → r ≡ judged 1024 s said
+JudgedRight st n r = (said : List Said) (s : List ℕ) → Holds said st → length s ≡ n → r ≡ judged (limits01 .room) s said

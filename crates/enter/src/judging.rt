@@ -3,7 +3,7 @@ ghost use mathlib.Core.Path.{_≡_};
 ghost use Prim.Native.Nat.{_<_, _≤_};
 ghost use lib.ListN.{getD, take};
 ghost use Rattle.definitions.specs.declared.packet.Last.the-variants.{Nothing};
-ghost use Rattle.definitions.specs.Limits.{itemsMost, patternsMost};
+ghost use Rattle.definitions.specs.Limits.{limits01, itemsMost, patternsMost};
 ghost use Rattle.definitions.specs.Tables.{kindOf, patternsOf};
 ghost use Rattle.definitions.specs.References.{usableRun};
 ghost use Rattle.definitions.specs.Reading.{refusedReading};
@@ -107,7 +107,7 @@ fn table_of(st: State) -> Table
 
 // A refusal with its place, and the table of a text that says nothing.
 pub fn refused(r: Refusal, place: usize) -> Reading
-    ensures { λ a. ⌜ a ≡ refusedReading 1024 r place ⌝ }
+    ensures { λ a. ⌜ a ≡ refusedReading (limits01 .room) r place ⌝ }
 {
     let none = fresh();
     let table = table_of(none);

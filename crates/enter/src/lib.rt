@@ -8,6 +8,7 @@ mod references;
 
 ghost use mathlib.Core.Path.{_≡_};
 ghost use mathlib.Core.List.{[]};
+ghost use Rattle.definitions.specs.Limits.{limits01};
 ghost use Rattle.enter.specs.State.{stateOf, Enterable, EnteredRight, Finishable, JudgedRight};
 ghost use Rattle.enter.specs.Entering.{Ready, valueEntered};
 use crate::counted::enter_addresses;
@@ -71,7 +72,7 @@ pub struct Entered {
 
 // Nothing was said.
 pub fn fresh() -> State
-    ensures { λ r. ⌜ r ≡ stateOf 1024 [] ⌝ }
+    ensures { λ r. ⌜ r ≡ stateOf (limits01 .room) [] ⌝ }
 {
     let none = Address {
         number: 0,

@@ -1,6 +1,6 @@
--- Truth values: by cases, and the two halves of a conjunction.
+-- Truth values: by cases, the two halves of a conjunction, and nothing more to choose from.
 use mathlib.Core.Path.{_≡_, refl}
-use mathlib.Core.Bool.{Bool, true, false, _&&_}
+use mathlib.Core.Bool.{Bool, true, false, _&&_, _||_}
 
 pub by-cases : {A : Type 0} (t : Bool) → (t ≡ true → A) → (t ≡ false → A) → A
 by-cases true f g = f refl
@@ -13,3 +13,7 @@ both-left false b e = e
 pub both-right : (a b : Bool) → (a && b) ≡ true → b ≡ true
 both-right true b e = e
 both-right false b e = cc
+
+pub or-false : (a : Bool) → (a || false) ≡ a
+or-false true = refl
+or-false false = refl

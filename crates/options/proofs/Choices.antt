@@ -5,6 +5,7 @@ use mathlib.Core.List.{List, [], _∷_}
 use Prim.Native.Nat.{ℕ, _+_, _≤_}
 use native.Mathlib.Omega.{arith}
 use lib.ListN.{length, drop}
+use Rattle.forms.proofs.Bools.{or-false}
 use Rattle.forms.specs.Bytes.{between}
 use Rattle.forms.specs.Form.{Class, has, Form}
 use Rattle.forms.specs.Scan.{begins}
@@ -12,7 +13,6 @@ use Rattle.forms.specs.Pieces.{skip, opt, sign}
 use Rattle.scan.specs.declared.cursor.Cursor.{Cursor}
 use Rattle.scan.specs.declared.cursor.Cursor.the-variants.{Going}
 use Rattle.scan.specs.Reads.{Reads}
-use Rattle.scan.proofs.Tests.{or-false}
 use Rattle.scan.proofs.Readings.{skip-reads, first-reads, second-reads, tell-reads}
 use Rattle.scan.proofs.AtPlace.{begins-in, sign-begun}
 

@@ -2,8 +2,7 @@
 use mathlib.Core.Path.{_≡_, refl, sym, subst}
 use mathlib.Core.Bool.{true}
 use mathlib.Core.List.{List, [], _∷_}
-use Prim.Native.Nat.{ℕ, zero, suc, _+_, _≤_}
-use native.Mathlib.Omega.{arith}
+use Prim.Native.Nat.{ℕ, zero, suc, _≤_}
 use lib.ListN.{length}
 use Rattle.forms.specs.Form.{Form}
 use Rattle.forms.specs.Scan.{fair}
@@ -48,10 +47,6 @@ plain-parses {f} {s} {at} {room} {v} {r} w h q p e =
       apart = λ n g. plain-apart s (v .value) p;
       grown = λ n g. grown-none w h q n g;
     })
-
--- a number that is at least j and not j is more
-pub past : (j k : ℕ) → j ≤ k → (k ≡ j → ⊥) → j + 1 ≤ k
-past j k h n = omega (arith, h, n)
 
 -- one byte of look-ahead decides in the form at every place
 forms-fair : (os : List Option) (k : ℕ) → allFair os ≡ true → fair (nthForm k os) ≡ true

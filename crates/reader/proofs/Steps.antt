@@ -5,6 +5,7 @@ use Prim.Native.Nat.{ℕ, _+_, _≤_}
 use native.Mathlib.Omega.{arith}
 use lib.ListN.{length, length-append}
 use Rattle.forms.specs.Place.{Is}
+use Rattle.definitions.specs.Limits.{limits01}
 use Rattle.definitions.specs.declared.answers.Due.{Due}
 use Rattle.definitions.specs.declared.answers.Due.the-variants.{Fine, No as Not}
 use Rattle.definitions.specs.declared.answers.Refusal.the-variants as refusal
@@ -78,6 +79,6 @@ pub going-inside : (s : List ℕ) (d : Cursor) (n : ℕ) → placeOf d ≤ lengt
 going-inside s d n h e = subst (λ (x : Cursor). placeOf x ≤ length s) e h
 
 -- before the first option
-pub fresh-holds : (st : State) → st ≡ stateOf 1024 [] → Holds [] st × (st .room .used ≤ 0)
+pub fresh-holds : (st : State) → st ≡ stateOf (limits01 .room) [] → Holds [] st × (st .room .used ≤ 0)
 unfolding stateFrom bytesIn keep
 fresh-holds st e = (record { is = e; patterns = omega arith; tests = omega arith }, (let z : st .room .used ≡ 0 = ap (λ (x : State). x .room .used) e in omega (arith, z)))

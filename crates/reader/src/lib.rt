@@ -26,7 +26,7 @@ pub mod turns;
 // The options of a text, from behind `F-SBID(` on.
 fn read_options(s: &[u8]) -> Reading
     requires { ⌜ (7 ≤ length (now s)) × (length (now s) ≤ limits01 .text) ⌝ }
-    ensures { λ r. ⌜ r ≡ finished 1024 (now (s .entry)) (options (now (s .entry)) (drop 7 (now (s .entry))) 0 7 []) ⌝ }
+    ensures { λ r. ⌜ r ≡ finished (limits01 .room) (now (s .entry)) (options (now (s .entry)) (drop 7 (now (s .entry))) 0 7 []) ⌝ }
 {
     let mut st = fresh();
     let mut at = 7;

@@ -18,9 +18,9 @@ use Rattle.definitions.specs.declared.table.Pattern as patterns
 use Rattle.definitions.specs.Limits.{addressesMost}
 use Rattle.definitions.specs.Lists.{all?, none?, padded}
 use Rattle.definitions.specs.Entries.{Modifier, Context, NoCase, Distance, Within, Entry, Name, Protocol, Flow, Test, Pattern, Modified}
-use Rattle.definitions.specs.Tables.{Kind, unused, addressed, patterned, plainTest, kindOf, bare, with, modified, noAddress, slotOf, slotsIn, bytesIn, patternFirst, patternsOf}
+use Rattle.definitions.specs.Tables.{kindOf, bare, with, modified, noAddress, slotOf, slotsIn, bytesIn, patternsOf}
 use Rattle.definitions.specs.WellFormed.{addressFits, addressUnused, distanceFits, withinFits, itemFits, addressesFit, slotFits, bytesOf}
-use Rattle.syntax.proofs.Counting.{noPattern, testOnly}
+use Rattle.syntax.proofs.Counting.{testOnly, skipped}
 use Rattle.roundtrip.proofs.Alls.{both, all-none, all-more, all-head, all-tail, all-append, all-replicate}
 use Rattle.roundtrip.proofs.Counts.{fewAddresses}
 use Rattle.roundtrip.proofs.Fits.{testFits, isByte, modifierFits, entryFits}
@@ -127,12 +127,6 @@ bytes-fit (Flow g ∷ es) t = bytes-fit es (all-tail entryFits (Flow g) es t)
 bytes-fit (Test it al ∷ es) t = bytes-fit es (all-tail entryFits (Test it al) es t)
 bytes-fit (Pattern n b ∷ es) t = all-append isByte b (bytesIn es) (both-right (leb 1 (length b)) (all? isByte b) (all-head entryFits (Pattern n b) es t)) (bytes-fit es (all-tail entryFits (Pattern n b) es t))
 bytes-fit (Modified m ∷ es) t = bytes-fit es (all-tail entryFits (Modified m) es t)
-
-skipped : (k : Kind) (ps : List patterns.Pattern) → noPattern k ≡ true → patternFirst k ps ≡ ps
-skipped unused ps t = refl
-skipped (addressed a) ps t = refl
-skipped (patterned p) ps t = never (cc)
-skipped plainTest ps t = refl
 
 -- the patterns' lengths are those of their bytes
 pub lengths-in : (es : List Entry) → all? testOnly es ≡ true → bytesOf (patternsOf (slotsIn es)) ≡ length (bytesIn es)

@@ -11,11 +11,10 @@ use borrow.Author.Tests.{eqb-true, ltb-true, ltb-false}
 use Rattle.forms.specs.Form.{Class, has, byte}
 use Rattle.forms.specs.Scan.{begins}
 use Rattle.forms.specs.Pieces.{sign, opt, mark}
-use Rattle.forms.proofs.Bools.{by-cases}
+use Rattle.forms.proofs.Bools.{by-cases, or-false}
 use Rattle.forms.proofs.Words.{span-one}
 use Rattle.scan.specs.declared.cursor.Cursor.the-variants.{Going, Stopped}
 use Rattle.scan.specs.Reads.{Reads}
-use Rattle.scan.proofs.Tests.{or-false}
 use Rattle.scan.proofs.Readings.{byte-reads, byte-stops, byte-ends, first-reads, second-reads, made-reads, tell-reads}
 
 module _ (c : Class) (s : List ℕ) (at : ℕ) where

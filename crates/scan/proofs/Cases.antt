@@ -7,9 +7,8 @@ use lib.Dec.{leb}
 use borrow.Author.Tests.{leb-true}
 use Rattle.forms.specs.Bytes.{between}
 use Rattle.forms.specs.Form.{has}
-use Rattle.forms.proofs.Bools.{by-cases, both-left}
+use Rattle.forms.proofs.Bools.{by-cases, both-left, or-false}
 use Rattle.scan.specs.Classes.{caseClass}
-use Rattle.scan.proofs.Tests.{or-false}
 
 pub case-same : (y b : ℕ) → between y y b ≡ true → true ≡ has (caseClass y) b
 unfolding has

@@ -1,10 +1,7 @@
 -- Tests of classes: how a chain of spans is decided.
-use mathlib.Core.Path.{_≡_, refl}
+use mathlib.Core.Path.{_≡_}
 use mathlib.Core.Bool.{Bool, true, false, _||_}
-
-pub or-false : (a : Bool) → (a || false) ≡ a
-or-false true = refl
-or-false false = refl
+use Rattle.forms.proofs.Bools.{or-false}
 
 pub second-of : (a b c : Bool) → a ≡ false → b ≡ true → true ≡ (a || (b || c))
 second-of a b c e f = rw (e, f)

@@ -116,7 +116,7 @@ options-tests (OptionsText.more t o) = rw (option-tests t) (options-tests o)
 
 -- ---- counts
 
-skipped : (k : Kind) (ps : List table.Pattern) → noPattern k ≡ true → patternFirst k ps ≡ ps
+pub skipped : (k : Kind) (ps : List table.Pattern) → noPattern k ≡ true → patternFirst k ps ≡ ps
 skipped unused ps t = refl
 skipped (addressed a) ps t = refl
 skipped (patterned p) ps t = never (cc)

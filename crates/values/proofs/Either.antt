@@ -3,10 +3,10 @@ use mathlib.Core.Path.{_≡_, refl, sym, _∙_}
 use mathlib.Core.Bool.{Bool, true, false, _||_}
 use mathlib.Core.List.{List, [], _∷_, _++_}
 use Prim.Native.Nat.{ℕ}
+use Rattle.forms.proofs.Bools.{or-false}
 use Rattle.forms.specs.Bytes.{between}
 use Rattle.forms.specs.Form.{Class, has}
 use Rattle.forms.specs.Scan.{begins}
-use Rattle.scan.proofs.Tests.{or-false}
 
 pub in-this : (a b : Bool) → a ≡ true → true ≡ (a || b)
 in-this a b e = rw e

@@ -1,4 +1,5 @@
 use Prim.Native.Nat.{ℕ}
+use Rattle.definitions.specs.Limits.{limits01}
 use Rattle.definitions.specs.declared.answers.Refusal.the-variants.{TextByte}
 use Rattle.definitions.specs.Reading.{refusedReading}
 use mathlib.Core.Path.{sym, ap, _∙_}
@@ -28,7 +29,7 @@ refused-requires-3 : tie.Need-refused-requires-3
 refused-requires-3 c κs = search needs
 
 returns-3 : tie.Need-returns-3
-returns-3 c = c .refused3 .ensures ∙ ap (λ (n : ℕ). refusedReading 1024 TextByte n) (c .before .before .printable-run .ensures) ∙ sym (read-byte (c .before .before .before .before .before .before .args .s .now) (c .before .before .before .before .if1 .left) (c .before .before .before .if2 .left) (let e = c .before .before .printable-run .ensures in let h = c .before .if3 .taken in omega (arith, e, h)))
+returns-3 c = c .refused3 .ensures ∙ ap (λ (n : ℕ). refusedReading (limits01 .room) TextByte n) (c .before .before .printable-run .ensures) ∙ sym (read-byte (c .before .before .before .before .before .before .args .s .now) (c .before .before .before .before .if1 .left) (c .before .before .before .if2 .left) (let e = c .before .before .printable-run .ensures in let h = c .before .if3 .taken in omega (arith, e, h)))
 
 is-opened-requires : tie.Need-is-opened-requires
 is-opened-requires c κs = search needs

@@ -4,6 +4,7 @@ use mathlib.Core.List.{List, []}
 use Prim.Native.Nat.{_-_, _≤_}
 use borrow.Author.Needs.{needs}
 use lib.ListN.{length, drop}
+use Rattle.definitions.specs.Limits.{limits01}
 use Rattle.definitions.specs.Reading.{Said, options, finished}
 use Rattle.enter.specs.State.{Holds}
 use Rattle.reader.specs.declared.turns.Turn.{Turn}
@@ -56,7 +57,7 @@ finish-requires : tie.Need-finish-requires Inv-loop μ-loop
 finish-requires c κs = let i = c .before .before .before .before .before .before .before .loop .inv in let g = subst (λ (t : Turn). GoesTo (c .before .before .before .before .before .before .before .before .before .before .args .s .now) (i .0) (c .before .before .before .before .before .before .before .loop .at) t (c .before .before .before .turn-at .result .state)) (c .enum-told .given .1) (c .before .before .before .turn-at .ensures (i .0) (i .1) (i .2)) in record { said = i .0; holds = g .1 }
 
 returns : tie.Need-returns Inv-loop μ-loop
-returns c = let i = c .before .before .before .before .before .before .before .before .loop .inv in let g = subst (λ (t : Turn). GoesTo (c .before .before .before .before .before .before .before .before .before .before .before .args .s .now) (i .0) (c .before .before .before .before .before .before .before .before .loop .at) t (c .before .before .before .before .turn-at .result .state)) (c .before .enum-told .given .1) (c .before .before .before .before .turn-at .ensures (i .0) (i .1) (i .2)) in c .finish .ensures (i .0) (c .before .before .before .before .before .before .before .before .before .before .before .args .s .now) (g .1) refl ∙ sym (ap (finished 1024 (c .before .before .before .before .before .before .before .before .before .before .before .args .s .now)) (i .4 ∙ g .0))
+returns c = let i = c .before .before .before .before .before .before .before .before .loop .inv in let g = subst (λ (t : Turn). GoesTo (c .before .before .before .before .before .before .before .before .before .before .before .args .s .now) (i .0) (c .before .before .before .before .before .before .before .before .loop .at) t (c .before .before .before .before .turn-at .result .state)) (c .before .enum-told .given .1) (c .before .before .before .before .turn-at .ensures (i .0) (i .1) (i .2)) in c .finish .ensures (i .0) (c .before .before .before .before .before .before .before .before .before .before .before .args .s .now) (g .1) refl ∙ sym (ap (finished (limits01 .room) (c .before .before .before .before .before .before .before .before .before .before .before .args .s .now)) (i .4 ∙ g .0))
 
 enum-known-turn-2 : tie.Need-enum-known-turn-2 Inv-loop μ-loop
 enum-known-turn-2 c = search needs
@@ -65,13 +66,13 @@ refused-requires : tie.Need-refused-requires Inv-loop μ-loop
 refused-requires c κs = search needs
 
 returns-2 : tie.Need-returns-2 Inv-loop μ-loop
-returns-2 c = let i = c .before .before .before .before .before .before .before .before .before .loop .inv in let g = subst (λ (t : Turn). GoesTo (c .before .before .before .before .before .before .before .before .before .before .before .before .args .s .now) (i .0) (c .before .before .before .before .before .before .before .before .before .loop .at) t (c .before .before .before .before .before .turn-at .result .state)) (c .before .before .turn2 .given .1) (c .before .before .before .before .before .turn-at .ensures (i .0) (i .1) (i .2)) in c .refused .ensures ∙ sym (ap (finished 1024 (c .before .before .before .before .before .before .before .before .before .before .before .before .args .s .now)) (i .4 ∙ g))
+returns-2 c = let i = c .before .before .before .before .before .before .before .before .before .loop .inv in let g = subst (λ (t : Turn). GoesTo (c .before .before .before .before .before .before .before .before .before .before .before .before .args .s .now) (i .0) (c .before .before .before .before .before .before .before .before .before .loop .at) t (c .before .before .before .before .before .turn-at .result .state)) (c .before .before .turn2 .given .1) (c .before .before .before .before .before .turn-at .ensures (i .0) (i .1) (i .2)) in c .refused .ensures ∙ sym (ap (finished (limits01 .room) (c .before .before .before .before .before .before .before .before .before .before .before .before .args .s .now)) (i .4 ∙ g))
 
 refused-requires-2 : tie.Need-refused-requires-2 Inv-loop μ-loop
 refused-requires-2 c κs = search needs
 
 returns-3 : tie.Need-returns-3 Inv-loop μ-loop
-returns-3 c = let i = c .before .before .loop .inv in c .refused2 .ensures ∙ sym (ap (finished 1024 (c .before .before .before .before .before .args .s .now)) (i .4 ∙ loop-out (c .before .before .before .before .before .args .s .now) (c .before .before .loop .at) (i .0) (c .before .loop-test .left)))
+returns-3 c = let i = c .before .before .loop .inv in c .refused2 .ensures ∙ sym (ap (finished (limits01 .room) (c .before .before .before .before .before .args .s .now)) (i .4 ∙ loop-out (c .before .before .before .before .before .args .s .now) (c .before .before .loop .at) (i .0) (c .before .loop-test .left)))
 
 pub read-options-spec : {M : Type 1} → statement M
 read-options-spec =

@@ -3,7 +3,7 @@ use Prim.Native.Nat.{_≤_}
 use native.Mathlib.Omega.{arith}
 use Rattle.definitions.specs.Options.{optionTable}
 use Rattle.reader.specs.Parsing.{nthForm}
-use Rattle.reader.proofs.Plainly.{past}
+use Rattle.names.proofs.Same.{past}
 use Rattle.reader.proofs.places.plain_option.Statement.{statement}
 use Rattle.reader.proofs.places.plain_option.Tie as tie
 

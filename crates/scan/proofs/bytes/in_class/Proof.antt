@@ -1,5 +1,5 @@
 use mathlib.Core.Path.{sym, _∙_}
-use Rattle.scan.proofs.Tests.{or-false}
+use Rattle.forms.proofs.Bools.{or-false}
 use Rattle.forms.specs.Form.{has}
 use borrow.Author.Needs.{needs}
 use Rattle.scan.proofs.bytes.in_class.Statement.{statement}
