@@ -19,13 +19,14 @@ pub fn place(c: Cursor) -> usize
     }
 }
 
+// Behind a number beyond its limit at the place: where the form stops later, that comes first (6 before 7).
 fn far(place: usize, d: Cursor) -> Cursor
     ensures { λ r. ⌜ r ≡ farBy place d ⌝ }
 {
     match d {
         Cursor::Going(at) => Cursor::Over(place, at),
         Cursor::Over(_, at) => Cursor::Over(place, at),
-        Cursor::Stopped(at) => Cursor::Stopped(at),
+        Cursor::Stopped(stop) => Cursor::Stopped(stop),
     }
 }
 
