@@ -1,15 +1,14 @@
 -- The buffer named is the definitions' buffer, so a part of it is the field's, and what passes it passes.
-use mathlib.Core.Path.{_≡_, refl, sym, ap, _∙_, subst}
+use mathlib.Core.Path.{_≡_, refl, ap, _∙_, subst}
 use mathlib.Core.List.{List}
 use Prim.Native.Nat.{ℕ}
 use denote.Ref.{RefT, now}
 use Rattle.definitions.specs.declared.table.Context.{Context}
 use Rattle.definitions.specs.declared.table.Context.the-variants as context
 use Rattle.definitions.specs.declared.packet.FieldMap.{FieldMap}
-use Rattle.definitions.specs.Fields.{bufferOf, spanOf, passes, shown, cut, fieldSpan, fieldOf, fieldPasses}
-use Rattle.fields.specs.declared.places.Place.{Place}
+use Rattle.definitions.specs.Fields.{bufferOf, spanOf, shown, cut, fieldSpan, fieldOf}
 use Rattle.fields.specs.Parts.{PartOf}
-use Rattle.fields.specs.Places.{chosen, lentOf, placeOf}
+use Rattle.fields.specs.Places.{lentOf}
 
 -- `lentOf` takes of any two the one that `bufferOf` takes
 pub lent-buffer : {A : Type 0} (f : A → List ℕ) (payload decoded : A) (c : Context) → f (lentOf payload decoded c) ≡ bufferOf (f payload) (f decoded) c

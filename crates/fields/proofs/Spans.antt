@@ -1,5 +1,5 @@
 -- A span's end is compared without a sum that could wrap; what a span shows lies within its buffer.
-use mathlib.Core.Path.{_≡_, refl, sym, ap, _∙_}
+use mathlib.Core.Path.{_≡_, refl}
 use mathlib.Core.Bool.{Bool, true, false}
 use mathlib.Core.List.{List}
 use Prim.Native.Nat.{ℕ, _+_, _-_, _≤_, _<_}
@@ -11,7 +11,7 @@ use denote.Ref.{RefT, ptr, now}
 use Rattle.definitions.specs.declared.packet.Span.{Span}
 use Rattle.definitions.specs.declared.packet.FieldSpan.{FieldSpan}
 use Rattle.definitions.specs.declared.packet.FieldSpan.the-variants.{Absent, At}
-use Rattle.definitions.specs.Fields.{shown, cut}
+use Rattle.definitions.specs.Fields.{shown}
 use Rattle.fields.specs.Parts.{PartOf}
 
 module _ (n start len : ℕ) where

@@ -1,0 +1,4 @@
+-- Header fields over their width, what the refusals leave, and the payload's place.
+pub mod Widths
+pub mod Passed
+pub mod Payloads

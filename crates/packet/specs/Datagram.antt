@@ -1,0 +1,34 @@
+-- A datagram by itself, and its payload's place in the packet. Sections "Packet and fields" and "Numbers of refusal".
+use Prim.Native.Nat.{ℕ, _-_}
+use mathlib.Core.List.{List}
+use lib.Dec.{ltb}
+use Rattle.forms.specs.Bytes.{if_then_else_}
+use Rattle.definitions.specs.declared.packet.Facts.{Facts}
+use Rattle.definitions.specs.declared.packet.FieldSpan.{FieldSpan}
+use Rattle.definitions.specs.declared.packet.FieldSpan.the-variants.{Absent, At}
+use Rattle.definitions.specs.declared.answers.Refusal.the-variants as refusal
+use Rattle.definitions.specs.declared.answers.Due.{Due}
+use Rattle.definitions.specs.declared.answers.Due.the-variants.{Fine}
+use Rattle.definitions.specs.declared.answers.PacketAnswer.{PacketAnswer}
+use Rattle.definitions.specs.Refusals.{refuseIf}
+use Rattle.definitions.specs.Packet.{isFragment, transportShort, packetBy}
+use Rattle.definitions.specs.Fields.{shown, cut}
+
+-- 33 and 34, the last two of `packetDue`, are the datagram's own
+abbrev pub datagramDue : List ℕ → Due
+datagramDue d = refuseIf (isFragment d) refusal.Fragment (refuseIf (transportShort d) refusal.Transport Fine)
+
+unfoldable pub datagramAnswer : List ℕ → PacketAnswer
+datagramAnswer d = packetBy (datagramDue d) d
+
+-- from a start up to an end; no span where the end comes first
+abbrev pub spanBetween : ℕ → ℕ → FieldSpan
+spanBetween start end = if ltb end start then Absent else At (record { start = start; len = end - start })
+
+-- the payload reaches from its start up to the total length; the rest of the packet is padding
+abbrev pub payloadSpan : Facts → FieldSpan
+payloadSpan f = spanBetween (f .payload) (f .total)
+
+-- its bytes in a packet; none where they don't lie in it
+unfoldable pub payloadPart : List ℕ → Facts → List ℕ
+payloadPart p f = cut (shown (payloadSpan f) p) p

@@ -1,0 +1,2 @@
+-- What the contracts of `packet` cite besides the definitions.
+pub mod Datagram

@@ -1,0 +1,113 @@
+// One IPv4 packet: refusals 30 to 34 in order, the datagram's facts by value, and its payload as a part of the packet.
+ghost use mathlib.Core.Path.{_≡_};
+ghost use Rattle.definitions.specs.Packet.{factsOf, packetAnswer};
+ghost use Rattle.definitions.specs.Fields.{shown};
+ghost use Rattle.fields.specs.Parts.{PartOf};
+ghost use Rattle.packet.specs.Datagram.{datagramAnswer, spanBetween, payloadSpan, payloadPart};
+
+mod header;
+mod reading;
+mod transport;
+
+use crate::header::header_length;
+use crate::header::is_fragment;
+use crate::header::lent_too_long;
+use crate::header::not_ipv4;
+use crate::header::total_length;
+use crate::header::wrong_lengths;
+use crate::reading::wide8;
+use crate::reading::wide16;
+use crate::reading::wide32;
+use crate::transport::port_at;
+use crate::transport::protocol_of;
+use crate::transport::transport_length;
+use crate::transport::transport_short;
+use definitions::answers::PacketAnswer;
+use definitions::answers::Refusal;
+use definitions::packet::Facts;
+use definitions::packet::FieldSpan;
+use definitions::packet::Span;
+use fields::parts::part_of;
+
+// The facts of a datagram.
+fn facts_of(d: &[u8]) -> Facts
+    ensures { λ r. ⌜ r ≡ factsOf (now (d .entry)) ⌝ }
+{
+    let total = total_length(d);
+    let payload = header_length(d) + transport_length(d);
+    let protocol = protocol_of(d);
+    let tos = wide8(d, 1);
+    let id = wide16(d, 4);
+    let ttl = wide8(d, 8);
+    let checksum = wide16(d, 10);
+    let source = wide32(d, 12);
+    let destination = wide32(d, 16);
+    let sport = port_at(d, 0);
+    let dport = port_at(d, 2);
+    Facts {
+        total,
+        payload,
+        protocol,
+        tos,
+        id,
+        ttl,
+        checksum,
+        source,
+        destination,
+        sport,
+        dport,
+    }
+}
+
+// Refusals 33 and 34, which look at the datagram alone, or its facts.
+fn datagram_facts(d: &[u8]) -> PacketAnswer
+    ensures { λ r. ⌜ r ≡ datagramAnswer (now (d .entry)) ⌝ }
+{
+    if is_fragment(d) {
+        return PacketAnswer::Refused(Refusal::Fragment);
+    }
+    if transport_short(d) {
+        return PacketAnswer::Refused(Refusal::Transport);
+    }
+    PacketAnswer::Seen(facts_of(d))
+}
+
+// THE PACKET: the facts of the datagram in a lent packet, or the first due of 30 to 34.
+pub fn packet_facts(p: &[u8], decoded: &[u8]) -> PacketAnswer
+    ensures { λ r. ⌜ r ≡ packetAnswer (now (p .entry)) (now (decoded .entry)) ⌝ }
+{
+    if lent_too_long(p, decoded) {
+        return PacketAnswer::Refused(Refusal::LentLength);
+    }
+    if not_ipv4(p) {
+        return PacketAnswer::Refused(Refusal::NotIpv4);
+    }
+    if wrong_lengths(p) {
+        return PacketAnswer::Refused(Refusal::Lengths);
+    }
+    let total = total_length(p);
+    datagram_facts(&p[0..total])
+}
+
+// From a start up to an end; no span where the end comes first.
+fn span_between(start: usize, end: usize) -> FieldSpan
+    ensures { λ r. ⌜ r ≡ spanBetween start end ⌝ }
+{
+    if end < start {
+        return FieldSpan::Absent;
+    }
+    FieldSpan::At(Span {
+        start,
+        len: end - start,
+    })
+}
+
+// The payload, at its own place in the packet. Padding is not payload. The empty part at the packet's start, where the facts are not this packet's
+// and their numbers don't lie in it.
+pub fn payload_of<'a>(p: &'a [u8], f: Facts) -> &'a [u8]
+    ensures bytes { λ r. ⌜ now r ≡ payloadPart (now (p .entry)) f ⌝ }
+    ensures part { λ r. ⌜ PartOf (p .entry) (shown (payloadSpan f) (now (p .entry))) r ⌝ }
+{
+    let span = span_between(f.payload, f.total);
+    part_of(p, span)
+}

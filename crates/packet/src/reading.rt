@@ -1,0 +1,48 @@
+// Header fields are read by one function over their width; behind the bytes' end stand zeros, as in the definitions.
+ghost use mathlib.Core.Path.{_≡_};
+ghost use Prim.Native.Nat.{_≤_};
+ghost use lib.ListN.{getD};
+ghost use Rattle.definitions.specs.Packet.{wide};
+
+fn byte_at(d: &[u8], at: usize) -> u8
+    ensures { λ r. ⌜ r ≡ getD (now (d .entry)) at 0 ⌝ }
+{
+    if at < d.len() { d[at] } else { 0 }
+}
+
+// The number that the n bytes at a place write, big end first.
+fn wide_at(d: &[u8], at: usize, n: usize) -> u64
+    requires { ⌜ (at ≤ 255) × (n ≤ 4) ⌝ }
+    ensures { λ r. ⌜ r ≡ wide n (now (d .entry)) at ⌝ }
+{
+    let mut v: u64 = 0;
+    let mut i = 0;
+    while i < n {
+        let b = byte_at(d, at + i);
+        v = v * 256 + (b as u64);
+        i += 1;
+    }
+    v
+}
+
+// One byte, two and four.
+pub fn wide8(d: &[u8], at: usize) -> u8
+    requires { ⌜ at ≤ 255 ⌝ }
+    ensures { λ r. ⌜ r ≡ wide 1 (now (d .entry)) at ⌝ }
+{
+    wide_at(d, at, 1) as u8
+}
+
+pub fn wide16(d: &[u8], at: usize) -> u16
+    requires { ⌜ at ≤ 255 ⌝ }
+    ensures { λ r. ⌜ r ≡ wide 2 (now (d .entry)) at ⌝ }
+{
+    wide_at(d, at, 2) as u16
+}
+
+pub fn wide32(d: &[u8], at: usize) -> u32
+    requires { ⌜ at ≤ 255 ⌝ }
+    ensures { λ r. ⌜ r ≡ wide 4 (now (d .entry)) at ⌝ }
+{
+    wide_at(d, at, 4) as u32
+}
