@@ -5,7 +5,7 @@ ghost use Rattle.fields.specs.Parts.{PartOf};
 ghost use Rattle.fields.specs.Places.{chosen, lentOf};
 
 pub mod parts;
-pub mod places;
+mod places;
 
 use crate::parts::is_at;
 use crate::parts::part_of;

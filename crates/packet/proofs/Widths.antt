@@ -19,9 +19,11 @@ module _ (d : List ℕ) (bytes : (k : ℕ) → getD d k 0 < 256) (at : ℕ) wher
   wide-below zero = omega arith
   wide-below (suc n) = let h = wide-below n in let b = bytes (at + n) in rw (pow-suc 256 n) (omega arith)
 
-  -- up to four bytes
-  pub wide-fits : (n : ℕ) → n ≤ 4 → wide n d at < 4294967296
-  wide-fits n h = let most : 256 ^ n ≤ 256 ^ 4 = pow-le-pow-right (omega arith) h in omega (arith, wide-below n)
+  -- a byte more, up to four bytes
+  pub more-fits : (n v b : ℕ) → v ≡ wide n d at → b ≡ getD d (at + n) 0 → n + 1 ≤ 4 → v * 256 + b < 4294967296
+  more-fits n v b ev eb h =
+      let most : 256 ^ (n + 1) ≤ 256 ^ 4 = pow-le-pow-right (omega arith) h in
+      omega (arith, wide-below (n + 1), wide-more n d at)
 
 -- what is read inside the datagram is what is read in the packet
 pub wide-take : (n k : ℕ) (d : List ℕ) (at : ℕ) → at + n ≤ k → wide n (take k d) at ≡ wide n d at

@@ -1,11 +1,11 @@
 -- The loop has read the first i bytes of the field; a field of at most four bytes is below 2 ^ 32, so nothing wraps.
-use Prim.Native.Nat.{ℕ, _+_, _-_, _≤_, _<_}
+use Prim.Native.Nat.{ℕ, _-_, _≤_, _<_}
 use lib.ListN.{getD}
 use mathlib.Core.Path.{_≡_, refl, ap, _∙_}
 use native.Mathlib.Omega.{arith}
 use borrow.Author.Needs.{needs}
 use Rattle.definitions.specs.Packet.{wide}
-use Rattle.packet.proofs.Widths.{wide-more, wide-fits}
+use Rattle.packet.proofs.Widths.{wide-more, more-fits}
 use Rattle.packet.proofs.reading.wide_at.Statement.{statement}
 use Rattle.packet.proofs.reading.wide_at.Tie as tie
 
@@ -29,10 +29,7 @@ mul-v : tie.Need-mul-v Inv-loop μ-loop
 mul-v c =
     let a = c .before .before .before .before .args in
     let bytes : (k : ℕ) → getD (a .d .now) k 0 < 256 = λ k. c .before .before .before .shared-slice-known .given k .fits in
-    let v = c .before .before .loop .inv .1 in
-    let b = c .byte-at .ensures in
-    let most = wide-fits (a .d .now) bytes (a .at) (c .before .before .loop .i + 1) (omega (arith, c .before .before .before .before .pre .1)) in
-    omega (arith, v, b, most, wide-more (c .before .before .loop .i) (a .d .now) (a .at))
+    omega (arith, more-fits (a .d .now) bytes (a .at) _ _ _ (c .before .before .loop .inv .1) (c .byte-at .ensures) (omega (arith, c .before .before .before .before .pre .1)))
 
 cast-v : tie.Need-cast-v Inv-loop μ-loop
 cast-v c = search needs
@@ -41,10 +38,7 @@ add-v : tie.Need-add-v Inv-loop μ-loop
 add-v c =
     let a = c .before .before .before .before .args in
     let bytes : (k : ℕ) → getD (a .d .now) k 0 < 256 = λ k. c .before .before .before .shared-slice-known .given k .fits in
-    let v = c .before .before .loop .inv .1 in
-    let b = c .byte-at .ensures in
-    let most = wide-fits (a .d .now) bytes (a .at) (c .before .before .loop .i + 1) (omega (arith, c .before .before .before .before .pre .1)) in
-    omega (arith, v, b, most, wide-more (c .before .before .loop .i) (a .d .now) (a .at))
+    omega (arith, more-fits (a .d .now) bytes (a .at) _ _ _ (c .before .before .loop .inv .1) (c .byte-at .ensures) (omega (arith, c .before .before .before .before .pre .1)))
 
 add-i : tie.Need-add-i Inv-loop μ-loop
 add-i c = omega arith
