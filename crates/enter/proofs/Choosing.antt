@@ -1,17 +1,9 @@
--- A choice by a test that is known, with the test left as it stands elsewhere; and by one test or another.
+-- A choice by one test or another.
 use mathlib.Core.Path.{_≡_, refl}
-use mathlib.Core.Bool.{Bool, true, false, _||_, false≢true, true≢false}
+use mathlib.Core.Bool.{Bool, true, false, _||_}
 use Rattle.forms.specs.Bytes.{if_then_else_}
 
 module _ {A : Type 0} (a b : A) where
-  pub if-true : (t : Bool) → t ≡ true → (if t then a else b) ≡ a
-  if-true true e = refl
-  if-true false e = absurd (false≢true e)
-
-  pub if-false : (t : Bool) → t ≡ false → (if t then a else b) ≡ b
-  if-false true e = absurd (true≢false e)
-  if-false false e = refl
-
   pub if-or : (s t : Bool) → (if (s || t) then a else b) ≡ (if s then a else if t then a else b)
   if-or true t = refl
   if-or false t = refl

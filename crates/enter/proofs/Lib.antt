@@ -4,8 +4,6 @@ pub mod Choosing
 pub mod Padding
 pub mod Behind
 pub mod LastPattern
-pub mod OtherItems
-pub mod ToCome
 pub mod Alike
 pub mod Steps
 pub mod OneMore

@@ -4,7 +4,6 @@ mod counted;
 pub mod judging;
 mod modifiers;
 mod once;
-mod references;
 
 ghost use mathlib.Core.Path.{_≡_};
 ghost use mathlib.Core.List.{[]};

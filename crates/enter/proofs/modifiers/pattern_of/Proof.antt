@@ -2,7 +2,7 @@
 use mathlib.Core.Path.{_≡_, refl, _∙_}
 use Rattle.definitions.specs.Tables.{Kind, bare}
 use mathlib.Core.Bool.{false}
-use Rattle.enter.proofs.OtherItems.{other-kind}
+use Rattle.references.proofs.OtherItems.{other-kind}
 use Rattle.enter.specs.Entering.{patternOf, patternIn}
 use borrow.Author.Needs.{needs}
 use Rattle.enter.proofs.modifiers.pattern_of.Statement.{statement}

@@ -1,0 +1,163 @@
+// Which references of one pattern are usable, behind the last positive pattern before it.
+ghost use mathlib.Core.Path.{_≡_};
+ghost use lib.IntN.{pos};
+ghost use lib.Signed.{leZ};
+ghost use Rattle.definitions.specs.References.{contextNumber, referenceNumber, lastAfter, lastIn, referenceUsable, reverseUsable, distanceUsable, withinUsable, referencesAlike, usable};
+use definitions::packet::Last;
+use definitions::packet::Match;
+use definitions::table::Context;
+use definitions::table::Distance;
+use definitions::table::Pattern;
+use definitions::table::Reference;
+use definitions::table::Shift;
+use definitions::table::Within;
+
+fn context_number(c: Context) -> u8
+    ensures { λ r. ⌜ r ≡ contextNumber c ⌝ }
+{
+    match c {
+        Context::Packet => 0,
+        Context::Uri => 1,
+        Context::Header => 2,
+        Context::Body => 3,
+        Context::Banner => 4,
+        Context::Host => 5,
+        Context::File => 6,
+    }
+}
+
+fn reference_number(r: Reference) -> u8
+    ensures { λ k. ⌜ k ≡ referenceNumber r ⌝ }
+{
+    match r {
+        Reference::Match => 0,
+        Reference::Packet => 1,
+        Reference::Context => 2,
+    }
+}
+
+// The last positive pattern, behind `p`.
+pub fn last_after(last: Last, p: Pattern) -> Last
+    ensures { λ r. ⌜ r ≡ lastAfter last p 0 ⌝ }
+{
+    if p.negated {
+        return last;
+    }
+    let context = p.context;
+    Last::Was(Match {
+        context,
+        end: p.len,
+    })
+}
+
+// The last positive pattern, if there is one, stands in the context.
+fn last_in(last: Last, c: Context) -> bool
+    ensures { λ r. ⌜ r ≡ lastIn last c ⌝ }
+{
+    match last {
+        Last::Nothing => true,
+        Last::Was(m) => {
+            let context = m.context;
+            let a = context_number(context);
+            let b = context_number(c);
+            a == b
+        }
+    }
+}
+
+fn reference_usable(last: Last, c: Context, r: Reference) -> bool
+    ensures { λ t. ⌜ t ≡ referenceUsable last c r ⌝ }
+{
+    match r {
+        Reference::Match => last_in(last, c),
+        Reference::Packet => context_number(c) == 0,
+        Reference::Context => true,
+    }
+}
+
+fn not_negative(offset: i32) -> bool
+    ensures { λ r. ⌜ r ≡ leZ (pos 0) offset ⌝ }
+{
+    0 <= offset
+}
+
+fn reverse_usable(d: Shift) -> bool
+    ensures { λ r. ⌜ r ≡ reverseUsable d ⌝ }
+{
+    if !d.reverse {
+        return true;
+    }
+    let reference = d.reference;
+    if reference_number(reference) == 0 {
+        return false;
+    }
+    not_negative(d.offset)
+}
+
+fn distance_usable(last: Last, c: Context, distance: Distance) -> bool
+    ensures { λ r. ⌜ r ≡ distanceUsable last c distance ⌝ }
+{
+    match distance {
+        Distance::Free => true,
+        Distance::By(d) => {
+            let reference = d.reference;
+            if reference_usable(last, c, reference) {
+                reverse_usable(d)
+            } else {
+                false
+            }
+        }
+    }
+}
+
+fn within_usable(last: Last, c: Context, within: Within) -> bool
+    ensures { λ r. ⌜ r ≡ withinUsable last c within ⌝ }
+{
+    match within {
+        Within::Free => true,
+        Within::Of(w) => {
+            let reference = w.reference;
+            reference_usable(last, c, reference)
+        }
+    }
+}
+
+fn same_reference(d: Shift, within: Within) -> bool
+    ensures { λ r. ⌜ r ≡ referencesAlike (Distance.By d) within ⌝ }
+{
+    match within {
+        Within::Free => true,
+        Within::Of(w) => {
+            let first = d.reference;
+            let second = w.reference;
+            let a = reference_number(first);
+            let b = reference_number(second);
+            a == b
+        }
+    }
+}
+
+fn references_alike(distance: Distance, within: Within) -> bool
+    ensures { λ r. ⌜ r ≡ referencesAlike distance within ⌝ }
+{
+    match distance {
+        Distance::Free => true,
+        Distance::By(d) => same_reference(d, within),
+    }
+}
+
+// The references of `p` behind the last positive pattern.
+pub fn is_usable(last: Last, p: Pattern) -> bool
+    ensures { λ r. ⌜ r ≡ usable last p ⌝ }
+{
+    let c = p.context;
+    let distance = p.distance;
+    let within = p.within;
+    if !distance_usable(last, c, distance) {
+        return false;
+    }
+    if !within_usable(last, c, within) {
+        return false;
+    }
+    references_alike(distance, within)
+}
