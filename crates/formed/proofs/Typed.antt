@@ -1,0 +1,17 @@
+-- What a value's type rules out: a number of one or two bytes is within its limit.
+use mathlib.Core.Path.{_≡_, refl}
+use mathlib.Core.Bool.{true}
+use native.Mathlib.Omega.{arith}
+use borrow.Author.Tests.{le-leb}
+use mir.Val.{WT}
+use denote.Enum.Laws.{val}
+use Rattle.definitions.specs.declared.table.Within.{Within}
+use Rattle.definitions.specs.declared.table.Within.the-variants as within
+use Rattle.definitions.specs.Limits.{wordMost}
+use Rattle.definitions.specs.WellFormed.{withinFits}
+use Rattle.definitions.proofs.table.Within as within-type
+use Rattle.definitions.proofs.table.Within.Laws as within-laws
+
+pub reach-fits : (w : Within) → WT (val within-type.the-type within-laws.the-laws w) → withinFits w ≡ true
+reach-fits within.Free k = refl
+reach-fits (within.Of r) k = le-leb (r .number) wordMost (omega (arith, k .1 .0 .0))
