@@ -12,7 +12,7 @@ use Rattle.definitions.specs.declared.table.Pattern.{Pattern}
 use Rattle.definitions.specs.declared.table.Slot.{Slot}
 use Rattle.definitions.specs.Tables.{Kind, unused, addressed, patterned, plainTest, kindOf, patternFirst, patternsOf}
 use Rattle.definitions.specs.WellFormed.{bytesOf}
-use Rattle.formed.proofs.Passing.{first-here, first-out}
+use Rattle.references.proofs.Firsts.{first-here, first-out}
 
 -- what one slot adds
 abbrev pub countIn : Slot → ℕ
@@ -55,11 +55,11 @@ module _ (items : List Slot) (count i : ℕ) where
   module _ (n : ℕ) (d : Slot) (h : i < count) (g : count ≤ length items) where
     pub count-on : n ≡ countIn (getD items i d) → length (patternsOf (drop i (take count items))) ≡ n + length (patternsOf (drop (i + 1) (take count items)))
     unfolding patternsOf
-    count-on e = rw (first-here items i d count h g, e) (length-first (kindOf (getD items i d .item)) (patternsOf (drop (i + 1) (take count items))))
+    count-on e = rw (first-here items count i d h g, e) (length-first (kindOf (getD items i d .item)) (patternsOf (drop (i + 1) (take count items))))
 
     bytes-on : n ≡ bytesIn (getD items i d) → bytesOf (patternsOf (drop i (take count items))) ≡ n + bytesOf (patternsOf (drop (i + 1) (take count items)))
     unfolding patternsOf
-    bytes-on e = rw (first-here items i d count h g, e) (bytes-first (kindOf (getD items i d .item)) (patternsOf (drop (i + 1) (take count items))))
+    bytes-on e = rw (first-here items count i d h g, e) (bytes-first (kindOf (getD items i d .item)) (patternsOf (drop (i + 1) (take count items))))
 
     module _ (r : Bool) (left : ℕ) (k : r ≡ eqb left (bytesOf (patternsOf (drop i (take count items))))) (e : n ≡ bytesIn (getD items i d)) where
       pub bytes-short : left < n → r ≡ false

@@ -1,6 +1,6 @@
 -- Numbers: bits gathered from bytes are none where each byte is zero; and a signed number's size by two comparisons.
 use mathlib.Core.Path.{_≡_, refl, sym, _∙_}
-use mathlib.Core.Bool.{Bool, true, false, _&&_, true≢false}
+use mathlib.Core.Bool.{Bool, true, false, _&&_, true≢false, and-true, and-assoc}
 use mathlib.Core.List.{List}
 use Prim.Native.Nat.{ℕ, suc, _+_, _≤_, _<_}
 use native.Mathlib.Omega.{arith}
@@ -24,18 +24,10 @@ no-bits a b = go (eqb a 0) refl (eqb b 0) refl
     go false e t f = ne-eqb (bitOr a b) 0 (λ z. eqb-false a 0 e (omega (arith, or-add-and a b, and-le-l a b, and-le-r a b, z)))
 
 -- the loop's step and its end, where r is what it has to find out
-and-grouped : (a b c : Bool) → (a && (b && c)) ≡ ((a && b) && c)
-and-grouped true b c = refl
-and-grouped false b c = refl
-
-pub and-true : (a : Bool) → (a && true) ≡ a
-and-true true = refl
-and-true false = refl
-
 module _ (r : Bool) (s : List ℕ) (bits i : ℕ) (e : r ≡ (eqb bits 0 && all? isZero (drop i s))) where
   pub gather-on : i < length s → r ≡ (eqb (bitOr bits (getD s i 0)) 0 && all? isZero (drop (i + 1) s))
   unfolding all?
-  gather-on h = e ∙ rw (drop-here s i 0 h, no-bits bits (getD s i 0)) (and-grouped (eqb bits 0) (isZero (getD s i 0)) (all? isZero (drop (i + 1) s)))
+  gather-on h = e ∙ rw (drop-here s i 0 h, no-bits bits (getD s i 0)) (sym (and-assoc (eqb bits 0) (isZero (getD s i 0)) (all? isZero (drop (i + 1) s))))
 
   pub gather-out : length s ≤ i → r ≡ eqb bits 0
   unfolding all?

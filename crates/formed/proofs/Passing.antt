@@ -3,25 +3,15 @@ use mathlib.Core.Path.{_≡_, refl, _∙_}
 use mathlib.Core.Bool.{Bool, true, false}
 use mathlib.Core.List.{List, [], _∷_}
 use Prim.Native.Nat.{ℕ, zero, suc, _+_, _≤_, _<_}
-use native.Mathlib.Omega.{arith}
 use native.Mathlib.Numerals.{add-one}
-use lib.ListN.{length, getD, take, drop, length-take, drop-of-length-le}
-use lib.Seq.{drop-cons, getD-take, length-take-le}
+use lib.ListN.{length, getD, take, drop, drop-of-length-le}
+use lib.Seq.{drop-cons}
 use Rattle.definitions.specs.Lists.{all?}
+use Rattle.references.proofs.Firsts.{first-here, first-out}
 
-module _ {A : Type 0} (l : List A) (i : ℕ) (d : A) where
-  -- the element at a place, and those behind it; and the same among the first n
-  pub drop-here : i < length l → drop i l ≡ getD l i d ∷ drop (i + 1) l
-  drop-here h = rw add-one (drop-cons l i d h)
-
-  pub first-here : (n : ℕ) → i < n → n ≤ length l → drop i (take n l) ≡ getD l i d ∷ drop (i + 1) (take n l)
-  first-here n h g =
-      let m : i < length (take n l) = omega (arith, length-take-le n l g) in
-      rw (add-one, drop-cons (take n l) i d m, getD-take n l i d h)
-
--- behind the first n there is nothing
-pub first-out : {A : Type 0} (l : List A) (n i : ℕ) → n ≤ i → drop i (take n l) ≡ []
-first-out l n i h = drop-of-length-le (take n l) {i = i} (omega (arith, length-take n l))
+-- the element at a place, and those behind it
+pub drop-here : {A : Type 0} (l : List A) (i : ℕ) (d : A) → i < length l → drop i l ≡ getD l i d ∷ drop (i + 1) l
+drop-here l i d h = rw add-one (drop-cons l i d h)
 
 module _ {A : Type 0} (f : A → Bool) where
   all-on : (x : A) (a b : List A) → a ≡ x ∷ b → f x ≡ true → all? f a ≡ all? f b
@@ -50,10 +40,10 @@ module _ {A : Type 0} (f : A → Bool) where
   -- among the first n
   module _ (r : Bool) (l : List A) (n i : ℕ) (e : r ≡ all? f (drop i (take n l))) where
     pub first-on : (d : A) → i < n → n ≤ length l → f (getD l i d) ≡ true → r ≡ all? f (drop (i + 1) (take n l))
-    first-on d h g t = e ∙ all-on (getD l i d) _ _ (first-here l i d n h g) t
+    first-on d h g t = e ∙ all-on (getD l i d) _ _ (first-here l n i d h g) t
 
     pub first-not : (d : A) → i < n → n ≤ length l → f (getD l i d) ≡ false → r ≡ false
-    first-not d h g t = e ∙ all-not (getD l i d) _ _ (first-here l i d n h g) t
+    first-not d h g t = e ∙ all-not (getD l i d) _ _ (first-here l n i d h g) t
 
     pub first-all : n ≤ i → r ≡ true
     first-all h = e ∙ all-none _ (first-out l n i h)

@@ -1,4 +1,6 @@
--- Laws that belong to no one function: a choice by a known test, items that are no pattern, and the count and what is still to come.
+-- Laws that belong to no one function: a choice by a known test, the first elements of a list, items that are no pattern, and the count with
+-- what is still to come.
 pub mod Choosing
+pub mod Firsts
 pub mod OtherItems
 pub mod ToCome

@@ -2,12 +2,10 @@
 use mathlib.Core.Path.{_≡_, refl, sym, ap, subst, _∙_}
 use mathlib.Core.Bool.{false}
 use mathlib.Core.List.{List, [], _∷_}
-use Prim.Native.Nat.{ℕ, suc, _+_, _≤_, _<_}
+use Prim.Native.Nat.{ℕ, _+_, _≤_, _<_}
 use native.Mathlib.Omega.{arith}
 use native.Mathlib.Nat.{add-zero, zero-add, le-refl}
-use native.Mathlib.Numerals.{add-one}
-use lib.ListN.{length, getD, take, drop, length-take, drop-of-length-le}
-use lib.Seq.{drop-cons, getD-take, length-take-le}
+use lib.ListN.{length, getD, take, drop}
 use Rattle.forms.specs.Bytes.{if_then_else_}
 use Rattle.forms.proofs.Bools.{by-cases}
 use Rattle.definitions.specs.declared.packet.Last.the-variants.{Nothing}
@@ -17,6 +15,7 @@ use Rattle.definitions.specs.Tables.{Kind, unused, addressed, patterned, plainT
 use Rattle.definitions.specs.References.{usable, usableRun}
 use Rattle.references.specs.declared.counting.Run.{Run}
 use Rattle.references.proofs.Choosing.{if-true, if-false}
+use Rattle.references.proofs.Firsts.{first-here, first-out}
 use Rattle.references.specs.Counting.{onward, past, pastOpen, toCome}
 
 pub none-passed : (sls : List Slot) → toCome (record { count = 0; last = Nothing; ended = false }) sls ≡ usableRun Nothing (patternsOf sls)
@@ -58,12 +57,10 @@ item-on run sl sls =
 -- one item more of the `count` items in use
 pub slot-on : (run : Run) (items : List Slot) (count i : ℕ) (d : Slot) → i < count → count ≤ length items
     → toCome run (drop i (take count items)) ≡ toCome (past (kindOf (getD items i d .item)) run) (drop (i + 1) (take count items))
-slot-on run items count i d h g =
-    let m : i < length (take count items) = omega (arith, length-take-le count items g) in
-    rw (add-one, drop-cons (take count items) i d m, getD-take count items i d h) (item-on run (getD items i d) (drop (suc i) (take count items)))
+slot-on run items count i d h g = rw (first-here items count i d h g) (item-on run (getD items i d) (drop (i + 1) (take count items)))
 
 pub slots-end : (run : Run) (items : List Slot) (count i : ℕ) → count ≤ i → toCome run (drop i (take count items)) ≡ run .count
-slots-end run items count i h = rw (drop-of-length-le (take count items) {i = i} (omega (arith, length-take count items))) (all-passed run)
+slots-end run items count i h = rw (first-out items count i h) (all-passed run)
 
 -- the count rises by one at most
 onward-count : (run : Run) (p : Pattern) → onward run p .count ≤ run .count + 1

@@ -1,9 +1,9 @@
 -- Each return rewrites with the test that led there; a reach is within its limit by its type.
+use mathlib.Core.Bool.{and-true}
 use native.Mathlib.Omega.{arith}
 use borrow.Author.Tests.{lt-ltb, le-ltb}
 use borrow.Author.Needs.{needs}
 use Rattle.definitions.specs.WellFormed.{distanceFits, itemFits}
-use Rattle.formed.proofs.Numbers.{and-true}
 use Rattle.formed.proofs.Typed.{reach-fits}
 use Rattle.formed.proofs.items.pattern_fits.Statement.{statement}
 use Rattle.formed.proofs.items.pattern_fits.Tie as tie
