@@ -1,6 +1,6 @@
 -- The starts of a window are those of a span.
 use mathlib.Core.Path.{_≡_, refl, sym}
-use mathlib.Core.Bool.{Bool, true, false, _&&_}
+use mathlib.Core.Bool.{Bool, true, false, _&&_, and-false}
 use Prim.Native.Nat.{ℕ, _+_, _-_, _≤_, _<_, min}
 use native.Mathlib.Omega.{arith}
 use lib.Dec.{ltb, leb}
@@ -24,10 +24,6 @@ same-test : (a b : Bool) → (a ≡ true → b ≡ true) → (b ≡ true → a �
 same-test true b f g = sym (f refl)
 same-test false true f g = g refl
 same-test false false f g = refl
-
-and-false : (a : Bool) → (a && false) ≡ false
-and-false true = refl
-and-false false = refl
 
 -- n bytes from a start on end by an end within the length
 span : (s n len end at : ℕ) → end ≤ len → (leb s at && leb (at + n) end) ≡ (leb (min s (len + 1)) at && ltb at (end + 1 - n))

@@ -1,6 +1,6 @@
 -- The starts of a list that pass a test, start by start; and where a pattern lies, by the span of its window.
 use mathlib.Core.Path.{_≡_, refl, ap, _∙_}
-use mathlib.Core.Bool.{Bool, true, false, _&&_}
+use mathlib.Core.Bool.{Bool, true, false, and-false}
 use mathlib.Core.List.{List, [], _∷_}
 use Prim.Native.Nat.{ℕ, zero, suc, _+_, _-_, _≤_, _<_}
 use native.Mathlib.Omega.{arith}
@@ -74,11 +74,7 @@ module _ (p : Pattern) (b : List ℕ) (l : Last) (f : List ℕ) (w : Window) (s 
 
   lies-behind : w .to ≤ at → lies p b l f at ≡ false
   unfolding lies
-  lies-behind h = rw (s .exact at, le-ltb at (w .to) h) (either (leb (w .from) at))
-    where
-      either : (a : Bool) → ((a && false) && standsAt (p .nocase) b (drop at f)) ≡ false
-      either true = refl
-      either false = refl
+  lies-behind h = rw (s .exact at, le-ltb at (w .to) h, and-false (leb (w .from) at))
 
 -- the bytes b stand in the field at a start
 abbrev pub standing : Bool → List ℕ → List ℕ → ℕ → Bool
