@@ -1,0 +1,68 @@
+-- A negated pattern, by whether its field is present; a field is no longer than its buffer.
+use mathlib.Core.Path.{_≡_, refl, ap}
+use mathlib.Core.Bool.{Bool, true, false}
+use mathlib.Core.List.{List, [], _∷_}
+use Prim.Native.Nat.{ℕ, suc, _≤_, _<_}
+use native.Mathlib.Omega.{arith}
+use lib.ListN.{length, drop, length-take, length-drop}
+use Rattle.definitions.specs.declared.table.Context.{Context}
+use Rattle.definitions.specs.declared.table.Context.the-variants as context
+use Rattle.definitions.specs.declared.table.Pattern.{Pattern}
+use Rattle.definitions.specs.declared.packet.Facts.{Facts}
+use Rattle.definitions.specs.declared.packet.FieldMap.{FieldMap}
+use Rattle.definitions.specs.declared.packet.Last.{Last}
+use Rattle.definitions.specs.declared.packet.Span.{Span}
+use Rattle.definitions.specs.Lists.{keep, keepOne, none?}
+use Rattle.definitions.specs.Fields.{present, bufferOf, fieldSpan, fieldOf, cut}
+use Rattle.definitions.specs.Windows.{lies}
+use Rattle.definitions.specs.Placements.{upFrom, liesIn, starts, nowhereHolds}
+use Rattle.windows.specs.Spans.{sizeBound, Measured, placesOf}
+use Rattle.meaning.specs.Seen.{seen, Bounded}
+
+-- ---- lengths
+
+cut-short : (sp : Span) (b : List ℕ) → length (cut sp b) ≤ length b
+cut-short sp b = omega (arith, length-take (sp .len) (drop (sp .start) b), length-drop (sp .start) b)
+
+buffer-short : (s d : List ℕ) (c : Context) → length s < sizeBound → length d < sizeBound → length (bufferOf s d c) < sizeBound
+buffer-short s d context.Packet h k = h
+buffer-short s d context.Uri h k = k
+buffer-short s d context.Header h k = k
+buffer-short s d context.Body h k = h
+buffer-short s d context.Banner h k = h
+buffer-short s d context.Host h k = k
+buffer-short s d context.File h k = h
+
+field-short : (s d : List ℕ) (m : FieldMap) (c : Context) → length s < sizeBound → length d < sizeBound → length (fieldOf s d m c) < sizeBound
+unfolding fieldOf
+field-short s d m c h k = omega (arith, cut-short (fieldSpan s d m c) (bufferOf s d c), buffer-short s d c h k)
+
+pub measured : (s d : List ℕ) (m : FieldMap) (p : Pattern) (l : Last) (f : List ℕ) → Bounded s d p l → f ≡ fieldOf s d m (p .context) → Measured p l (length f)
+measured s d m p l f b e =
+    record {
+      field = rw e (field-short s d m (p .context) (b .payload) (b .decoded));
+      last = b .last;
+      pattern = b .pattern;
+    }
+
+-- ---- negated patterns
+
+keep-alike : (f g : ℕ → Bool) (l : List ℕ) → ((x : ℕ) → f x ≡ g x) → keep f l ≡ keep g l
+unfolding keep
+keep-alike f g [] h = refl
+keep-alike f g (x ∷ l) h = rw (h x) (ap (keepOne (g x) x) (keep-alike f g l h))
+
+module _ (v : Facts) (s d : List ℕ) (m : FieldMap) (p : Pattern) (b : List ℕ) (l : Last) where
+  pub nowhere-absent : present m (p .context) ≡ false → false ≡ nowhereHolds (seen v s d m) p b l
+  unfolding nowhereHolds
+  nowhere-absent e = rw e
+
+  starts-present : present m (p .context) ≡ true → starts (seen v s d m) p b l ≡ placesOf p b l (fieldOf s d m (p .context))
+  unfolding starts liesIn
+  starts-present e =
+      keep-alike (liesIn (seen v s d m) p b l) (lies p b l (fieldOf s d m (p .context))) (upFrom 0 (suc (length (fieldOf s d m (p .context)))))
+      (λ x. rw e)
+
+  pub nowhere-present : present m (p .context) ≡ true → (f : List ℕ) (r : Bool) → f ≡ fieldOf s d m (p .context) → r ≡ none? (placesOf p b l f) → r ≡ nowhereHolds (seen v s d m) p b l
+  unfolding nowhereHolds
+  nowhere-present e f r q h = rw (e, starts-present e, ← q) h

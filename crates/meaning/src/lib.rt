@@ -1,0 +1,48 @@
+// When an item holds: every test by one function, a negated pattern, and a table's protocol and flow.
+mod addresses;
+pub mod heads;
+mod lengths;
+pub mod negated;
+mod numbers;
+
+ghost use mathlib.Core.Path.{_≡_};
+ghost use Rattle.definitions.specs.Tests.{testHolds};
+ghost use Rattle.meaning.specs.Seen.{seen};
+use crate::addresses::address_holds;
+use crate::addresses::same_ip;
+use crate::lengths::at_holds;
+use crate::lengths::size_holds;
+use crate::numbers::field_holds;
+use crate::numbers::number_holds;
+use crate::numbers::ttl_holds;
+use definitions::limits::ADDRESSES;
+use definitions::packet::Facts;
+use definitions::packet::FieldMap;
+use definitions::packet::Last;
+use definitions::table::Address;
+use definitions::table::Item;
+
+// Whether a test holds behind the last positive pattern. A slot that is not in use, and a pattern, are no tests.
+pub fn test_holds<'a>(
+    f: Facts,
+    payload: &'a [u8],
+    decoded: &'a [u8],
+    m: FieldMap,
+    item: Item,
+    addresses: [Address; ADDRESSES],
+    last: Last,
+) -> bool
+    ensures { λ r. ⌜ r ≡ testHolds (seen f (now (payload .entry)) (now (decoded .entry)) m) item addresses last ⌝ }
+{
+    match item {
+        Item::Unused => false,
+        Item::Address(a) => address_holds(f, a, addresses),
+        Item::SameIp => same_ip(f),
+        Item::Number(t) => number_holds(f, t),
+        Item::Ttl(t) => ttl_holds(f, t),
+        Item::Field(t) => field_holds(f, t),
+        Item::Size(t) => size_holds(payload, decoded, m, t),
+        Item::At(t) => at_holds(payload, decoded, m, t, last),
+        Item::Pattern(_) => false,
+    }
+}
