@@ -57,7 +57,8 @@ module _ (v : Facts) (s d : List ℕ) (m : FieldMap) (p : Pattern) (b : List ℕ
   unfolding nowhereHolds
   nowhere-absent e = rw e
 
-  starts-present : present m (p .context) ≡ true → starts (seen v s d m) p b l ≡ placesOf p b l (fieldOf s d m (p .context))
+  -- the starts of a pattern on a present field
+  pub starts-present : present m (p .context) ≡ true → starts (seen v s d m) p b l ≡ placesOf p b l (fieldOf s d m (p .context))
   unfolding starts liesIn
   starts-present e =
       keep-alike (liesIn (seen v s d m) p b l) (lies p b l (fieldOf s d m (p .context))) (upFrom 0 (suc (length (fieldOf s d m (p .context)))))

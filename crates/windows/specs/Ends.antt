@@ -1,4 +1,4 @@
--- How the code gets from signed numbers to starts.
+-- How the code gets from the signed start and end of a window to starts. Document 01, section "Meaning".
 use Prim.Native.Nat.{ℕ, _+_, _-_, _<_, min}
 use mathlib.Core.Path.{_≡_}
 use lib.IntN.{ℤ, pos, negsuc, _+ℤ_}
