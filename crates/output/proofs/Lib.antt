@@ -1,0 +1,3 @@
+-- Laws that the proofs of `output` and of the crates above cite.
+pub mod Putting
+pub mod Decimals

@@ -1,0 +1,59 @@
+-- What is put in parts is put as a whole.
+use mathlib.Core.Path.{_≡_, refl, sym, ap, subst, _∙_}
+use mathlib.Core.List.{List, [], _∷_, _++_}
+use Prim.Native.Nat.{ℕ, suc, _+_, _≤_, _<_}
+use native.Mathlib.Numerals.{add-one}
+use native.Mathlib.Nat.{not-suc-le-zero}
+use lib.ListN.{length, set, getD, drop, length-set, drop-of-length-le}
+use lib.Seq.{drop-cons}
+use Rattle.output.specs.Puts.{counted, puts, Puts}
+
+-- ---- one byte
+
+pub one-put : (out : List ℕ) (at b next : ℕ) → next ≡ counted at → Puts out at (b ∷ []) (set out at b) next
+unfolding puts
+one-put out at b next e = ap (λ (n : ℕ). (set out at b, n)) e
+
+-- past the end nothing is kept
+pub set-past : (out : List ℕ) (at b : ℕ) → length out ≤ at → set out at b ≡ out
+set-past [] at b h = refl
+set-past (x ∷ out) Prim.Native.Nat.zero b h = absurd (not-suc-le-zero h)
+set-past (x ∷ out) (suc at) b h = ap (λ (l : List ℕ). x ∷ l) (set-past out at b (native.Mathlib.Nat.le-of-suc-le-suc h))
+
+pub one-past : (out : List ℕ) (at b next : ℕ) → length out ≤ at → next ≡ counted at → Puts out at (b ∷ []) out next
+unfolding puts
+one-past out at b next h e = ap (λ (l : List ℕ). (l, next)) (sym (set-past out at b h)) ∙ one-put out at b next e
+
+-- ---- parts
+
+pub none-put : (out : List ℕ) (at : ℕ) → Puts out at [] out at
+unfolding puts
+none-put out at = refl
+
+pub puts-append : (out : List ℕ) (at : ℕ) (k l : List ℕ) → puts out at (k ++ l) ≡ puts (puts out at k .0) (puts out at k .1) l
+unfolding puts
+puts-append out at [] l = refl
+puts-append out at (b ∷ k) l = puts-append (set out at b) (counted at) k l
+
+-- one behind the other
+pub then : (out : List ℕ) (at : ℕ) (k l : List ℕ) {o o' : List ℕ} {n n' : ℕ} → Puts out at k o n → Puts o n l o' n' → Puts out at (k ++ l) o' n'
+then out at k l e e' = e' ∙ ap (λ (p : List ℕ × ℕ). puts (p .0) (p .1) l) e ∙ sym (puts-append out at k l)
+
+-- the buffer keeps its length
+pub puts-length : (out : List ℕ) (at : ℕ) (l : List ℕ) → length (puts out at l .0) ≡ length out
+unfolding puts
+puts-length out at [] = refl
+puts-length out at (b ∷ l) = puts-length (set out at b) (counted at) l ∙ length-set out at b
+
+pub same-length : (out : List ℕ) (at : ℕ) (l : List ℕ) {o : List ℕ} {n : ℕ} → Puts out at l o n → length o ≡ length out
+same-length out at l e = ap (λ (p : List ℕ × ℕ). length (p .0)) e ∙ puts-length out at l
+
+-- ---- a list, byte by byte
+
+pub put-on : (out : List ℕ) (at : ℕ) (w : List ℕ) (i : ℕ) {o : List ℕ} {n : ℕ} → i < length w → Puts out at (getD w i 0 ∷ []) o n → puts out at (drop i w) ≡ puts o n (drop (i + 1) w)
+unfolding puts
+put-on out at w i h e = rw (drop-cons w i 0 h, add-one i) (ap (λ (p : List ℕ × ℕ). puts (p .0) (p .1) (drop (suc i) w)) (sym e))
+
+pub put-all : (out : List ℕ) (at : ℕ) (w : List ℕ) (i : ℕ) → length w ≤ i → puts out at (drop i w) ≡ (out, at)
+unfolding puts
+put-all out at w i h = rw (drop-of-length-le w h)

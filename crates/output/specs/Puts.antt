@@ -1,0 +1,24 @@
+-- Bytes put one behind the other into a lent buffer.
+use Prim.Native.Nat.{ℕ, suc}
+use mathlib.Core.Path.{_≡_}
+use mathlib.Core.List.{List, [], _∷_}
+use lib.Dec.{ltb}
+use lib.ListN.{set}
+use Rattle.forms.specs.Bytes.{if_then_else_}
+
+-- so many bytes are counted; whoever writes takes that many for too many
+abbrev pub countedMost : ℕ
+countedMost = 4294967295
+
+-- the place behind one byte more
+unfoldable pub counted : ℕ → ℕ
+counted at = if ltb at countedMost then suc at else at
+
+-- the buffer and the next place behind some bytes; past the buffer's end none is kept
+unfoldable pub puts : List ℕ → ℕ → List ℕ → List ℕ × ℕ
+puts out at [] = (out, at)
+puts out at (b ∷ l) = puts (set out at b) (counted at) l
+
+-- the bytes l were put into the buffer out from a place on, which made it after; the next place is next
+abbrev pub Puts : List ℕ → ℕ → List ℕ → List ℕ → ℕ → Type 0
+Puts out at l after next = (after, next) ≡ puts out at l

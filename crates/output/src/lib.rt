@@ -1,0 +1,50 @@
+// Bytes put one behind the other into a lent buffer. A byte past its end is counted and not kept, so one pass both measures and writes.
+ghost use mathlib.Core.List.{[], _∷_};
+ghost use Rattle.definitions.specs.House.{decimal};
+ghost use mathlib.Core.Path.{_≡_};
+ghost use Rattle.output.specs.Puts.{counted, Puts};
+
+// So many bytes are counted: no sum wraps, whatever is put.
+pub const COUNTED: usize = 4294967295;
+
+fn next_place(at: usize) -> usize
+    ensures { λ r. ⌜ r ≡ counted at ⌝ }
+{
+    if at < COUNTED { at + 1 } else { at }
+}
+
+// One byte.
+pub fn put(out: &mut [u8], at: usize, b: u8) -> usize
+    ensures { λ r. ⌜ Puts (now (out .entry)) at (b ∷ []) (now (out .exit)) r ⌝ }
+{
+    if at < out.len() {
+        out[at] = b;
+        return next_place(at);
+    }
+    next_place(at)
+}
+
+// A word.
+pub fn put_word(out: &mut [u8], at: usize, w: &[u8]) -> usize
+    ensures { λ r. ⌜ Puts (now (out .entry)) at (now (w .entry)) (now (out .exit)) r ⌝ }
+{
+    let mut next = at;
+    let mut i = 0;
+    while i < w.len() {
+        next = put(out, next, w[i]);
+        i += 1;
+    }
+    next
+}
+
+// A number in decimal, without leading zeros.
+pub fn put_decimal(out: &mut [u8], at: usize, n: u64) -> usize
+    ensures { λ r. ⌜ Puts (now (out .entry)) at (decimal n) (now (out .exit)) r ⌝ }
+{
+    let last = 48 + (n % 10) as u8;
+    if n < 10 {
+        return put(out, at, last);
+    }
+    let next = put_decimal(out, at, n / 10);
+    put(out, next, last)
+}
