@@ -2,6 +2,7 @@
 ghost use mathlib.Core.Path.{_≡_};
 ghost use Rattle.forms.specs.Form.{has};
 ghost use Rattle.forms.specs.Bytes.{between};
+ghost use Rattle.definitions.specs.Forms.{plainBytes};
 ghost use Rattle.scan.specs.Classes.{classOf, caseClass};
 ghost use Rattle.scan.specs.declared.bytes.Class.the-variants.{HexDigit, Quotable};
 
@@ -42,6 +43,25 @@ fn is_quotable(b: u8) -> bool
         return true;
     }
     is_between(60, 126, b)
+}
+
+// Whether the byte stands for itself in a pattern.
+pub fn is_plain(b: u8) -> bool
+    ensures { λ r. ⌜ r ≡ has plainBytes b ⌝ }
+{
+    if is_between(32, 33, b) {
+        return true;
+    }
+    if is_between(35, 57, b) {
+        return true;
+    }
+    if is_between(60, 91, b) {
+        return true;
+    }
+    if is_between(93, 123, b) {
+        return true;
+    }
+    is_between(125, 126, b)
 }
 
 // Whether a byte is of a class.

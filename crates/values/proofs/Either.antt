@@ -1,21 +1,11 @@
--- Classes of several spans: a byte is of one if it is of a span, and of two classes together if it is of either.
-use mathlib.Core.Path.{_≡_, refl, sym, _∙_}
+-- A byte is of two classes together if it is of either.
+use mathlib.Core.Path.{_≡_, refl}
 use mathlib.Core.Bool.{Bool, true, false, _||_}
 use mathlib.Core.List.{List, [], _∷_, _++_}
 use Prim.Native.Nat.{ℕ}
-use Rattle.forms.proofs.Bools.{or-false}
 use Rattle.forms.specs.Bytes.{between}
 use Rattle.forms.specs.Form.{Class, has}
 use Rattle.forms.specs.Scan.{begins}
-
-pub in-this : (a b : Bool) → a ≡ true → true ≡ (a || b)
-in-this a b e = rw e
-
-pub in-later : (a b : Bool) {x : Bool} → a ≡ false → x ≡ b → x ≡ (a || b)
-in-later a b e f = rw (e, f)
-
-pub in-last : (a : Bool) {x : Bool} → x ≡ a → x ≡ (a || false)
-in-last a e = e ∙ sym (or-false a)
 
 or-assoc : (a b c : Bool) → (a || (b || c)) ≡ ((a || b) || c)
 or-assoc true b c = refl

@@ -1,7 +1,6 @@
 // The bytes of a pattern, stored as they are read: one pass over the text.
 ghost use mathlib.Core.Path.{_≡_};
 ghost use lib.ListN.{drop};
-ghost use Rattle.forms.specs.Form.{has};
 ghost use Rattle.forms.specs.Scan.{first, begins};
 ghost use Rattle.definitions.specs.Forms.{plainBytes, patternBytes};
 ghost use Rattle.values.specs.Storing.{element, Ready, Stores, PatternReads};
@@ -9,31 +8,12 @@ use crate::blocks::BytesAt;
 use crate::blocks::block_at;
 use crate::blocks::put;
 use entry::Room;
-use scan::bytes::is_between;
+use scan::bytes::is_plain;
 use scan::cursor::Cursor;
 use scan::cursor::join;
 use scan::cursor::place;
 use scan::signs::sign_at;
 use scan::signs::stands;
-
-// Whether the byte stands for itself in a pattern.
-fn is_plain(b: u8) -> bool
-    ensures { λ r. ⌜ r ≡ has plainBytes b ⌝ }
-{
-    if is_between(32, 33, b) {
-        return true;
-    }
-    if is_between(35, 57, b) {
-        return true;
-    }
-    if is_between(60, 91, b) {
-        return true;
-    }
-    if is_between(93, 123, b) {
-        return true;
-    }
-    is_between(125, 126, b)
-}
 
 fn is_plain_at(s: &[u8], at: usize) -> bool
     ensures { λ r. ⌜ r ≡ begins plainBytes (drop at (now (s .entry))) ⌝ }

@@ -1,9 +1,9 @@
 use mathlib.Core.Path.{sym, _∙_}
-use Rattle.values.proofs.Either.{in-this, in-later, in-last}
+use Rattle.scan.proofs.Tests.{in-this, in-later, in-last}
 use Rattle.forms.specs.Form.{has}
 use borrow.Author.Needs.{needs}
-use Rattle.values.proofs.patterns.is_plain.Statement.{statement}
-use Rattle.values.proofs.patterns.is_plain.Tie as tie
+use Rattle.scan.proofs.bytes.is_plain.Statement.{statement}
+use Rattle.scan.proofs.bytes.is_plain.Tie as tie
 
 is-between-requires : tie.Need-is-between-requires
 is-between-requires c κs = search needs
