@@ -44,7 +44,8 @@ fn number_fits(a: NumberTest) -> bool
     a.number <= most
 }
 
-fn field_most(field: HeaderField) -> u16
+// The most that stands in a header field, which is its full mask.
+pub fn field_most(field: HeaderField) -> u16
     ensures { λ r. ⌜ r ≡ fieldMost field ⌝ }
 {
     match field {

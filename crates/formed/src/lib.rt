@@ -1,7 +1,7 @@
 // Whether a table is one that some text reads as: what refusal 20 goes by. Any numbers may stand in the table.
 mod addresses;
 mod bytes;
-mod items;
+pub mod items;
 mod patterns;
 mod slots;
 

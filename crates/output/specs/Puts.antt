@@ -20,5 +20,5 @@ puts out at [] = (out, at)
 puts out at (b ∷ l) = puts (set out at b) (counted at) l
 
 -- the bytes l were put into the buffer out from a place on, which made it after; the next place is next
-abbrev pub Puts : List ℕ → ℕ → List ℕ → List ℕ → ℕ → Type 0
-Puts out at l after next = (after, next) ≡ puts out at l
+pub record Puts (out : List ℕ) (at : ℕ) (l : List ℕ) (after : List ℕ) (next : ℕ) : Type 0 where
+  pub is : (after, next) ≡ puts out at l

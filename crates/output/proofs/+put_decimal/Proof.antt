@@ -1,11 +1,7 @@
 -- The digits of a tenth, and the last digit.
-use mathlib.Core.Path.{_≡_, sym, subst}
-use mathlib.Core.List.{[], _∷_}
-use Prim.Native.Nat.{ℕ, _+_, _/_, _%_, _<_}
+use Prim.Native.Nat.{ℕ, _<_}
 use native.Mathlib.Omega.{arith}
-use Rattle.definitions.specs.House.{decimal}
-use Rattle.output.specs.Puts.{Puts}
-use Rattle.output.proofs.Putting.{then, same-length as same}
+use Rattle.output.proofs.Putting.{then, told, same-length as same}
 use Rattle.output.proofs.Decimals.{decimal-one, decimal-more}
 use borrow.Fn.Kinds.{In}
 use borrow.Fn.PlainCycle.{Measures, is, falls, and}
@@ -57,7 +53,7 @@ put-decimal-returns : (t : ℕ) → put-decimal-lts.Need-returns (
   put-decimal-below t,
   put-decimal.Post,
 ) (put-decimal-at t) put-decimal.Post
-put-decimal-returns t c = subst (λ l. Puts (c .before .before .before .before .before .before .args .out .now) (c .before .before .before .before .before .before .args .at) l (c .before .before .put .last .0) (c .before .before .put .result)) (sym (decimal-one (c .before .before .before .before .before .before .args .n) (c .before .before .before .before .if1 .taken))) (c .before .before .put .ensures)
+put-decimal-returns t c = told (decimal-one (c .before .before .before .before .before .before .args .n) (c .before .before .before .before .if1 .taken)) (c .before .before .put .ensures)
 
 put-decimal-same-length : (t : ℕ) → put-decimal-lts.Need-same-length (
   put-reads.Asked,
@@ -65,7 +61,7 @@ put-decimal-same-length : (t : ℕ) → put-decimal-lts.Need-same-length (
   put-decimal-below t,
   put-decimal.Post,
 ) (put-decimal-at t) put-decimal.Post
-put-decimal-same-length t c = same (c .before .before .before .before .before .before .args .out .now) (c .before .before .before .before .before .before .args .at) (decimal (c .before .before .before .before .before .before .args .n)) (put-decimal-returns t c)
+put-decimal-same-length t c = same (put-decimal-returns t c)
 
 put-decimal-put-decimal-requires : (t : ℕ) → put-decimal-lts.Need-put-decimal-requires (
   put-reads.Asked,
@@ -89,7 +85,7 @@ put-decimal-returns-2 : (t : ℕ) → put-decimal-lts.Need-returns-2 (
   put-decimal-below t,
   put-decimal.Post,
 ) (put-decimal-at t) put-decimal.Post
-put-decimal-returns-2 t c = subst (λ l. Puts (c .before .before .before .before .before .before .before .before .before .before .args .out .now) (c .before .before .before .before .before .before .before .before .before .before .args .at) l (c .before .before .put2 .last .0) (c .before .before .put2 .result)) (sym (decimal-more (c .before .before .before .before .before .before .before .before .before .before .args .n) (c .before .before .before .before .before .before .before .before .if1 .left))) (then (c .before .before .before .before .before .before .before .before .before .before .args .out .now) (c .before .before .before .before .before .before .before .before .before .before .args .at) (decimal (c .before .before .before .before .before .before .before .before .before .before .args .n / 10)) ((48 + c .before .before .before .before .before .before .before .before .before .before .args .n % 10) ∷ []) (c .before .before .before .before .before .before .put-decimal .ensures) (c .before .before .put2 .ensures))
+put-decimal-returns-2 t c = told (decimal-more (c .before .before .before .before .before .before .before .before .before .before .args .n) (c .before .before .before .before .before .before .before .before .if1 .left)) (then (c .before .before .before .before .before .before .put-decimal .ensures) (c .before .before .put2 .ensures))
 
 put-decimal-same-length-2 : (t : ℕ) → put-decimal-lts.Need-same-length-2 (
   put-reads.Asked,
@@ -97,7 +93,7 @@ put-decimal-same-length-2 : (t : ℕ) → put-decimal-lts.Need-same-length-2 (
   put-decimal-below t,
   put-decimal.Post,
 ) (put-decimal-at t) put-decimal.Post
-put-decimal-same-length-2 t c = same (c .before .before .before .before .before .before .before .before .before .before .args .out .now) (c .before .before .before .before .before .before .before .before .before .before .args .at) (decimal (c .before .before .before .before .before .before .before .before .before .before .args .n)) (put-decimal-returns-2 t c)
+put-decimal-same-length-2 t c = same (put-decimal-returns-2 t c)
 
 pub +put-decimal-spec : {M : Type 1} → statement M
 +put-decimal-spec = close μ-put-decimal λ t. put-decimal-lts.spec (

@@ -3,9 +3,6 @@ use borrow.Author.Needs.{needs}
 use Rattle.output.proofs.Putting.{one-put, one-past}
 use Rattle.output.proofs.put.Statement.{statement}
 use Rattle.output.proofs.put.Tie as tie
-use Rattle.output.proofs.put.Reads as reads
-use Rattle.output.proofs.put.Lts as lts
-use Rattle.output.proofs.next_place.Reads as next-place-reads
 
 slice-write-out : tie.Need-slice-write-out
 slice-write-out c = search needs
@@ -17,13 +14,13 @@ same-length : tie.Need-same-length
 same-length c = search needs
 
 returns : tie.Need-returns
-returns c = one-put (c .before .before .before .args .out .now) (c .before .before .before .args .at) (c .before .before .before .args .b) (c .next-place .result) (c .next-place .ensures)
+returns c = one-put (c .next-place .ensures)
 
 next-place-requires-2 : tie.Need-next-place-requires-2
 next-place-requires-2 c κs = search needs
 
 returns-2 : tie.Need-returns-2
-returns-2 c = one-past (c .before .before .before .args .out .now) (c .before .before .before .args .at) (c .before .before .before .args .b) (c .next-place2 .result) (c .before .if1 .left) (c .next-place2 .ensures)
+returns-2 c = one-past (c .before .if1 .left) (c .next-place2 .ensures)
 
 pub put-spec : {M : Type 1} → statement M
 put-spec =

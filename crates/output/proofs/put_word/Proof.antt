@@ -36,10 +36,10 @@ loop-again c =
     ∙ put-on (c .before .before .before .before .before .before .loop .out) (c .before .before .before .before .before .before .loop .next) (c .before .before .before .before .before .before .before .before .before .args .w .now) (c .before .before .before .before .before .before .loop .i) (c .before .before .before .before .before .loop-test .taken) (c .before .before .put .ensures))
 
 returns : tie.Need-returns Inv-loop μ-loop
-returns c = sym (c .before .loop .inv .1 ∙ put-all (c .before .loop .out) (c .before .loop .next) (c .before .before .before .before .args .w .now) (c .before .loop .i) (c .loop-test .left))
+returns c = record { is = sym (c .before .loop .inv .1 ∙ put-all (c .before .loop .out) (c .before .loop .next) (c .before .before .before .before .args .w .now) (c .before .loop .i) (c .loop-test .left)) }
 
 same-length : tie.Need-same-length Inv-loop μ-loop
-same-length c = same (c .before .before .before .before .args .out .now) (c .before .before .before .before .args .at) (c .before .before .before .before .args .w .now) (returns c)
+same-length c = same (returns c)
 
 pub put-word-spec : {M : Type 1} → statement M
 put-word-spec =

@@ -1,0 +1,115 @@
+-- The text of entries: one behind the other, an item's by its kind, and those of a whole table.
+use mathlib.Core.Path.{_≡_, refl, sym, ap, _∙_}
+use mathlib.Core.Bool.{Bool, true, false}
+use mathlib.Core.List.{List, [], _∷_, _++_, append-nil, append-assoc}
+use Prim.Native.Nat.{ℕ, _+_, _-_, _≤_, _<_}
+use native.Mathlib.Omega.{arith}
+use lib.ListN.{length, take, drop, getD, length-drop}
+use lib.Seq.{drop-drop}
+use Rattle.forms.specs.Bytes.{text}
+use Rattle.references.proofs.Firsts.{first-here, first-out}
+use Rattle.definitions.specs.declared.table.AddressTest.{AddressTest}
+use Rattle.definitions.specs.declared.table.Item.{Item}
+use Rattle.definitions.specs.declared.table.Item.the-variants as item
+use Rattle.definitions.specs.declared.table.Pattern.{Pattern}
+use Rattle.definitions.specs.declared.table.Slot.{Slot}
+use Rattle.definitions.specs.declared.table.Table.{Table}
+use Rattle.definitions.specs.Entries as entry
+use Rattle.definitions.specs.Entries.{Entry, Name, Protocol, Test}
+use Rattle.definitions.specs.Tables.{Kind, unused, addressed, patterned, plainTest, kindOf, slotsOf, behindItem}
+use Rattle.definitions.specs.House.{flowEntry, contextEntry, noCaseEntry, distanceEntry, withinEntry, patternEntries, itemEntries, slotEntries, houseEntries, textIf, testText, modifierText, entryText, entriesText, houseText}
+use Rattle.house.specs.Parts.{atMost, placeBehind}
+use Rattle.house.proofs.Clipping.{at-most-le, drop-most}
+
+pub entries-append : (es fs : List Entry) → entriesText (es ++ fs) ≡ entriesText es ++ entriesText fs
+unfolding entriesText
+entries-append [] fs = refl
+entries-append (e ∷ es) fs = ap (λ (x : List ℕ). entryText e ++ x) (entries-append es fs) ∙ sym (append-assoc (entryText e) (entriesText es) (entriesText fs))
+
+pub entries-one : (e : Entry) → entriesText (e ∷ []) ≡ entryText e
+unfolding entriesText
+entries-one e = append-nil (entryText e)
+
+-- ---- the items: each kind's entries
+
+module _ (sl : Slot) (b : List ℕ) where
+  abbrev itemText : List ℕ
+  itemText = entriesText (itemEntries (kindOf (sl .item)) sl b)
+
+  by-kind : (k : Kind) → kindOf (sl .item) ≡ k → itemText ≡ entriesText (itemEntries k sl b)
+  by-kind k e = ap (λ (k : Kind). entriesText (itemEntries k sl b)) e
+
+  pub unused-text : sl .item ≡ item.Unused → itemText ≡ []
+  unfolding entriesText
+  unused-text e = by-kind unused (ap kindOf e)
+
+  pub address-text : (a : AddressTest) → sl .item ≡ item.Address a → itemText ≡ testText (item.Address a) (take (a .count) (sl .addresses))
+  unfolding entryText
+  address-text a e =
+      by-kind (addressed a) (ap kindOf e)
+      ∙ entries-one (Test (sl .item) (take (a .count) (sl .addresses)))
+      ∙ ap (λ (it : Item). testText it (take (a .count) (sl .addresses))) e
+
+  pub plain-text : (it : Item) → kindOf it ≡ plainTest → sl .item ≡ it → itemText ≡ testText it []
+  unfolding entryText
+  plain-text it k e = by-kind plainTest (ap kindOf e ∙ k) ∙ entries-one (Test (sl .item) []) ∙ ap (λ (i : Item). testText i []) e
+
+  pub pattern-text : (p : Pattern) → sl .item ≡ item.Pattern p → itemText ≡ entriesText (patternEntries p b)
+  pattern-text p e = by-kind (patterned p) (ap kindOf e)
+
+-- one item more of the n in use
+pub items-on : (l : List Slot) (n i : ℕ) (d : Slot) (b : List ℕ) → i < n → n ≤ length l
+    → entriesText (slotEntries (drop i (take n l)) b)
+    ≡ entriesText (itemEntries (kindOf (getD l i d .item)) (getD l i d) b) ++ entriesText (slotEntries (drop (i + 1) (take n l)) (behindItem (kindOf (getD l i d .item)) b))
+unfolding slotEntries
+items-on l n i d b h long =
+    rw (first-here l n i d h long)
+    (entries-append (itemEntries (kindOf (getD l i d .item)) (getD l i d) b) (slotEntries (drop (i + 1) (take n l)) (behindItem (kindOf (getD l i d .item)) b)))
+
+pub items-end : (l : List Slot) (n i : ℕ) (b : List ℕ) → n ≤ i → entriesText (slotEntries (drop i (take n l)) b) ≡ []
+unfolding slotEntries entriesText
+items-end l n i b h = rw (first-out l n i h)
+
+-- the pattern bytes behind an item
+pub behind-is : (k : Kind) (bytes : List ℕ) (from : ℕ) → from ≤ length bytes
+    → (behindItem k (drop from bytes) ≡ drop (placeBehind k from (length bytes)) bytes) × (placeBehind k from (length bytes) ≤ length bytes)
+behind-is unused bytes from h = (refl, h)
+behind-is (addressed a) bytes from h = (refl, h)
+behind-is (patterned p) bytes from h =
+    let e : length (drop from bytes) ≡ length bytes - from = length-drop from bytes in
+    (sym (drop-most (p .len) (drop from bytes))
+    ∙ ap (λ (n : ℕ). drop (atMost (p .len) n) (drop from bytes)) e
+    ∙ drop-drop (atMost (p .len) (length bytes - from)) from bytes,
+    omega (arith, h, at-most-le (p .len) (length bytes - from)))
+behind-is plainTest bytes from h = (refl, h)
+
+-- the entries of a pattern and of the whole table, one behind the other
+pub pattern-entries : (p : Pattern) (b : List ℕ) → entriesText (patternEntries p b)
+    ≡ entryText (entry.Pattern (p .negated) (take (p .len) b))
+    ++ (entriesText (contextEntry (p .context)) ++ (entriesText (noCaseEntry (p .nocase)) ++ (entriesText (distanceEntry (p .distance)) ++ entriesText (withinEntry (p .within)))))
+unfolding entriesText
+pattern-entries p b =
+    ap (λ (x : List ℕ). entryText (entry.Pattern (p .negated) (take (p .len) b)) ++ x)
+    (entries-append (contextEntry (p .context)) (noCaseEntry (p .nocase) ++ (distanceEntry (p .distance) ++ withinEntry (p .within)))
+    ∙ ap (λ (x : List ℕ). entriesText (contextEntry (p .context)) ++ x)
+    (entries-append (noCaseEntry (p .nocase)) (distanceEntry (p .distance) ++ withinEntry (p .within))
+    ∙ ap (λ (x : List ℕ). entriesText (noCaseEntry (p .nocase)) ++ x)
+    (entries-append (distanceEntry (p .distance)) (withinEntry (p .within)))))
+
+pub no-case-text : (nocase : Bool) → entriesText (noCaseEntry nocase) ≡ textIf nocase (text " --no_case;")
+unfolding entriesText entryText modifierText
+no-case-text true = refl
+no-case-text false = refl
+
+pub house-parts : (t : Table) → houseText t
+    ≡ text "F-SBID(" ++ (entryText (Name (take (t .len) (t .name)))
+    ++ (entryText (Protocol (t .protocol)) ++ (entriesText (flowEntry (t .flow)) ++ (entriesText (slotEntries (slotsOf t) (t .bytes)) ++ text " )"))))
+unfolding houseText houseEntries entriesText
+house-parts t =
+    ap (λ (x : List ℕ). text "F-SBID(" ++ x)
+    (append-assoc (entryText (Name (take (t .len) (t .name)))) (entryText (Protocol (t .protocol)) ++ entriesText (flowEntry (t .flow) ++ slotEntries (slotsOf t) (t .bytes))) (text " )")
+    ∙ ap (λ (x : List ℕ). entryText (Name (take (t .len) (t .name))) ++ x)
+    (append-assoc (entryText (Protocol (t .protocol))) (entriesText (flowEntry (t .flow) ++ slotEntries (slotsOf t) (t .bytes))) (text " )")
+    ∙ ap (λ (x : List ℕ). entryText (Protocol (t .protocol)) ++ x)
+    (ap (λ (x : List ℕ). x ++ text " )") (entries-append (flowEntry (t .flow)) (slotEntries (slotsOf t) (t .bytes)))
+    ∙ append-assoc (entriesText (flowEntry (t .flow))) (entriesText (slotEntries (slotsOf t) (t .bytes))) (text " )"))))

@@ -1,0 +1,90 @@
+-- What the parts of house text are made of.
+use mathlib.Core.Path.{_≡_, refl, sym, ap, _∙_}
+use mathlib.Core.Bool.{Bool, true, false, not}
+use mathlib.Core.List.{List, [], _∷_, _++_, append-nil, append-assoc}
+use Prim.Native.Nat.{ℕ, suc, _+_, _/_, _%_, _≤_, _<_}
+use native.Mathlib.Omega.{arith}
+use native.Mathlib.Numerals.{add-one}
+use lib.ListN.{length, take, drop, getD, length-take, drop-of-length-le}
+use lib.Seq.{drop-cons, length-take-le}
+use lib.Dec.{eqb, ltb}
+use borrow.Author.Tests.{eq-eqb, ne-eqb, lt-ltb, le-ltb}
+use Rattle.forms.specs.Bytes.{if_then_else_, text}
+use Rattle.forms.specs.Form.{has}
+use Rattle.forms.proofs.Bools.{by-cases}
+use Rattle.references.proofs.Firsts.{first-here, first-out}
+use Rattle.definitions.specs.declared.table.Address.{Address}
+use Rattle.definitions.specs.declared.table.FieldTest.{FieldTest}
+use Rattle.definitions.specs.Forms.{fieldMost, plainBytes}
+use Rattle.definitions.specs.House.{decimal, textIf, octets, addressText, addressesText, bracketed, hexDigit, patternText}
+use Rattle.house.specs.Parts.{maskText, byteText, listFrom}
+
+-- ---- what is left out
+
+pub prefix-full : (a : Address) → a .prefix ≡ 32 → addressText a ≡ octets (a .number)
+prefix-full a e = rw (eq-eqb (a .prefix) 32 e) (append-nil (octets (a .number)))
+
+pub prefix-given : (a : Address) → (a .prefix ≡ 32 → ⊥) → addressText a ≡ octets (a .number) ++ (text "/" ++ decimal (a .prefix))
+prefix-given a n = rw (ne-eqb (a .prefix) 32 n)
+
+pub mask-full : (f : FieldTest) (m : ℕ) → m ≡ fieldMost (f .field) → f .mask ≡ m → maskText f ≡ []
+mask-full f m e d = rw (eq-eqb (f .mask) (fieldMost (f .field)) (d ∙ e))
+
+pub mask-given : (f : FieldTest) (m : ℕ) → m ≡ fieldMost (f .field) → (f .mask ≡ m → ⊥) → maskText f ≡ text "& " ++ (decimal (f .mask) ++ text " ")
+mask-given f m e n = rw (ne-eqb (f .mask) (fieldMost (f .field)) (λ d. n (d ∙ sym e)))
+
+-- ---- pattern bytes
+
+-- one byte more
+pattern-on : (opened : Bool) (b : ℕ) (l : List ℕ) → patternText opened (b ∷ l) ≡ byteText opened (has plainBytes b) b ++ patternText (not (has plainBytes b)) l
+unfolding patternText byteText
+pattern-on opened b l =
+    by-cases (has plainBytes b)
+    (λ t. rw t (sym (append-assoc (textIf opened (text "|")) (b ∷ []) (patternText false l))))
+    (λ f. rw f (sym (append-assoc (textIf (not opened) (text "|")) (hexDigit (b / 16) ∷ hexDigit (b % 16) ∷ []) (patternText true l))))
+
+pub hex-pair : (x y : ℕ) {h l : ℕ} → h ≡ hexDigit x → l ≡ hexDigit y → hexDigit x ∷ hexDigit y ∷ [] ≡ h ∷ l ∷ []
+hex-pair x y e d = rw (e, d)
+
+pattern-end : (opened : Bool) → patternText opened [] ≡ textIf opened (text "|")
+unfolding patternText
+pattern-end opened = refl
+
+pub bytes-on : (opened : Bool) (b : List ℕ) (i : ℕ) → i < length b
+    → patternText opened (drop i b) ≡ byteText opened (has plainBytes (getD b i 0)) (getD b i 0) ++ patternText (not (has plainBytes (getD b i 0))) (drop (i + 1) b)
+bytes-on opened b i h = rw (drop-cons b i 0 h, add-one i) (pattern-on opened (getD b i 0) (drop (suc i) b))
+
+pub bytes-end : (opened : Bool) (b : List ℕ) (i : ℕ) → length b ≤ i → patternText opened (drop i b) ≡ textIf opened (text "|")
+bytes-end opened b i h = rw (drop-of-length-le b h) (pattern-end opened)
+
+-- ---- addresses
+
+list-later : (i : ℕ) (a : Address) (l : List Address) → textIf (ltb 0 (suc i)) (text ",") ++ addressesText (a ∷ l) ≡ listFrom (suc i) (a ∷ l)
+unfolding addressesText listFrom
+list-later i a [] = rw (lt-ltb 0 (suc i) (omega arith)) (ap (λ (x : List ℕ). text "," ++ x) (sym (append-nil (addressText a))))
+list-later i a (b ∷ l) =
+    rw (lt-ltb 0 (suc i) (omega arith))
+    (ap (λ (x : List ℕ). text "," ++ (addressText a ++ x)) (ap (λ (t : Bool). textIf t (text ",") ++ addressesText (b ∷ l)) (sym (lt-ltb 0 (suc (suc i)) (omega arith))) ∙ list-later (suc i) b l))
+
+pub list-is : (l : List Address) → addressesText l ≡ listFrom 0 l
+unfolding addressesText listFrom
+list-is [] = refl
+list-is (a ∷ []) = sym (append-nil (addressText a))
+list-is (a ∷ (b ∷ l)) = ap (λ (x : List ℕ). addressText a ++ x) (ap (λ (t : Bool). textIf t (text ",") ++ addressesText (b ∷ l)) (sym (lt-ltb 0 1 (omega arith))) ∙ list-later 0 b l)
+
+-- one more of the n addresses in use
+pub list-on : (l : List Address) (n i : ℕ) (d : Address) → i < n → n ≤ length l
+    → listFrom i (drop i (take n l)) ≡ textIf (ltb 0 i) (text ",") ++ (addressText (getD l i d) ++ listFrom (i + 1) (drop (i + 1) (take n l)))
+unfolding listFrom
+list-on l n i d h long =
+    rw (first-here l n i d h long, add-one i)
+
+pub list-end : (l : List Address) (n i : ℕ) → n ≤ i → listFrom i (drop i (take n l)) ≡ []
+unfolding listFrom
+list-end l n i h = rw (first-out l n i h)
+
+pub brackets : (l : List Address) (n : ℕ) → n ≤ length l → 1 < n → bracketed (take n l) ≡ text "[" ++ (addressesText (take n l) ++ text "]")
+brackets l n long h = rw (lt-ltb 1 (length (take n l)) (omega (arith, h, length-take-le n l long)))
+
+pub no-brackets : (l : List Address) (n : ℕ) → n ≤ 1 → bracketed (take n l) ≡ addressesText (take n l)
+no-brackets l n h = rw (le-ltb 1 (length (take n l)) (omega (arith, h, length-take n l)))
