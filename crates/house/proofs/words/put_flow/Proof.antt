@@ -1,6 +1,6 @@
-use mathlib.Core.Path.{ap}
+use mathlib.Core.Path.{refl, ap}
 use Rattle.definitions.specs.House.{flowEntry, entryText, entriesText}
-use Rattle.output.proofs.Putting.{none-put, told}
+use Rattle.output.proofs.Putting.{none-put, told, same-length as same}
 use borrow.Author.Needs.{needs}
 use Rattle.house.proofs.words.put_flow.Statement.{statement}
 use Rattle.house.proofs.words.put_flow.Tie as tie
@@ -12,37 +12,37 @@ enum-told-2 : tie.Need-enum-told-2
 enum-told-2 c = search needs
 
 slice-aggregate-put-word : tie.Need-slice-aggregate-put-word
-slice-aggregate-put-word c = search needs
+slice-aggregate-put-word c = refl
 
 put-word-requires : tie.Need-put-word-requires
-put-word-requires c κs = search needs
+put-word-requires c κs = tt
 
 enum-told-3 : tie.Need-enum-told-3
 enum-told-3 c = search needs
 
 slice-aggregate-put-word-2 : tie.Need-slice-aggregate-put-word-2
-slice-aggregate-put-word-2 c = search needs
+slice-aggregate-put-word-2 c = refl
 
 put-word-requires-2 : tie.Need-put-word-requires-2
-put-word-requires-2 c κs = search needs
+put-word-requires-2 c κs = tt
 
 returns : tie.Need-returns
 unfolding entriesText entryText
 returns c = told (ap (λ x. entriesText (flowEntry x)) (c .enum-told .given .1)) none-put
 
-same-length : tie.Need-same-length
-same-length c = search needs
-
 returns-2 : tie.Need-returns-2
 unfolding entriesText entryText
 returns-2 c = told (ap (λ x. entriesText (flowEntry x)) (c .before .before .before .before .before .enum-told2 .given .1)) (c .before .before .put-word .ensures)
 
-same-length-2 : tie.Need-same-length-2
-same-length-2 c = search needs
+same-length : tie.Need-same-length
+same-length c = same (returns-2 c)
 
 returns-3 : tie.Need-returns-3
 unfolding entriesText entryText
 returns-3 c = told (ap (λ x. entriesText (flowEntry x)) (c .before .before .before .before .before .enum-told3 .given .1)) (c .before .before .put-word2 .ensures)
+
+same-length-2 : tie.Need-same-length-2
+same-length-2 c = same (returns-3 c)
 
 pub put-flow-spec : {M : Type 1} → statement M
 put-flow-spec =

@@ -1,18 +1,17 @@
 use mathlib.Core.Path.{ap}
 use Rattle.definitions.specs.House.{textIf}
-use Rattle.output.proofs.Putting.{none-put, told}
-use borrow.Author.Needs.{needs}
+use Rattle.output.proofs.Putting.{none-put, told, same-length as same}
 use Rattle.house.proofs.words.put_if.Statement.{statement}
 use Rattle.house.proofs.words.put_if.Tie as tie
 
 put-word-requires : tie.Need-put-word-requires
-put-word-requires c κs = search needs
-
-same-length : tie.Need-same-length
-same-length c = search needs
+put-word-requires c κs = tt
 
 returns : tie.Need-returns
 returns c = told (ap (λ t. textIf t (c .before .before .before .before .before .before .before .args .w .now)) (c .before .before .before .before .if1 .taken)) (c .before .before .put-word .ensures)
+
+same-length : tie.Need-same-length
+same-length c = same (returns c)
 
 returns-2 : tie.Need-returns-2
 returns-2 c = told (ap (λ t. textIf t (c .before .before .before .args .w .now)) (c .if1 .left)) none-put
