@@ -76,11 +76,12 @@ pub behind-is : (k : Kind) (bytes : List ℕ) (from : ℕ) → from ≤ length b
 behind-is unused bytes from h = (refl, h)
 behind-is (addressed a) bytes from h = (refl, h)
 behind-is (patterned p) bytes from h =
-    let e : length (drop from bytes) ≡ length bytes - from = length-drop from bytes in
-    (sym (drop-most (p .len) (drop from bytes))
-    ∙ ap (λ (n : ℕ). drop (atMost (p .len) n) (drop from bytes)) e
-    ∙ drop-drop (atMost (p .len) (length bytes - from)) from bytes,
-    omega (arith, h, at-most-le (p .len) (length bytes - from)))
+    let e : length (drop from bytes) ≡ length bytes - from = length-drop from bytes in (
+      sym (drop-most (p .len) (drop from bytes))
+          ∙ ap (λ (n : ℕ). drop (atMost (p .len) n) (drop from bytes)) e
+          ∙ drop-drop (atMost (p .len) (length bytes - from)) from bytes,
+      omega (arith, h, at-most-le (p .len) (length bytes - from)),
+    )
 behind-is plainTest bytes from h = (refl, h)
 
 -- the entries of a pattern and of the whole table, one behind the other

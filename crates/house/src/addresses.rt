@@ -5,9 +5,9 @@ ghost use Rattle.definitions.specs.Limits.{addressesMost};
 ghost use Rattle.definitions.specs.House.{octets, addressText, addressesText, bracketed};
 ghost use Rattle.output.specs.Puts.{Puts};
 use crate::limits::at_most;
-use crate::words::put_if;
 use definitions::limits::ADDRESSES;
 use definitions::table::Address;
+use keywords::put_if;
 use output::put;
 use output::put_decimal;
 

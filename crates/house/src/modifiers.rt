@@ -6,14 +6,14 @@ ghost use Rattle.definitions.specs.House.{decimalℤ, noCaseEntry, distanceEntr
 ghost use Rattle.output.specs.Puts.{Puts};
 use crate::limits::at_most;
 use crate::patterns::put_bytes;
-use crate::words::put_context;
-use crate::words::put_if;
-use crate::words::put_reference;
 use definitions::table::Distance;
 use definitions::table::Pattern;
 use definitions::table::Reach;
 use definitions::table::Shift;
 use definitions::table::Within;
+use keywords::put_context;
+use keywords::put_if;
+use keywords::put_reference;
 use output::put;
 use output::put_decimal;
 use output::put_word;
@@ -23,7 +23,11 @@ fn magnitude(z: i32) -> u64
     ensures { λ r. ⌜ r ≡ natAbs z ⌝ }
 {
     let wide = z as i64;
-    if wide < 0 { (-wide) as u64 } else { wide as u64 }
+    if wide < 0 {
+        (-wide) as u64
+    } else {
+        wide as u64
+    }
 }
 
 fn put_signed(out: &mut [u8], at: usize, z: i32) -> usize

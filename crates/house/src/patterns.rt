@@ -5,7 +5,7 @@ ghost use Prim.Native.Nat.{_<_};
 ghost use Rattle.definitions.specs.House.{hexDigit, patternText};
 ghost use Rattle.house.specs.Parts.{byteText};
 ghost use Rattle.output.specs.Puts.{Puts};
-use crate::words::put_if;
+use keywords::put_if;
 use output::put;
 use scan::bytes::is_plain;
 

@@ -6,13 +6,6 @@ ghost use Rattle.definitions.specs.House.{testText};
 ghost use Rattle.house.specs.Parts.{maskText};
 ghost use Rattle.output.specs.Puts.{Puts};
 use crate::addresses::put_bracketed;
-use crate::words::put_header_field;
-use crate::words::put_if;
-use crate::words::put_number_field;
-use crate::words::put_operator;
-use crate::words::put_order;
-use crate::words::put_side;
-use crate::words::put_size_field;
 use definitions::limits::ADDRESSES;
 use definitions::table::Address;
 use definitions::table::AddressTest;
@@ -22,11 +15,23 @@ use definitions::table::NumberTest;
 use definitions::table::SizeTest;
 use definitions::table::TtlTest;
 use formed::items::field_most;
+use keywords::put_header_field;
+use keywords::put_if;
+use keywords::put_number_field;
+use keywords::put_operator;
+use keywords::put_order;
+use keywords::put_side;
+use keywords::put_size_field;
 use output::put;
 use output::put_decimal;
 use output::put_word;
 
-pub fn put_address_test(out: &mut [u8], at: usize, t: AddressTest, list: [Address; ADDRESSES]) -> usize
+pub fn put_address_test(
+    out: &mut [u8],
+    at: usize,
+    t: AddressTest,
+    list: [Address; ADDRESSES],
+) -> usize
     ensures { λ r. ⌜ Puts (now (out .entry)) at (testText (item.Address t) (take (t .count) list)) (now (out .exit)) r ⌝ }
 {
     let side = t.side;

@@ -69,14 +69,15 @@ loop-again c =
     let rest : List ℕ → List ℕ = λ b. entriesText (slotEntries (drop (loop .i + 1) (take n (args .t3))) b) in
     let one : List ℕ → List ℕ = λ b. entriesText (itemEntries (kindOf (sl .item)) sl b) in
     let put = told {l = one (drop (loop .from) bytes)} (ap one (sym (part-to-end bytes (loop .from)))) (c .before .before .before .put-slot .ensures) in
-    let place = c .place-behind .ensures in
-    (omega arith,
-    loop .inv .1,
-    omega (arith, place, behind .1),
-    loop .inv .3
-    ∙ ap (puts (loop .out) (loop .next)) (items-on (args .t3) n (loop .i) (record { item = item.Unused; addresses = [] }) (drop (loop .from) bytes) (c .before .before .before .before .before .before .before .loop-test .taken) long)
-    ∙ onward (rest (behindItem (kindOf (sl .item)) (drop (loop .from) bytes))) put
-    ∙ ap (λ b. puts (c .before .before .before .put-slot .last .0) (c .before .before .before .put-slot .result) (rest b)) (behind .0 ∙ ap (λ k. drop k bytes) (sym place)))
+    let place = c .place-behind .ensures in (
+      omega arith,
+      loop .inv .1,
+      omega (arith, place, behind .1),
+      loop .inv .3
+          ∙ ap (puts (loop .out) (loop .next)) (items-on (args .t3) n (loop .i) (record { item = item.Unused; addresses = [] }) (drop (loop .from) bytes) (c .before .before .before .before .before .before .before .loop-test .taken) long)
+          ∙ onward (rest (behindItem (kindOf (sl .item)) (drop (loop .from) bytes))) put
+          ∙ ap (λ b. puts (c .before .before .before .put-slot .last .0) (c .before .before .before .put-slot .result) (rest b)) (behind .0 ∙ ap (λ k. drop k bytes) (sym place)),
+    )
 
 returns : tie.Need-returns Inv-loop μ-loop
 unfolding puts

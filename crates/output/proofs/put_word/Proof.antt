@@ -30,10 +30,11 @@ loop-less : tie.Need-loop-less Inv-loop μ-loop
 loop-less c = omega arith
 
 loop-again : tie.Need-loop-again Inv-loop μ-loop
-loop-again c =
-    (omega arith,
-    c .before .before .before .before .before .before .loop .inv .1
-    ∙ put-on (c .before .before .before .before .before .before .loop .out) (c .before .before .before .before .before .before .loop .next) (c .before .before .before .before .before .before .before .before .before .args .w .now) (c .before .before .before .before .before .before .loop .i) (c .before .before .before .before .before .loop-test .taken) (c .before .before .put .ensures))
+loop-again c = (
+  omega arith,
+  c .before .before .before .before .before .before .loop .inv .1
+      ∙ put-on (c .before .before .before .before .before .before .loop .out) (c .before .before .before .before .before .before .loop .next) (c .before .before .before .before .before .before .before .before .before .args .w .now) (c .before .before .before .before .before .before .loop .i) (c .before .before .before .before .before .loop-test .taken) (c .before .before .put .ensures),
+)
 
 returns : tie.Need-returns Inv-loop μ-loop
 returns c = record { is = sym (c .before .loop .inv .1 ∙ put-all (c .before .loop .out) (c .before .loop .next) (c .before .before .before .before .args .w .now) (c .before .loop .i) (c .loop-test .left)) }

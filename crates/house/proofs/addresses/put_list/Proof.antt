@@ -47,12 +47,13 @@ loop-again c =
     let args = c .before .before .before .before .before .before .before .before .before .before .before .before .before .args in
     let loop = c .before .before .before .before .before .before .before .before .before .before .before .loop in
     let long : args .n ≤ length (args .t3) = omega arith in
-    let rest = listFrom (loop .i + 1) (drop (loop .i + 1) (take (args .n) (args .t3))) in
-    (omega arith,
-    loop .inv .1
-    ∙ ap (puts (loop .out) (loop .next)) (list-on (args .t3) (args .n) (loop .i) (record { number = 0; prefix = 0 }) (c .before .before .before .before .before .before .before .before .before .before .loop-test .taken) long)
-    ∙ onward (addressText (getD (args .t3) (loop .i) (record { number = 0; prefix = 0 })) ++ rest) (c .before .before .before .before .before .before .before .put-if .ensures)
-    ∙ onward rest (c .before .before .put-address .ensures))
+    let rest = listFrom (loop .i + 1) (drop (loop .i + 1) (take (args .n) (args .t3))) in (
+      omega arith,
+      loop .inv .1
+          ∙ ap (puts (loop .out) (loop .next)) (list-on (args .t3) (args .n) (loop .i) (record { number = 0; prefix = 0 }) (c .before .before .before .before .before .before .before .before .before .before .loop-test .taken) long)
+          ∙ onward (addressText (getD (args .t3) (loop .i) (record { number = 0; prefix = 0 })) ++ rest) (c .before .before .before .before .before .before .before .put-if .ensures)
+          ∙ onward rest (c .before .before .put-address .ensures),
+    )
 
 returns : tie.Need-returns Inv-loop μ-loop
 unfolding puts

@@ -43,11 +43,12 @@ loop-again c =
     let loop = c .before .before .before .before .before .before .before .loop in
     let plain = c .before .before .before .before .is-plain in
     let x = getD b (loop .i) 0 in
-    let rest : Bool → List ℕ = λ t. byteText (loop .opened) t x ++ patternText (not t) (drop (loop .i + 1) b) in
-    (omega arith,
-    loop .inv .1
-    ∙ ap (puts (loop .out) (loop .next)) (bytes-on (loop .opened) b (loop .i) (c .before .before .before .before .before .before .loop-test .taken) ∙ ap rest (sym (plain .ensures)))
-    ∙ onward (patternText (not (plain .result)) (drop (loop .i + 1) b)) (c .before .before .put-byte .ensures))
+    let rest : Bool → List ℕ = λ t. byteText (loop .opened) t x ++ patternText (not t) (drop (loop .i + 1) b) in (
+      omega arith,
+      loop .inv .1
+          ∙ ap (puts (loop .out) (loop .next)) (bytes-on (loop .opened) b (loop .i) (c .before .before .before .before .before .before .loop-test .taken) ∙ ap rest (sym (plain .ensures)))
+          ∙ onward (patternText (not (plain .result)) (drop (loop .i + 1) b)) (c .before .before .put-byte .ensures),
+    )
 
 slice-aggregate-put-if : tie.Need-slice-aggregate-put-if Inv-loop μ-loop
 slice-aggregate-put-if c = refl

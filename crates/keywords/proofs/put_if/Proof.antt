@@ -1,8 +1,8 @@
 use mathlib.Core.Path.{ap}
 use Rattle.definitions.specs.House.{textIf}
 use Rattle.output.proofs.Putting.{none-put, told, same-length as same}
-use Rattle.house.proofs.words.put_if.Statement.{statement}
-use Rattle.house.proofs.words.put_if.Tie as tie
+use Rattle.keywords.proofs.put_if.Statement.{statement}
+use Rattle.keywords.proofs.put_if.Tie as tie
 
 put-word-requires : tie.Need-put-word-requires
 put-word-requires c κs = tt

@@ -2,8 +2,8 @@ use mathlib.Core.Path.{refl, ap}
 use Rattle.definitions.specs.House.{operatorText}
 use Rattle.output.proofs.Putting.{told, same-length as same}
 use borrow.Author.Needs.{needs}
-use Rattle.house.proofs.words.put_operator.Statement.{statement}
-use Rattle.house.proofs.words.put_operator.Tie as tie
+use Rattle.keywords.proofs.put_operator.Statement.{statement}
+use Rattle.keywords.proofs.put_operator.Tie as tie
 
 enum-told : tie.Need-enum-told
 enum-told c = search needs

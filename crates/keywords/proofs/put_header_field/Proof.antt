@@ -2,8 +2,8 @@ use mathlib.Core.Path.{refl, ap}
 use Rattle.definitions.specs.House.{fieldName}
 use Rattle.output.proofs.Putting.{told, same-length as same}
 use borrow.Author.Needs.{needs}
-use Rattle.house.proofs.words.put_header_field.Statement.{statement}
-use Rattle.house.proofs.words.put_header_field.Tie as tie
+use Rattle.keywords.proofs.put_header_field.Statement.{statement}
+use Rattle.keywords.proofs.put_header_field.Tie as tie
 
 enum-told : tie.Need-enum-told
 enum-told c = search needs

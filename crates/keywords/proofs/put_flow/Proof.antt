@@ -2,8 +2,8 @@ use mathlib.Core.Path.{refl, ap}
 use Rattle.definitions.specs.House.{flowEntry, entryText, entriesText}
 use Rattle.output.proofs.Putting.{none-put, told, same-length as same}
 use borrow.Author.Needs.{needs}
-use Rattle.house.proofs.words.put_flow.Statement.{statement}
-use Rattle.house.proofs.words.put_flow.Tie as tie
+use Rattle.keywords.proofs.put_flow.Statement.{statement}
+use Rattle.keywords.proofs.put_flow.Tie as tie
 
 enum-told : tie.Need-enum-told
 enum-told c = search needs
