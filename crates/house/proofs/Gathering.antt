@@ -1,7 +1,6 @@
--- The text of entries: one behind the other, an item's by its kind, and those of a whole table.
+-- The text of a table's items, each by its kind, and of the whole table.
 use mathlib.Core.Path.{_≡_, refl, sym, ap, _∙_}
-use mathlib.Core.Bool.{Bool, true, false}
-use mathlib.Core.List.{List, [], _∷_, _++_, append-nil, append-assoc}
+use mathlib.Core.List.{List, [], _∷_, _++_, append-assoc}
 use Prim.Native.Nat.{ℕ, _+_, _-_, _≤_, _<_}
 use native.Mathlib.Omega.{arith}
 use lib.ListN.{length, take, drop, getD, length-drop}
@@ -14,23 +13,13 @@ use Rattle.definitions.specs.declared.table.Item.the-variants as item
 use Rattle.definitions.specs.declared.table.Pattern.{Pattern}
 use Rattle.definitions.specs.declared.table.Slot.{Slot}
 use Rattle.definitions.specs.declared.table.Table.{Table}
-use Rattle.definitions.specs.Entries as entry
-use Rattle.definitions.specs.Entries.{Entry, Name, Protocol, Test}
+use Rattle.definitions.specs.Entries.{Name, Protocol, Test}
 use Rattle.definitions.specs.Tables.{Kind, unused, addressed, patterned, plainTest, kindOf, slotsOf, behindItem}
-use Rattle.definitions.specs.House.{flowEntry, contextEntry, noCaseEntry, distanceEntry, withinEntry, patternEntries, itemEntries, slotEntries, houseEntries, textIf, testText, modifierText, entryText, entriesText, houseText}
-use Rattle.house.specs.Parts.{atMost, placeBehind}
-use Rattle.house.proofs.Clipping.{at-most-le, drop-most}
-
-pub entries-append : (es fs : List Entry) → entriesText (es ++ fs) ≡ entriesText es ++ entriesText fs
-unfolding entriesText
-entries-append [] fs = refl
-entries-append (e ∷ es) fs = ap (λ (x : List ℕ). entryText e ++ x) (entries-append es fs) ∙ sym (append-assoc (entryText e) (entriesText es) (entriesText fs))
-
-pub entries-one : (e : Entry) → entriesText (e ∷ []) ≡ entryText e
-unfolding entriesText
-entries-one e = append-nil (entryText e)
-
--- ---- the items: each kind's entries
+use Rattle.definitions.specs.House.{flowEntry, patternEntries, itemEntries, slotEntries, houseEntries, testText, entryText, entriesText, houseText}
+use Rattle.output.specs.Clipped.{atMost}
+use Rattle.output.proofs.Clipping.{at-most-le, drop-most}
+use Rattle.pattern_text.proofs.Gathering.{entries-append, entries-one}
+use Rattle.house.specs.Parts.{placeBehind}
 
 module _ (sl : Slot) (b : List ℕ) where
   abbrev itemText : List ℕ
@@ -84,24 +73,7 @@ behind-is (patterned p) bytes from h =
     )
 behind-is plainTest bytes from h = (refl, h)
 
--- the entries of a pattern and of the whole table, one behind the other
-pub pattern-entries : (p : Pattern) (b : List ℕ) → entriesText (patternEntries p b)
-    ≡ entryText (entry.Pattern (p .negated) (take (p .len) b))
-    ++ (entriesText (contextEntry (p .context)) ++ (entriesText (noCaseEntry (p .nocase)) ++ (entriesText (distanceEntry (p .distance)) ++ entriesText (withinEntry (p .within)))))
-unfolding entriesText
-pattern-entries p b =
-    ap (λ (x : List ℕ). entryText (entry.Pattern (p .negated) (take (p .len) b)) ++ x)
-    (entries-append (contextEntry (p .context)) (noCaseEntry (p .nocase) ++ (distanceEntry (p .distance) ++ withinEntry (p .within)))
-    ∙ ap (λ (x : List ℕ). entriesText (contextEntry (p .context)) ++ x)
-    (entries-append (noCaseEntry (p .nocase)) (distanceEntry (p .distance) ++ withinEntry (p .within))
-    ∙ ap (λ (x : List ℕ). entriesText (noCaseEntry (p .nocase)) ++ x)
-    (entries-append (distanceEntry (p .distance)) (withinEntry (p .within)))))
-
-pub no-case-text : (nocase : Bool) → entriesText (noCaseEntry nocase) ≡ textIf nocase (text " --no_case;")
-unfolding entriesText entryText modifierText
-no-case-text true = refl
-no-case-text false = refl
-
+-- the entries of the whole table, one behind the other
 pub house-parts : (t : Table) → houseText t
     ≡ text "F-SBID(" ++ (entryText (Name (take (t .len) (t .name)))
     ++ (entryText (Protocol (t .protocol)) ++ (entriesText (flowEntry (t .flow)) ++ (entriesText (slotEntries (slotsOf t) (t .bytes)) ++ text " )"))))

@@ -1,10 +1,4 @@
 // House text of a table, put into a lent buffer option by option: any table, whatever numbers stand in it.
-mod addresses;
-mod limits;
-mod modifiers;
-mod patterns;
-mod tests;
-
 ghost use mathlib.Core.Path.{_≡_};
 ghost use Prim.Native.Nat.{_≤_};
 ghost use lib.ListN.{take, length};
@@ -13,23 +7,23 @@ ghost use Rattle.definitions.specs.Tables.{kindOf, slotsOf};
 ghost use Rattle.definitions.specs.House.{itemEntries, slotEntries, entryText, entriesText, houseText};
 ghost use Rattle.house.specs.Parts.{placeBehind};
 ghost use Rattle.output.specs.Puts.{Puts};
-use crate::limits::at_most;
-use crate::modifiers::put_pattern;
-use crate::tests::put_address_test;
-use crate::tests::put_at_test;
-use crate::tests::put_field_test;
-use crate::tests::put_number_test;
-use crate::tests::put_size_test;
-use crate::tests::put_ttl_test;
 use definitions::limits::ITEMS;
 use definitions::limits::NAME_BYTES;
 use definitions::table::Item;
 use definitions::table::Slot;
 use definitions::table::Table;
 use keywords::put_flow;
+use output::limits::at_most;
 use output::put;
 use output::put_decimal;
 use output::put_word;
+use pattern_text::put_pattern;
+use test_text::put_address_test;
+use test_text::put_at_test;
+use test_text::put_field_test;
+use test_text::put_number_test;
+use test_text::put_size_test;
+use test_text::put_ttl_test;
 
 fn put_name(out: &mut [u8], at: usize, name: [u8; NAME_BYTES], len: usize) -> usize
     ensures { λ r. ⌜ Puts (now (out .entry)) at (entryText (Name (take len name))) (now (out .exit)) r ⌝ }

@@ -1,2 +1,3 @@
 -- What the contracts of `output` cite.
 pub mod Puts
+pub mod Clipped

@@ -1,4 +1,6 @@
 // Bytes put one behind the other into a lent buffer. A byte past its end is counted and not kept, so one pass both measures and writes.
+pub mod limits;
+
 ghost use mathlib.Core.List.{[], _∷_};
 ghost use Rattle.definitions.specs.House.{decimal};
 ghost use mathlib.Core.Path.{_≡_};

@@ -4,7 +4,7 @@ use native.Mathlib.Omega.{arith}
 use Rattle.definitions.specs.Tables.{Kind, kindOf}
 use Rattle.references.proofs.OtherItems.{other-kind}
 use Rattle.house.specs.Parts.{placeBehind}
-use Rattle.house.proofs.Clipping.{at-most-le}
+use Rattle.output.proofs.Clipping.{at-most-le}
 use borrow.Author.Needs.{needs}
 use Rattle.house.proofs.place_behind.Statement.{statement}
 use Rattle.house.proofs.place_behind.Tie as tie

@@ -11,7 +11,7 @@ use Rattle.definitions.specs.Tables.{kindOf, behindItem}
 use Rattle.definitions.specs.House.{itemEntries, slotEntries, entriesText}
 use Rattle.output.specs.Puts.{puts}
 use Rattle.output.proofs.Putting.{onward, told, same-length as same}
-use Rattle.house.proofs.Clipping.{at-most-le, taken-most}
+use Rattle.output.proofs.Clipping.{at-most-le, taken-most}
 use Rattle.house.proofs.Gathering.{items-on, items-end, behind-is}
 use Rattle.house.proofs.put_items.Statement.{statement}
 use Rattle.house.proofs.put_items.Tie as tie

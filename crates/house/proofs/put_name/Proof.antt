@@ -5,7 +5,7 @@ use lib.ListN.{length}
 use Rattle.definitions.specs.Limits.{nameMost}
 use Rattle.definitions.specs.Entries.{Name}
 use Rattle.definitions.specs.House.{entryText}
-use Rattle.house.proofs.Clipping.{at-most-le, part-most}
+use Rattle.output.proofs.Clipping.{at-most-le, part-most}
 use Rattle.output.proofs.Putting.{then, told, same-length as same}
 use borrow.Author.Needs.{needs}
 use Rattle.house.proofs.put_name.Statement.{statement}

@@ -1,0 +1,4 @@
+-- How the parts of a pattern's text go together.
+pub mod Signs
+pub mod Texts
+pub mod Gathering

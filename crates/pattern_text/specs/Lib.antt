@@ -1,0 +1,2 @@
+-- What the contracts of `pattern_text` cite.
+pub mod Parts

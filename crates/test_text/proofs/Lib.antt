@@ -1,0 +1,2 @@
+-- What the parts of a test's text are made of.
+pub mod Texts
