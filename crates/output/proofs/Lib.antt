@@ -2,3 +2,4 @@
 pub mod Putting
 pub mod Decimals
 pub mod Clipping
+pub mod Whole

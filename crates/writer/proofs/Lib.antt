@@ -1,0 +1,2 @@
+-- How the answer of a writing follows.
+pub mod Dues

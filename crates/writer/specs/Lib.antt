@@ -1,0 +1,2 @@
+-- What the contracts of `writer` cite.
+pub mod Measured
