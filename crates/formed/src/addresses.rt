@@ -8,12 +8,14 @@ ghost use Rattle.definitions.specs.WellFormed.{addressFits, addressUnused};
 use definitions::limits::ADDRESSES;
 use definitions::table::Address;
 
+// The number of an address is within its limit by its type.
 fn address_fits(a: Address) -> bool
     ensures { λ r. ⌜ r ≡ addressFits a ⌝ }
 {
     a.prefix <= 32
 }
 
+// An address that is not in use is zero.
 fn address_unused(a: Address) -> bool
     ensures { λ r. ⌜ r ≡ addressUnused a ⌝ }
 {

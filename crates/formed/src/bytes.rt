@@ -41,6 +41,7 @@ fn quotable_to(s: &[u8], n: usize) -> bool
     true
 }
 
+// 1 to 64 bytes that may stand in a name, and zeros behind them.
 pub fn name_fits(name: [u8; NAME_BYTES], len: usize) -> bool
     ensures { λ r. ⌜ r ≡ nameFits name len ⌝ }
 {

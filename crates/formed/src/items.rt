@@ -15,6 +15,7 @@ use definitions::table::NumberField;
 use definitions::table::NumberTest;
 use definitions::table::Pattern;
 
+// An address test has 1 to 8 addresses.
 fn count_fits(count: usize) -> bool
     ensures { λ r. ⌜ r ≡ between 1 addressesMost count ⌝ }
 {
@@ -25,6 +26,7 @@ fn count_fits(count: usize) -> bool
     }
 }
 
+// The largest number of each option, and of each header field.
 fn number_most(field: NumberField) -> u16
     ensures { λ r. ⌜ r ≡ numberMost field ⌝ }
 {
@@ -68,6 +70,7 @@ fn field_fits(a: FieldTest) -> bool
     }
 }
 
+// A distance lies between -65535 and 65535.
 fn offset_fits(offset: i32) -> bool
     ensures { λ r. ⌜ r ≡ leb (natAbs offset) wordMost ⌝ }
 {
@@ -87,6 +90,7 @@ fn distance_fits(distance: Distance) -> bool
     }
 }
 
+// A pattern has a byte at least, and its distance fits; a within does by its type.
 fn pattern_fits(p: Pattern) -> bool
     ensures { λ r. ⌜ r ≡ itemFits (Item.Pattern p) ⌝ }
 {
@@ -97,6 +101,7 @@ fn pattern_fits(p: Pattern) -> bool
     distance_fits(distance)
 }
 
+// The item that a slot in use holds.
 pub fn item_fits(it: Item) -> bool
     ensures { λ r. ⌜ r ≡ itemFits it ⌝ }
 {

@@ -21,6 +21,7 @@ use definitions::limits::TESTS;
 use definitions::table::Table;
 use references::counting::usable_count;
 
+// The slots hold what they may, and no more than 8 patterns and 16 tests.
 fn items_fit(t: Table) -> bool
     ensures { λ r. ⌜ r ≡ itemsFit t ⌝ }
 {
@@ -42,6 +43,7 @@ fn items_fit(t: Table) -> bool
     count - patterns <= TESTS
 }
 
+// As many bytes are in use as the patterns have, and the room behind them is zero.
 fn bytes_fit(t: Table) -> bool
     requires { ⌜ t .count ≤ itemsMost ⌝ }
     ensures { λ r. ⌜ r ≡ bytesFit t ⌝ }
@@ -56,6 +58,7 @@ fn bytes_fit(t: Table) -> bool
     room_fits(all, used)
 }
 
+// Whether some text, of whatever length, reads as the table. Any protocol will do: it is a byte by its type.
 pub fn well_formed(t: Table) -> bool
     ensures { λ r. ⌜ r ≡ wellFormed t ⌝ }
 {

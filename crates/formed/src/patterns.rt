@@ -22,6 +22,7 @@ fn patterns_in(slot: Slot) -> usize
     1
 }
 
+// How many patterns there are among the slots in use.
 pub fn pattern_count(items: [Slot; ITEMS], count: usize) -> usize
     requires { ⌜ count ≤ itemsMost ⌝ }
     ensures { λ r. ⌜ r ≡ length (patternsOf (take count items)) ⌝ }

@@ -23,6 +23,7 @@ fn address_count(it: Item) -> usize
     a.count
 }
 
+// A slot in use.
 fn slot_fits(slot: Slot) -> bool
     ensures { λ r. ⌜ r ≡ slotFits slot ⌝ }
 {
@@ -38,6 +39,7 @@ fn slot_fits(slot: Slot) -> bool
     addresses_unused(list, n)
 }
 
+// No item.
 fn is_unused(it: Item) -> bool
     ensures { λ r. ⌜ r ≡ isUnused (kindOf it) ⌝ }
 {
@@ -47,6 +49,7 @@ fn is_unused(it: Item) -> bool
     true
 }
 
+// A slot that is not in use.
 fn slot_unused(slot: Slot) -> bool
     ensures { λ r. ⌜ r ≡ slotUnused slot ⌝ }
 {
@@ -58,7 +61,7 @@ fn slot_unused(slot: Slot) -> bool
     addresses_unused(list, 0)
 }
 
-// The slots in use.
+// Each of the slots in use.
 pub fn slots_fit(items: [Slot; ITEMS], count: usize) -> bool
     requires { ⌜ count ≤ itemsMost ⌝ }
     ensures { λ r. ⌜ r ≡ all? slotFits (take count items) ⌝ }
@@ -74,7 +77,7 @@ pub fn slots_fit(items: [Slot; ITEMS], count: usize) -> bool
     true
 }
 
-// The slots behind them.
+// Each of the slots behind them.
 pub fn slots_unused(items: [Slot; ITEMS], from: usize) -> bool
     ensures { λ r. ⌜ r ≡ all? slotUnused (drop from items) ⌝ }
 {
