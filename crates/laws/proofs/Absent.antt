@@ -2,7 +2,7 @@
 -- with such an item, at whatever place, has no placements (`absent-behind`, `absent-none`); so a table with such an item is met by no packet and
 -- no decoded buffer (`absent-table`, `absent-verdict`). Of data_at with relative, whose field is that of the last positive pattern before it,
 -- `absent-at` says which that can be. Section "Meaning", its first paragraph. The argument: each item's test asks for its field first.
-use mathlib.Core.Path.{_≡_, refl, sym, ap, _∙_, subst}
+use mathlib.Core.Path.{_≡_, refl, sym, ap, _∙_, subst, fun-ext}
 use mathlib.Core.Logic.{_⊎_, inl, inr, ⊎-elim}
 use mathlib.Core.Bool.{Bool, true, false, _&&_, true≢false, false≢true}
 use mathlib.Core.List.{List, [], _∷_, _++_, List·Memᴰ as Mem, List·Memᴰ·head as here, List·Memᴰ·tail as there, List·Memᴰ·not-nil as not-nil, List·Memᴰ·cases-cons as cases-cons}
@@ -107,6 +107,25 @@ unfolding liesIn nowhereHolds
 absent-never v (placed p b) l s c m e = absent-first v (p .context) c _ m e
 absent-never v (nowhere p b) l s c m e = absent-first v (p .context) c _ m e
 absent-never v (tested it al) l s c m e = absent-test v it al l c m e
+
+-- `fieldsRead` leaves none out: besides the datagram's facts an item depends on those fields only
+pub looks-only : (v v′ : View) (w : Wanted) (l : Last) (s : Start) → v .facts ≡ v′ .facts
+    → ((c : Context) → Mem c (fieldsRead w l) → (v .present c ≡ v′ .present c) × (v .field c ≡ v′ .field c)) → itemHolds v w l s ≡ itemHolds v′ w l s
+unfolding liesIn nowhereHolds starts testHolds sizeHolds atHolds
+looks-only v v′ (placed p b) l s f h = let k = h (p .context) (here refl) in rw (k .0, k .1)
+looks-only v v′ (nowhere p b) l s f h =
+    let k = h (p .context) (here refl) in
+    let e : liesIn v p b l ≡ liesIn v′ p b l = fun-ext (λ at. rw (k .0, k .1)) in
+    rw (e, k .0, k .1)
+looks-only v v′ (tested item.Unused al) l s f h = refl
+looks-only v v′ (tested (item.Address a) al) l s f h = rw f
+looks-only v v′ (tested item.SameIp al) l s f h = rw f
+looks-only v v′ (tested (item.Number t) al) l s f h = rw f
+looks-only v v′ (tested (item.Ttl t) al) l s f h = rw f
+looks-only v v′ (tested (item.Field t) al) l s f h = rw f
+looks-only v v′ (tested (item.Size t) al) l s f h = let k = h (sizeContext (t .field)) (here refl) in rw (k .0, k .1)
+looks-only v v′ (tested (item.At t) al) l s f h = let k = h (atContext (t .relative) l) (here refl) in rw (k .0, k .1)
+looks-only v v′ (tested (item.Pattern p) al) l s f h = refl
 
 -- ---- a list of items
 
