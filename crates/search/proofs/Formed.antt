@@ -1,0 +1,116 @@
+-- What a well-formed table gives the search: no more items than there is room for, each pattern's bytes among the table's, a start for each positive
+-- pattern; and each placement listed has as many starts.
+use mathlib.Core.Path.{_≡_, _∙_}
+use mathlib.Core.Bool.{Bool, true, false}
+use mathlib.Core.List.{List, [], _∷_, List·Memᴰ as Mem}
+use Prim.Native.Nat.{ℕ, _+_, _≤_, _<_}
+use native.Mathlib.Omega.{arith}
+use lib.ListN.{length}
+use lib.Dec.{eqb, leb}
+use borrow.Author.Tests.{eqb-true, leb-true}
+use Rattle.forms.proofs.Bools.{by-cases, both-left, both-right}
+use Rattle.definitions.specs.declared.table.Item.{Item}
+use Rattle.definitions.specs.declared.table.Address.{Address}
+use Rattle.definitions.specs.declared.table.Slot.{Slot}
+use Rattle.definitions.specs.declared.table.Table.{Table}
+use Rattle.definitions.specs.declared.packet.Direction.{Direction}
+use Rattle.definitions.specs.declared.packet.Last.the-variants.{Nothing}
+use Rattle.definitions.specs.Limits.{itemsMost, patternsMost, byteMost}
+use Rattle.definitions.specs.Lists.{keep, all?}
+use Rattle.definitions.specs.Tables.{Kind, unused, addressed, patterned, plainTest, kindOf, slotsOf, patternFirst, patternsOf, behindItem}
+use Rattle.definitions.specs.WellFormed.{nameFits, slotFits, slotUnused, patternCount, itemsFit, bytesOf, bytesFit, wellFormed}
+use Rattle.definitions.specs.Fields.{View}
+use Rattle.definitions.specs.Placements.{wantedBy, wanted, itemsOf, positiveIn, positives, placements, headHolds, listed}
+use Rattle.definitions.specs.Answers.{placementOf}
+use Rattle.laws.proofs.Listing.{keep-in, placements-meet, meets-length}
+use Rattle.formed.proofs.Forming as forming
+use Rattle.windows.specs.Spans.{sizeBound}
+use Rattle.search.specs.declared.outcomes.Outcome.{Outcome}
+use Rattle.search.specs.Outcomes.{nothing, outcomeOf, behindIf}
+use Rattle.search.specs.Searching.{answer, Ready}
+use Rattle.search.proofs.Extending.{first-outcome}
+
+-- ---- no more positive patterns than patterns
+
+positives-by : (k : Kind) (it : Item) (al : List Address) (b : List ℕ) (n m : ℕ) → n ≤ m → positiveIn (wantedBy k it al b) + n ≤ length (patternFirst k []) + m
+positives-by unused it al b n m h = omega arith
+positives-by (addressed a) it al b n m h = omega arith
+positives-by (patterned p) it al b n m h = by-cases (p .negated) (λ t. rw t (omega arith)) (λ f. rw f (omega arith))
+positives-by plainTest it al b n m h = omega arith
+
+patterns-by : (k : Kind) (sls : List Slot) → length (patternFirst k (patternsOf sls)) ≡ length (patternFirst k []) + length (patternsOf sls)
+patterns-by unused sls = omega arith
+patterns-by (addressed a) sls = omega arith
+patterns-by (patterned p) sls = omega arith
+patterns-by plainTest sls = omega arith
+
+positives-few : (sls : List Slot) (b : List ℕ) → positives (wanted sls b) ≤ length (patternsOf sls)
+unfolding positives wanted patternsOf
+positives-few [] b = omega arith
+positives-few (sl ∷ sls) b =
+    let k = kindOf (sl .item) in
+    omega (
+      arith,
+      patterns-by k sls,
+      positives-by k (sl .item) (sl .addresses) b (positives (wanted sls (behindItem k b))) (length (patternsOf sls)) (positives-few sls (behindItem k b)),
+    )
+
+-- ---- a well-formed table
+
+module _ (t : Table) (formed : wellFormed t ≡ true) where
+  items-fit : itemsFit t ≡ true
+  unfolding wellFormed
+  items-fit = both-left (itemsFit t) _ (both-right (leb (t .protocol) byteMost) _ (both-right (nameFits (t .name) (t .len)) _ formed))
+
+  bytes-fit : bytesFit t ≡ true
+  unfolding wellFormed
+  bytes-fit =
+      both-left (bytesFit t) _ (both-right (itemsFit t) _ (both-right (leb (t .protocol) byteMost) _ (both-right (nameFits (t .name) (t .len)) _ formed)))
+
+  pub few-items : t .count ≤ itemsMost
+  few-items = forming.few-items t items-fit
+
+  few-patterns : patternCount t ≤ patternsMost
+  unfolding itemsFit
+  few-patterns =
+      leb-true (patternCount t) patternsMost
+      (both-left (leb (patternCount t) patternsMost) _
+      (both-right (all? slotUnused _) _ (both-right (all? slotFits (slotsOf t)) _ (both-right (leb (t .count) itemsMost) _ items-fit))))
+
+  stored : bytesOf (patternsOf (slotsOf t)) ≤ length (t .bytes)
+  unfolding bytesFit
+  stored =
+      let used = eqb-true (t .used) (bytesOf (patternsOf (slotsOf t))) (both-left (eqb (t .used) (bytesOf (patternsOf (slotsOf t)))) _ bytes-fit) in
+      let room = leb-true (t .used) (length (t .bytes)) (both-left (leb (t .used) (length (t .bytes))) _ (both-right (eqb (t .used) (bytesOf (patternsOf (slotsOf t)))) _ bytes-fit)) in
+      omega arith
+
+  few-positives : positives (itemsOf t) ≤ patternsMost
+  unfolding itemsOf
+  few-positives = omega (arith, positives-few (slotsOf t) (t .bytes), few-patterns)
+
+  pub ready-first : (s d : List ℕ) → length (t .bytes) < sizeBound → length s < sizeBound → length d < sizeBound → Ready (slotsOf t) (t .bytes) s d Nothing (placementOf [])
+  unfolding itemsOf
+  ready-first s d b h k =
+      record {
+        small = record { bytes = b; payload = h; decoded = k; last = omega arith };
+        stored = stored;
+        room = omega (arith, few-positives);
+      }
+
+  -- ---- what it lists
+
+  module _ (v : View) where
+    short : (q : List ℕ) → Mem q (placements v (itemsOf t) Nothing) → length q ≤ patternsMost
+    short q m = let e = meets-length v (itemsOf t) Nothing q (placements-meet v (itemsOf t) Nothing q m) in omega (arith, few-positives)
+
+    module _ (dir : Direction) (tight : Bool) (p : List ℕ) where
+      pub found-first : headHolds t v dir ≡ true → (x : Outcome) → x ≡ answer (placementOf []) tight p (placements v (wanted (slotsOf t) (t .bytes)) Nothing)
+          → x ≡ outcomeOf (keep (behindIf tight p) (listed t v dir))
+      unfolding answer listed itemsOf
+      found-first e x h =
+          h ∙ first-outcome (keep (behindIf tight p) (placements v (itemsOf t) Nothing)) (λ q m. short q (keep-in (behindIf tight p) q (placements v (itemsOf t) Nothing) m .0))
+          ∙ rw e
+
+pub found-none : (t : Table) (v : View) (dir : Direction) (tight : Bool) (p : List ℕ) → headHolds t v dir ≡ false → nothing ≡ outcomeOf (keep (behindIf tight p) (listed t v dir))
+unfolding listed keep
+found-none t v dir tight p e = rw e

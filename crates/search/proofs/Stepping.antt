@@ -1,0 +1,191 @@
+-- One item more: what is wanted of the items left, what the search rests on behind it, and what it answers.
+use mathlib.Core.Path.{_≡_, refl, sym, ap, _∙_}
+use mathlib.Core.Bool.{Bool, true, false}
+use mathlib.Core.List.{List, [], _∷_}
+use Prim.Native.Nat.{ℕ, _+_, _-_, _≤_, _<_}
+use native.Mathlib.Omega.{arith}
+use native.Mathlib.Nat.{sub-zero}
+use lib.ListN.{length, take, drop, getD, length-drop}
+use lib.Seq.{take-all}
+use types.Run.{OneOf}
+use denote.Enum.Declared.{tagOf}
+use Rattle.forms.proofs.Bools.{by-cases}
+use Rattle.definitions.specs.declared.table.Pattern.{Pattern}
+use Rattle.definitions.specs.declared.table.Item.{Item}
+use Rattle.definitions.specs.declared.table.Item.the-variants as item
+use Rattle.definitions.specs.declared.table.Address.{Address}
+use Rattle.definitions.specs.declared.table.Slot.{Slot}
+use Rattle.definitions.specs.declared.packet.Last.{Last}
+use Rattle.definitions.specs.declared.packet.Placement.{Placement}
+use Rattle.definitions.specs.References.{lastAfter}
+use Rattle.definitions.specs.Windows.{lastEnd}
+use Rattle.definitions.specs.Tables.{Kind, patternFirst, patternsOf, behindItem}
+use Rattle.definitions.specs.WellFormed.{bytesOf}
+use Rattle.definitions.specs.Fields.{View}
+use Rattle.definitions.specs.Tests.{testHolds}
+use Rattle.definitions.specs.Placements.{Wanted, placed, nowhere, tested, wantedPattern, wantedBy, wanted, positives, nowhereHolds, placements}
+use Rattle.definitions.proofs.table.Item as item-type
+use Rattle.references.proofs.OtherItems.{other-kind}
+use Rattle.references.proofs.Firsts.{first-here, first-out}
+use Rattle.windows.specs.Spans.{sizeBound}
+use Rattle.meaning.specs.Seen.{Bounded}
+use Rattle.search.specs.Outcomes.{nothing}
+use Rattle.search.specs.Searching.{push, answer, itemsLeft, Small, Ready, Trying}
+use Rattle.search.proofs.Answering.{answer-nothing}
+
+-- ---- what is wanted
+
+-- a pattern's own bytes, and those behind them, as parts of the bytes left
+abbrev pub ownOf : List ℕ → ℕ → List ℕ
+ownOf b n = take (n - 0) (drop 0 b)
+
+abbrev pub restOf : List ℕ → ℕ → List ℕ
+restOf b n = take (length b - n) (drop n b)
+
+own-is : (b : List ℕ) (n : ℕ) → ownOf b n ≡ take n b
+own-is b n = rw (sub-zero n)
+
+rest-is : (b : List ℕ) (n : ℕ) → restOf b n ≡ drop n b
+rest-is b n = take-all (length b - n) (drop n b) (omega (arith, length-drop n b))
+
+abbrev NoPattern : Item → Type 0
+NoPattern it = OneOf (0 ∷ 1 ∷ 2 ∷ 3 ∷ 4 ∷ 5 ∷ 6 ∷ 7 ∷ []) (tagOf item-type.the-type it)
+
+module _ (all : List Slot) (sl : Slot) (sls : List Slot) (u : all ≡ sl ∷ sls) (b : List ℕ) where
+  pub wanted-test : NoPattern (sl .item) → wanted all b ≡ tested (sl .item) (sl .addresses) ∷ wanted sls b
+  unfolding wanted
+  wanted-test k =
+      rw u
+      (other-kind (λ (κ : Kind). _≡_ {A = List Wanted} (wantedBy κ (sl .item) (sl .addresses) b ∷ wanted sls (behindItem κ b)) (tested (sl .item) (sl .addresses) ∷ wanted sls b))
+      refl (λ a. refl) refl (sl .item) k)
+
+  bytes-test : NoPattern (sl .item) → bytesOf (patternsOf all) ≡ bytesOf (patternsOf sls)
+  unfolding patternsOf
+  bytes-test k = rw u (other-kind (λ (κ : Kind). bytesOf (patternFirst κ (patternsOf sls)) ≡ bytesOf (patternsOf sls)) refl (λ a. refl) refl (sl .item) k)
+
+  module _ (p : Pattern) (e : sl .item ≡ item.Pattern p) where
+    wanted-pattern : wanted all b ≡ wantedPattern p (ownOf b (p .len)) ∷ wanted sls (restOf b (p .len))
+    unfolding wanted
+    wanted-pattern = rw (u, e, own-is b (p .len), rest-is b (p .len))
+
+    pub wanted-nowhere : p .negated ≡ true → wanted all b ≡ nowhere p (ownOf b (p .len)) ∷ wanted sls (restOf b (p .len))
+    wanted-nowhere n = wanted-pattern ∙ rw n
+
+    pub wanted-placed : p .negated ≡ false → wanted all b ≡ placed p (ownOf b (p .len)) ∷ wanted sls (restOf b (p .len))
+    wanted-placed n = wanted-pattern ∙ rw n
+
+    bytes-pattern : bytesOf (patternsOf all) ≡ p .len + bytesOf (patternsOf sls)
+    unfolding patternsOf bytesOf
+    bytes-pattern = rw (u, e)
+
+-- the slot at a place of the items in use, and those behind it; `slot0` is what the logic has behind the array's end
+abbrev pub slot0 : Slot
+slot0 = record { item = item.Unused; addresses = [] }
+
+pub left-here : (items : List Slot) (count k : ℕ) → k < count → count ≤ length items → itemsLeft items count k ≡ getD items k slot0 ∷ itemsLeft items count (k + 1)
+left-here items count k h g = first-here items count k slot0 h g
+
+pub left-out : (items : List Slot) (count k : ℕ) → count ≤ k → itemsLeft items count k ≡ []
+left-out items count k h = first-out items count k h
+
+-- ---- what the search rests on
+
+positives-test : (it : Item) (al : List Address) (ws : List Wanted) → positives (tested it al ∷ ws) ≡ positives ws
+unfolding positives
+positives-test it al ws = omega arith
+
+positives-nowhere : (p : Pattern) (b : List ℕ) (ws : List Wanted) → positives (nowhere p b ∷ ws) ≡ positives ws
+unfolding positives
+positives-nowhere p b ws = omega arith
+
+positives-placed : (p : Pattern) (b : List ℕ) (ws : List Wanted) → positives (placed p b ∷ ws) ≡ 1 + positives ws
+unfolding positives
+positives-placed p b ws = refl
+
+rest-short : (b : List ℕ) (n : ℕ) → length (restOf b n) ≡ length b - n
+rest-short b n = rw (rest-is b n) (length-drop n b)
+
+module _ (all : List Slot) (sl : Slot) (sls : List Slot) (u : all ≡ sl ∷ sls) (b s d : List ℕ) (l : Last) (acc : Placement) (rd : Ready all b s d l acc) where
+  pub ready-test : NoPattern (sl .item) → Ready sls b s d l acc
+  ready-test k =
+      let room : positives (wanted all b) ≡ positives (wanted sls b) = ap positives (wanted-test all sl sls u b k) ∙ positives-test (sl .item) (sl .addresses) (wanted sls b) in
+      record { small = rd .small; stored = omega (arith, rd .stored, bytes-test all sl sls u b k); room = omega (arith, rd .room, room) }
+
+  module _ (p : Pattern) (e : sl .item ≡ item.Pattern p) where
+    pub pattern-stored : p .len + bytesOf (patternsOf sls) ≤ length b
+    pattern-stored = omega (arith, rd .stored, bytes-pattern all sl sls u b p e)
+
+    pub pattern-bounded : Bounded s d p l
+    pattern-bounded =
+        record {
+          payload = rd .small .payload;
+          decoded = rd .small .decoded;
+          last = rd .small .last;
+          pattern = omega (arith, pattern-stored, rd .small .bytes);
+        }
+
+    rest-small : Small (restOf b (p .len)) s d l
+    rest-small =
+        record {
+          bytes = omega (arith, rest-short b (p .len), rd .small .bytes);
+          payload = rd .small .payload;
+          decoded = rd .small .decoded;
+          last = rd .small .last;
+        }
+
+    pub ready-nowhere : p .negated ≡ true → Ready sls (restOf b (p .len)) s d l acc
+    ready-nowhere n =
+        let room : positives (wanted all b) ≡ positives (wanted sls (restOf b (p .len))) = ap positives (wanted-nowhere all sl sls u b p e n) ∙ positives-nowhere p _ _ in
+        record { small = rest-small; stored = omega (arith, rest-short b (p .len), pattern-stored); room = omega (arith, rd .room, room) }
+
+    pub ready-placed : p .negated ≡ false → Trying sls (restOf b (p .len)) p s d l acc
+    ready-placed n =
+        let room : positives (wanted all b) ≡ 1 + positives (wanted sls (restOf b (p .len))) = ap positives (wanted-placed all sl sls u b p e n) ∙ positives-placed p _ _ in
+        record {
+          small = rest-small;
+          len = omega (arith, pattern-stored, rd .small .bytes);
+          stored = omega (arith, rest-short b (p .len), pattern-stored);
+          room = omega (arith, rd .room, room);
+        }
+
+-- a pattern that is to be placed, and the items behind it with its start chosen
+module _ (sls : List Slot) (b : List ℕ) (p : Pattern) (s d : List ℕ) (l : Last) (acc : Placement) (tr : Trying sls b p s d l acc) where
+  pub trying-bounded : Bounded s d p l
+  trying-bounded = record { payload = tr .small .payload; decoded = tr .small .decoded; last = tr .small .last; pattern = tr .len }
+
+  last-small : (at : ℕ) → at + p .len < sizeBound → lastEnd (lastAfter l p at) < sizeBound
+  last-small at h = by-cases (p .negated) (λ t. rw t (tr .small .last)) (λ t. rw t h)
+
+  pub ready-next : (at : ℕ) (next : Last) (ws : Placement) → at + p .len < sizeBound → next ≡ lastAfter l p at → ws ≡ push acc at → Ready sls b s d next ws
+  ready-next at next ws h en ew =
+      record {
+        small = record { bytes = tr .small .bytes; payload = tr .small .payload; decoded = tr .small .decoded; last = rw en (last-small at h) };
+        stored = tr .stored;
+        room = rw ew (tr .room);
+      }
+
+-- ---- what it answers
+
+module _ (v : View) (l : Last) (acc : Placement) (tight : Bool) (q : List ℕ) (all ws : List Wanted) where
+  module _ (it : Item) (al : List Address) (u : all ≡ tested it al ∷ ws) where
+    pub test-yes : testHolds v it al l ≡ true → answer acc tight q (placements v ws l) ≡ answer acc tight q (placements v all l)
+    unfolding placements
+    test-yes e = rw (u, e)
+
+    pub test-no : testHolds v it al l ≡ false → nothing ≡ answer acc tight q (placements v all l)
+    unfolding placements
+    test-no e = rw (u, e) (sym (answer-nothing acc tight q))
+
+  module _ (p : Pattern) (b : List ℕ) (u : all ≡ nowhere p b ∷ ws) where
+    pub nowhere-yes : nowhereHolds v p b l ≡ true → answer acc tight q (placements v ws l) ≡ answer acc tight q (placements v all l)
+    unfolding placements
+    nowhere-yes e = rw (u, e)
+
+    pub nowhere-no : nowhereHolds v p b l ≡ false → nothing ≡ answer acc tight q (placements v all l)
+    unfolding placements
+    nowhere-no e = rw (u, e) (sym (answer-nothing acc tight q))
+
+pub behind-last : (v : View) (l : Last) (acc : Placement) (tight : Bool) (q : List ℕ) (all : List Slot) (b : List ℕ) → all ≡ []
+    → answer acc tight q ([] ∷ []) ≡ answer acc tight q (placements v (wanted all b) l)
+unfolding placements wanted
+behind-last v l acc tight q all b e = rw e

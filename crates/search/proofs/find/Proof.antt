@@ -1,0 +1,52 @@
+-- Where protocol or flow do not hold nothing is listed; else the items' answer over nothing chosen is the outcome.
+use mathlib.Core.Path.{_≡_, sym, _∙_}
+use native.Mathlib.Omega.{arith}
+use borrow.Author.Needs.{needs, length-unmapped}
+use borrow.Author.Tests.{not-true, not-false}
+use lib.ListN.{length}
+use Rattle.meaning.specs.Seen.{seen}
+use Rattle.search.proofs.Formed.{few-items, ready-first, found-first, found-none}
+use Rattle.search.proofs.find.Statement.{statement}
+use Rattle.search.proofs.find.Tie as tie
+
+head-holds-requires : tie.Need-head-holds-requires
+head-holds-requires c κs = search needs
+
+no-match-requires : tie.Need-no-match-requires
+no-match-requires c κs = search needs
+
+returns : tie.Need-returns
+returns c =
+    let x = c .before .before .before .before .before .args in
+    c .no-match .ensures
+    ∙ found-none (x .t) (seen (x .facts) (x .payload .now) (x .decoded .now) (x .m)) (x .dir) (x .tight) (x .bound)
+    (sym (c .before .before .head-holds .ensures) ∙ not-true _ (c .before .if1 .taken))
+
+slice-aggregate-all : tie.Need-slice-aggregate-all
+slice-aggregate-all c = search needs
+
+from-item-requires : tie.Need-from-item-requires
+from-item-requires c κs =
+    let a = c .before .before .before .before .before .before .before in
+    let x = a .args in
+    let room : length (x .t .bytes) ≡ 1024 = length-unmapped _ (x .t .bytes) 1024 (a .good .0 .1 .1 .1 .1 .1 .1 .0 .1 .0 .1) in
+    (few-items (x .t) (a .pre .formed), ready-first (x .t) (a .pre .formed) (x .payload .now) (x .decoded .now) (omega arith) (a .pre .payload) (a .pre .decoded))
+
+returns-2 : tie.Need-returns-2
+returns-2 c =
+    let a = c .before .before .before .before .before .before .before .before in
+    let x = a .args in
+    found-first (x .t) (a .pre .formed) (seen (x .facts) (x .payload .now) (x .decoded .now) (x .m)) (x .dir) (x .tight) (x .bound)
+    (sym (c .before .before .before .before .before .head-holds .ensures) ∙ not-false _ (c .before .before .before .before .if1 .left))
+    (c .from-item .result) (c .from-item .ensures)
+
+pub find-spec : {M : Type 1} → statement M
+find-spec =
+    tie.close
+    (tie.spec
+    head-holds-requires
+    no-match-requires
+    returns
+    slice-aggregate-all
+    from-item-requires
+    returns-2)

@@ -1,0 +1,62 @@
+// The search for placements: the first that meets a table, or the first behind another one.
+mod items;
+pub mod outcomes;
+
+ghost use mathlib.Core.Path.{_≡_};
+ghost use Rattle.definitions.specs.Lists.{keep};
+ghost use Rattle.definitions.specs.Placements.{listed};
+ghost use Rattle.meaning.specs.Seen.{seen};
+ghost use Rattle.search.specs.Outcomes.{outcomeOf, behindIf};
+ghost use Rattle.search.specs.Searching.{Searchable};
+use crate::items::from_item;
+use crate::outcomes::Outcome;
+use crate::outcomes::no_match;
+use definitions::limits::PATTERNS;
+use definitions::packet::Direction;
+use definitions::packet::Facts;
+use definitions::packet::FieldMap;
+use definitions::packet::Last;
+use definitions::packet::Placement;
+use definitions::table::Table;
+use meaning::heads::head_holds;
+
+// THE SEARCH: the first of the list of placements; where `tight`, the first behind the one with the starts in `bound`.
+pub fn find<'a>(
+    t: Table,
+    facts: Facts,
+    payload: &'a [u8],
+    decoded: &'a [u8],
+    dir: Direction,
+    m: FieldMap,
+    bound: [usize; PATTERNS],
+    tight: bool,
+) -> Outcome
+    requires { ⌜ Searchable t (now payload) (now decoded) ⌝ }
+    ensures { λ r. ⌜ r ≡ outcomeOf (keep (behindIf tight bound) (listed t (seen facts (now (payload .entry)) (now (decoded .entry)) m) dir)) ⌝ }
+{
+    let flow = t.flow;
+    if !head_holds(t.protocol, flow, facts, dir) {
+        return no_match();
+    }
+    let items = t.items;
+    let bytes = t.bytes;
+    let all = &bytes[..];
+    let none = Placement {
+        count: 0,
+        starts: [0; PATTERNS],
+    };
+    from_item(
+        items,
+        t.count,
+        0,
+        all,
+        facts,
+        payload,
+        decoded,
+        m,
+        Last::Nothing,
+        none,
+        bound,
+        tight,
+    )
+}
