@@ -1,6 +1,5 @@
 -- From starts put in one by one to a placement with its unused room zero; and from the answer over nothing chosen to the outcome.
-use mathlib.Core.Path.{_≡_, refl, sym, ap, _∙_, subst}
-use mathlib.Core.Bool.{Bool, true, false}
+use mathlib.Core.Path.{_≡_, refl, sym, _∙_, subst}
 use mathlib.Core.List.{List, [], _∷_, _++_, append-nil, List·Memᴰ as Mem, List·Memᴰ·head as here}
 use Prim.Native.Nat.{ℕ, _+_, _-_, _≤_}
 use native.Mathlib.Nat.{suc-add, zero-add}
@@ -10,7 +9,7 @@ use lib.Seq.{set-append-seam, append-snoc}
 use Rattle.definitions.specs.Limits.{patternsMost}
 use Rattle.definitions.specs.Answers.{placementOf}
 use Rattle.search.specs.Outcomes.{outcomeOf}
-use Rattle.search.specs.Searching.{push, extend, firstOf}
+use Rattle.search.specs.Searching.{extend, firstOf}
 
 extend-to : (q pre : List ℕ) (m : ℕ)
     → extend (record { count = length pre; starts = pre ++ replicate (length q + m) 0 }) q ≡ record { count = length (pre ++ q); starts = (pre ++ q) ++ replicate m 0 }

@@ -1,5 +1,4 @@
 -- What the search answers, as a function of a list of placements. Document 01, section "Meaning", its last paragraphs.
-use Prim.Native.Nat.{ℕ}
 use mathlib.Core.Bool.{Bool, true, false}
 use mathlib.Core.List.{List, [], _∷_}
 use Rattle.definitions.specs.Placements.{Start, behind}

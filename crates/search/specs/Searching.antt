@@ -10,7 +10,7 @@ use Rattle.definitions.specs.declared.table.Slot.{Slot}
 use Rattle.definitions.specs.declared.table.Table.{Table}
 use Rattle.definitions.specs.declared.packet.Last.{Last}
 use Rattle.definitions.specs.declared.packet.Placement.{Placement}
-use Rattle.definitions.specs.Limits.{itemsMost, patternsMost}
+use Rattle.definitions.specs.Limits.{patternsMost}
 use Rattle.definitions.specs.Lists.{keep}
 use Rattle.definitions.specs.Tables.{patternsOf}
 use Rattle.definitions.specs.WellFormed.{bytesOf, wellFormed}

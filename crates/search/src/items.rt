@@ -90,7 +90,7 @@ pub fn from_item<'a>(
             payload,
             decoded,
             m,
-            last,
+            last, // a negated pattern moves no reference
             acc,
             bound,
             tight,

@@ -1,0 +1,57 @@
+-- The number of positive patterns, slot by slot: a slot adds what its own item comes to, and pattern bytes play no part.
+use mathlib.Core.Path.{_≡_, refl, sym, ap, _∙_}
+use mathlib.Core.Bool.{Bool, true, false}
+use mathlib.Core.List.{List, [], _∷_}
+use Prim.Native.Nat.{ℕ, _+_, _≤_, _<_}
+use native.Mathlib.Omega.{arith}
+use lib.ListN.{length, getD, take, drop}
+use Rattle.forms.proofs.Bools.{by-cases}
+use Rattle.definitions.specs.declared.table.Item.{Item}
+use Rattle.definitions.specs.declared.table.Address.{Address}
+use Rattle.definitions.specs.declared.table.Slot.{Slot}
+use Rattle.definitions.specs.Tables.{Kind, unused, addressed, patterned, plainTest, kindOf, behindItem}
+use Rattle.definitions.specs.Placements.{wantedBy, wanted, positiveIn, positives}
+use Rattle.references.proofs.Firsts.{first-here, first-out}
+
+-- what one slot adds, with no pattern bytes
+abbrev pub positiveOf : Slot → ℕ
+positiveOf sl = positiveIn (wantedBy (kindOf (sl .item)) (sl .item) (sl .addresses) [])
+
+any-bytes : (k : Kind) (it : Item) (al : List Address) (b : List ℕ) → positiveIn (wantedBy k it al b) ≡ positiveIn (wantedBy k it al [])
+any-bytes unused it al b = refl
+any-bytes (addressed a) it al b = refl
+any-bytes (patterned p) it al b = by-cases (p .negated) (λ t. rw t) (λ f. rw f)
+any-bytes plainTest it al b = refl
+
+-- the positive patterns of some slots, with no pattern bytes
+abbrev pub positivesOf : List Slot → ℕ
+positivesOf sls = positives (wanted sls [])
+
+pub bytes-aside : (sls : List Slot) (b : List ℕ) → positives (wanted sls b) ≡ positivesOf sls
+unfolding positives wanted
+bytes-aside [] b = refl
+bytes-aside (sl ∷ sls) b =
+    let k = kindOf (sl .item) in
+    omega (arith, any-bytes k (sl .item) (sl .addresses) b, bytes-aside sls (behindItem k b), bytes-aside sls (behindItem k []))
+
+cons-adds : (sl : Slot) (sls : List Slot) → positivesOf (sl ∷ sls) ≡ positiveOf sl + positivesOf sls
+unfolding positives wanted
+cons-adds sl sls = ap (λ (n : ℕ). positiveOf sl + n) (bytes-aside sls (behindItem (kindOf (sl .item)) []))
+
+one-at-most : (k : Kind) (it : Item) (al : List Address) → positiveIn (wantedBy k it al []) ≤ 1
+one-at-most unused it al = omega arith
+one-at-most (addressed a) it al = omega arith
+one-at-most (patterned p) it al = by-cases (p .negated) (λ t. rw t (omega arith)) (λ f. rw f (omega arith))
+one-at-most plainTest it al = omega arith
+
+module _ (items : List Slot) (count i : ℕ) where
+  pub count-one : (d : Slot) (n : ℕ) → n ≡ positiveOf (getD items i d) → n ≤ 1
+  count-one d n e = rw e (one-at-most (kindOf (getD items i d .item)) (getD items i d .item) (getD items i d .addresses))
+
+  pub count-on : (d : Slot) (n : ℕ) → i < count → count ≤ length items → n ≡ positiveOf (getD items i d)
+      → positivesOf (drop i (take count items)) ≡ n + positivesOf (drop (i + 1) (take count items))
+  count-on d n h g e = rw (first-here items count i d h g, e) (cons-adds (getD items i d) (drop (i + 1) (take count items)))
+
+  pub count-out : count ≤ i → positivesOf (drop i (take count items)) ≡ 0
+  unfolding positives wanted
+  count-out h = rw (first-out items count i h)

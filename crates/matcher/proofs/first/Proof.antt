@@ -1,0 +1,53 @@
+-- A refusal is the first due; else the search has the first of the list.
+use mathlib.Core.Path.{sym, _∙_}
+use lib.ListN.{replicate}
+use Rattle.definitions.specs.Limits.{patternsMost}
+use Rattle.matcher.proofs.Clearance.{seen-cleared, refused-due}
+use Rattle.matcher.proofs.Answering.{first-refused, first-found}
+use borrow.Author.Needs.{needs}
+use Rattle.matcher.proofs.first.Statement.{statement}
+use Rattle.matcher.proofs.first.Tie as tie
+
+cleared-requires : tie.Need-cleared-requires
+cleared-requires c κs = search needs
+
+enum-known-seen : tie.Need-enum-known-seen
+enum-known-seen c = search needs
+
+refused-requires : tie.Need-refused-requires
+refused-requires c κs = search needs
+
+enum-known-seen-2 : tie.Need-enum-known-seen-2
+enum-known-seen-2 c = search needs
+
+searched-requires : tie.Need-searched-requires
+searched-requires c κs =
+    let x = c .before .before .before .before .before .before .args in
+    seen-cleared (x .t) (x .p .now) (x .decoded .now) (x .dir) (x .m) _ (sym (c .before .before .before .cleared .ensures (x .dir)) ∙ c .before .seen2 .given .1)
+
+answered-requires : tie.Need-answered-requires
+answered-requires c κs = search needs
+
+returns : tie.Need-returns
+returns c =
+    let x = c .before .before .before .before .before .before .before .args in
+    c .refused .ensures ∙ first-refused (x .t) (x .p .now) (x .decoded .now) (x .dir) (x .m) _ (refused-due (x .t) (x .p .now) (x .decoded .now) (x .dir) (x .m) _ (sym (c .before .before .before .before .cleared .ensures (x .dir)) ∙ c .before .before .seen .given .1))
+
+returns-2 : tie.Need-returns-2
+returns-2 c =
+    let x = c .before .before .before .before .before .before .before .before .args in
+    let ok = seen-cleared (x .t) (x .p .now) (x .decoded .now) (x .dir) (x .m) _ (sym (c .before .before .before .before .before .cleared .ensures (x .dir)) ∙ c .before .before .before .seen2 .given .1) in
+    c .answered .ensures ∙ first-found (x .t) (x .p .now) (x .decoded .now) (x .dir) (x .m) (ok .due) (c .before .searched .result) (replicate patternsMost 0) (c .before .searched .ensures)
+
+pub first-spec : {M : Type 1} → statement M
+first-spec =
+    tie.close
+    (tie.spec
+    cleared-requires
+    enum-known-seen
+    refused-requires
+    enum-known-seen-2
+    searched-requires
+    answered-requires
+    returns
+    returns-2)
