@@ -1,0 +1,102 @@
+-- Byte by byte: the code stands where the program stands behind the bytes taken.
+use mathlib.Core.Path.{_≡_, refl, sym, subst, _∙_}
+use mathlib.Core.Bool.{true, false}
+use Prim.Native.Nat.{_+_, _-_, _≤_, _<_, _^_}
+use native.Mathlib.Omega.{arith}
+use borrow.Author.Needs.{needs}
+use lib.ListN.{length, take}
+use Rattle.definitions.specs.Limits.{limits01}
+use Rattle.line_answers.specs.Stream.{Standing, behind, Holds, Roomy, Feeds}
+use Rattle.line_answers.specs.Steps.{begunOf, fedOf, Stands}
+use Rattle.line_answers.proofs.Feeding.{feed-start, feed-on, feed-full}
+use Rattle.line_answers.proofs.feed.Statement.{statement}
+use Rattle.line_answers.proofs.feed.Tie as tie
+
+abbrev Inv-loop : tie.InvT-loop
+Inv-loop input line₀ out₀ g₀ i₀ line out g i =
+    (i ≤ length input) × (length line ≡ length line₀) × (length out ≡ length out₀)
+    × ((st : Standing) → Roomy line₀ → Holds st line₀ (begunOf g₀) → st .number + length input < 2 ^ 64 → Stands (st .written) (behind st (take i input)) line out g)
+
+abbrev μ-loop : tie.MeasureT-loop
+μ-loop input line₀ out₀ g₀ i₀ line out g i = length input - i
+
+loop-holds : tie.Need-loop-holds Inv-loop μ-loop
+unfolding behind
+loop-holds c = (omega arith, refl, refl, λ st roomy h few. feed-start st _ _ _ h)
+
+shared-slice-read-take-byte : tie.Need-shared-slice-read-take-byte Inv-loop μ-loop
+shared-slice-read-take-byte c = omega arith
+
+take-byte-requires : tie.Need-take-byte-requires Inv-loop μ-loop
+take-byte-requires c κs = tt
+
+fed-so-far-requires : tie.Need-fed-so-far-requires Inv-loop μ-loop
+fed-so-far-requires c κs = tt
+
+same-length : tie.Need-same-length Inv-loop μ-loop
+same-length c = search needs
+
+same-length-2 : tie.Need-same-length-2 Inv-loop μ-loop
+same-length-2 c = search needs
+
+returns : tie.Need-returns Inv-loop μ-loop
+returns c =
+    rw (c .fed-so-far .ensures)
+    (record {
+      taken = c .before .before .before .before .before .before .before .before .before .before .before .loop .inv .0;
+      right = λ st roomy h few.
+          let s = feed-full st (c .before .before .before .before .before .before .before .before .before .before .before .before .before .before .before .args .input .now) (c .before .before .before .before .before .before .before .before .before .before .before .loop .i) (c .before .before .before .before .before .before .take-byte .ensures) (c .before .before .before .before .before .before .before .before .before .before .loop-test .taken) (subst (λ n. limits01 .text < n) (sym (c .before .before .before .before .before .before .before .before .before .before .before .loop .inv .1)) roomy) few (c .before .before .before .before .before .before .before .before .before .before .before .loop .inv .3 st roomy h few) (c .before .if1 .taken) in
+          (s .holds, s .put, s .written);
+    })
+
+add-i : tie.Need-add-i Inv-loop μ-loop
+add-i c = omega arith
+
+loop-less : tie.Need-loop-less Inv-loop μ-loop
+loop-less c = omega arith
+
+loop-again : tie.Need-loop-again Inv-loop μ-loop
+loop-again c =
+    let lines : length (c .before .before .before .before .before .take-byte .last .0) ≡ length (c .before .before .before .before .before .before .before .before .before .before .before .before .before .before .args .line .now) = search needs in
+    let outs : length (c .before .before .before .before .before .take-byte .last .1 .0) ≡ length (c .before .before .before .before .before .before .before .before .before .before .before .before .before .before .args .out .now) = search needs in
+    (omega arith, lines, outs, λ st roomy h few. feed-on st (c .before .before .before .before .before .before .before .before .before .before .before .before .before .before .args .input .now) (c .before .before .before .before .before .before .before .before .before .before .loop .i) (c .before .before .before .before .before .take-byte .ensures) (c .before .before .before .before .before .before .before .before .before .loop-test .taken) (subst (λ n. limits01 .text < n) (sym (c .before .before .before .before .before .before .before .before .before .before .loop .inv .1)) roomy) few (c .before .before .before .before .before .before .before .before .before .before .loop .inv .3 st roomy h few) (c .if1 .left))
+
+fed-so-far-requires-2 : tie.Need-fed-so-far-requires-2 Inv-loop μ-loop
+fed-so-far-requires-2 c κs = tt
+
+same-length-3 : tie.Need-same-length-3 Inv-loop μ-loop
+same-length-3 c = c .before .before .loop .inv .1
+
+same-length-4 : tie.Need-same-length-4 Inv-loop μ-loop
+same-length-4 c = c .before .before .loop .inv .2
+
+returns-2 : tie.Need-returns-2 Inv-loop μ-loop
+returns-2 c =
+    rw (c .fed-so-far2 .ensures)
+    (record {
+      taken = c .before .before .loop .inv .0;
+      right = λ st roomy h few.
+          let s = c .before .before .loop .inv .3 st roomy h few in
+          (s .holds, s .put, s .written);
+    })
+
+pub feed-spec : {M : Type 1} → statement M
+feed-spec =
+    tie.close
+    (tie.spec
+    Inv-loop
+    μ-loop
+    loop-holds
+    shared-slice-read-take-byte
+    take-byte-requires
+    fed-so-far-requires
+    same-length
+    same-length-2
+    returns
+    add-i
+    loop-less
+    loop-again
+    fed-so-far-requires-2
+    same-length-3
+    same-length-4
+    returns-2)

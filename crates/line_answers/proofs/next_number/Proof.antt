@@ -1,0 +1,16 @@
+use borrow.Author.Tests.{lt-ltb, le-ltb}
+use borrow.Author.Needs.{needs}
+use Rattle.line_answers.proofs.next_number.Statement.{statement}
+use Rattle.line_answers.proofs.next_number.Tie as tie
+
+add-result : tie.Need-add-result
+add-result c = search needs
+
+returns : tie.Need-returns
+returns c = rw (lt-ltb (c .before .args .n) 18446744073709551615 (c .if1 .taken))
+
+returns-2 : tie.Need-returns-2
+returns-2 c = rw (le-ltb (c .before .args .n) 18446744073709551615 (c .if1 .left))
+
+pub next-number-spec : {M : Type 1} → statement M
+next-number-spec = tie.close (tie.spec add-result returns returns-2)

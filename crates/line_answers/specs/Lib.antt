@@ -1,0 +1,3 @@
+-- What the contracts of `line_answers` cite.
+pub mod Stream
+pub mod Steps

@@ -1,0 +1,39 @@
+-- What each step of feeding promises: whatever the program stood at, it stands one byte further, or there is no room.
+use mathlib.Core.Path.{_≡_}
+use mathlib.Core.Bool.{Bool, true, false}
+use Prim.Native.Nat.{ℕ, _+_, _≤_, _<_, _^_}
+use mathlib.Core.List.{List, [], _∷_, _++_}
+use lib.ListN.{length, take}
+use Rattle.line_answers.specs.declared.Begun.{Begun}
+use Rattle.line_answers.specs.declared.Fed.{Fed}
+use Rattle.line_answers.specs.declared.Going.{Going}
+use Rattle.line_answers.specs.Stream.{Standing, ended, longer, byteRead, Holds, Roomy}
+
+abbrev pub begunOf : Going → Begun
+begunOf g = record { number = g .number; len = g .len }
+
+abbrev pub fedOf : ℕ → Going → Fed
+fedOf taken g = record { taken = taken; put = g .put; begun = begunOf g }
+
+-- the code stands where the program does, which had written w when this feeding began
+pub record Stands (w : List ℕ) (st : Standing) (line out : List ℕ) (g : Going) : Type 0 where
+  pub holds : Holds st line (begunOf g)
+  pub put : g .put ≤ length out
+  pub written : w ++ take (g .put) out ≡ st .written
+
+-- where it was full, it stands where it stood
+abbrev pub Goes : List ℕ → Standing → Standing → List ℕ → List ℕ → Going → Type 0
+Goes w st st' line out r = (r .full ≡ true → Stands w st line out r) × (r .full ≡ false → Stands w st' line out r)
+
+abbrev pub Steps : (Standing → Standing) → List ℕ → List ℕ → List ℕ → List ℕ → Going → Going → Type 0
+Steps next line out line' out' g r =
+    (w : List ℕ) (st : Standing) → Roomy line → st .number + 1 < 2 ^ 64 → Stands w st line out g → Goes w st (next st) line' out' r
+
+abbrev pub Ends : List ℕ → List ℕ → List ℕ → Going → Going → Type 0
+Ends line out out' g r = Steps ended line out line out' g r
+
+abbrev pub Keeps : List ℕ → List ℕ → Going → ℕ → Going → Type 0
+Keeps line line' g b r = (out : List ℕ) → Steps (λ (st : Standing). longer st b) line out line' out g r
+
+abbrev pub Takes : List ℕ → List ℕ → List ℕ → List ℕ → Going → ℕ → Going → Type 0
+Takes line out line' out' g b r = Steps (λ (st : Standing). byteRead st b) line out line' out' g r
