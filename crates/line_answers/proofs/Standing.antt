@@ -47,8 +47,10 @@ module _ (line out out' : List ℕ) (g : Going) (len place : ℕ) where
           len = omega arith;
           kept = sym (take-nil (length line));
         }
+
         fit : place ≤ length out
         fit = subst (λ (k : ℕ). place ≤ k) (same-length p) room
+
         all : w ++ take place out' ≡ st .written ++ answerTo (st .number) (st .begun)
         all =
             ap (λ (l : List ℕ). w ++ l) (placed-whole out (g .put) p few fit)
@@ -79,10 +81,13 @@ module _ (line : List ℕ) (g : Going) (b : ℕ) where
     where
       was : (st .begun ≡ take (g .len) line) × (length (st .begun) ≡ g .len)
       was = all-kept (g .len) line (st .begun) h (s .holds .kept)
+
       fit : g .len + 1 ≤ length (set line (g .len) b)
       fit = subst (λ (k : ℕ). g .len + 1 ≤ k) (sym (length-set line (g .len) b)) (omega (arith, h))
+
       more : length (st .begun ++ (b ∷ [])) ≤ length (set line (g .len) b)
       more = omega (arith, h, was .1, length-append (st .begun) (b ∷ []), length-set line (g .len) b)
+
       kept : take (g .len + 1) (set line (g .len) b) ≡ take (length (set line (g .len) b)) (st .begun ++ (b ∷ []))
       kept =
           ap (λ (k : ℕ). take k (set line (g .len) b)) (add-one (g .len))
@@ -99,6 +104,7 @@ module _ (line : List ℕ) (g : Going) (b : ℕ) where
           let c = length-take (length line) (st .begun) in
           let d : length (take (length line) (st .begun)) ≡ g .len = ap length (sym (s .holds .kept)) ∙ a in
           omega (arith, h, c, d)
+
       kept : take (g .len) line ≡ take (length line) (st .begun ++ (b ∷ []))
       kept = s .holds .kept ∙ sym (take-append-le (length line) (st .begun) (b ∷ []) long)
 
