@@ -1,10 +1,10 @@
 -- The refusals that are due for any ask, test by test; and what a packet for which nothing is due gives the search.
 use mathlib.Core.Path.{_≡_, refl, sym, ap, _∙_}
 use mathlib.Core.Bool.{Bool, true, false, not, _||_, false≢true}
-use mathlib.Core.List.{List, []}
-use Prim.Native.Nat.{ℕ, _≤_, _<_}
+use mathlib.Core.List.{List}
+use Prim.Native.Nat.{ℕ, _≤_}
 use native.Mathlib.Omega.{arith}
-use lib.ListN.{length, take, drop, length-take, length-drop}
+use lib.ListN.{length, length-take, length-drop}
 use lib.Dec.{ltb}
 use borrow.Author.Tests.{ltb-false}
 use Rattle.definitions.specs.declared.table.Table.{Table}
@@ -21,12 +21,11 @@ use Rattle.definitions.specs.Limits.{packetMost, decodedMost}
 use Rattle.definitions.specs.Refusals.{refuseIf, orElse}
 use Rattle.definitions.specs.WellFormed.{wellFormed}
 use Rattle.definitions.specs.Packet.{totalLength, datagramOf, factsOf, payloadOf, packetDue, packetBy, packetAnswer}
-use Rattle.definitions.specs.Fields.{viewOf, fieldsDue}
+use Rattle.definitions.specs.Fields.{fieldsDue}
 use Rattle.definitions.specs.Placements.{listed}
 use Rattle.definitions.specs.Answers.{verdictDue, placementsOf}
 use Rattle.packet.specs.Datagram.{payloadPart}
 use Rattle.packet.proofs.Payloads.{payload-part}
-use Rattle.windows.specs.Spans.{sizeBound}
 use Rattle.meaning.specs.Seen.{seen}
 use Rattle.search.specs.Searching.{Searchable}
 use Rattle.matcher.specs.Entering.{clearance, Cleared}

@@ -1,12 +1,16 @@
 -- A VERDICT VARIES, by computation on the definitions: of a table that a text reads as, one packet's payload has the pattern and meets it, and another
--- packet, of the same length, does not. So no function with the verdict's contract always answers the same.
-use mathlib.Core.Path.{_≡_, refl}
+-- packet, of the same length, does not.
+use mathlib.Core.Path.{_≡_, refl, _∙_}
+use mathlib.Core.Bool.{true, false, false≢true}
 use mathlib.Core.List.{List, []}
 use Prim.Native.Nat.{ℕ}
 use Rattle.forms.specs.Bytes.{text}
 use Rattle.definitions.specs.declared.table.Table.{Table}
+use Rattle.definitions.specs.declared.packet.Direction.{Direction}
 use Rattle.definitions.specs.declared.packet.Direction.the-variants.{Client}
+use Rattle.definitions.specs.declared.packet.FieldMap.{FieldMap}
 use Rattle.definitions.specs.declared.packet.FieldSpan.the-variants.{Absent}
+use Rattle.definitions.specs.declared.answers.Verdict.{Verdict}
 use Rattle.definitions.specs.declared.answers.Verdict.the-variants.{Met, NotMet}
 use Rattle.definitions.specs.Limits.{limits01}
 use Rattle.definitions.specs.Reading.{acceptedReading, read}
@@ -29,5 +33,10 @@ pub x-not-met : verdictAnswer xTable (packetWith (text "aaxbbx")) [] Client (uri
 unfolding computing
 x-not-met = refl
 
-pub verdict-varies : (t : Table) × (p : List ℕ) × (q : List ℕ) × (verdictAnswer t p [] Client (uriOnly Absent) ≡ Met) × (verdictAnswer t q [] Client (uriOnly Absent) ≡ NotMet)
-verdict-varies = (xTable, packetWith (text "aaXbbX"), packetWith (text "aaxbbx"), x-met, x-not-met)
+-- so no one verdict is right for every table, packet, buffer, direction and map
+pub verdict-varies : (v : Verdict) → ((t : Table) (p decoded : List ℕ) (dir : Direction) (m : FieldMap) → v ≡ verdictAnswer t p decoded dir m) → ⊥
+verdict-varies v h =
+    let met : v ≡ Met = h xTable (packetWith (text "aaXbbX")) [] Client (uriOnly Absent) ∙ x-met in
+    let not-met : v ≡ NotMet = h xTable (packetWith (text "aaxbbx")) [] Client (uriOnly Absent) ∙ x-not-met in
+    let clash : false ≡ true = cc in
+    false≢true clash

@@ -9,6 +9,7 @@ use lib.ListN.{length}
 use lib.Dec.{eqb, leb}
 use borrow.Author.Tests.{eqb-true, leb-true}
 use Rattle.forms.proofs.Bools.{by-cases, both-left, both-right}
+use Rattle.definitions.specs.declared.table.Pattern.{Pattern}
 use Rattle.definitions.specs.declared.table.Item.{Item}
 use Rattle.definitions.specs.declared.table.Address.{Address}
 use Rattle.definitions.specs.declared.table.Slot.{Slot}
@@ -32,28 +33,18 @@ use Rattle.search.proofs.Extending.{first-outcome}
 
 -- ---- no more positive patterns than patterns
 
-positives-by : (k : Kind) (it : Item) (al : List Address) (b : List ℕ) (n m : ℕ) → n ≤ m → positiveIn (wantedBy k it al b) + n ≤ length (patternFirst k []) + m
-positives-by unused it al b n m h = omega arith
-positives-by (addressed a) it al b n m h = omega arith
-positives-by (patterned p) it al b n m h = by-cases (p .negated) (λ t. rw t (omega arith)) (λ f. rw f (omega arith))
-positives-by plainTest it al b n m h = omega arith
-
-patterns-by : (k : Kind) (sls : List Slot) → length (patternFirst k (patternsOf sls)) ≡ length (patternFirst k []) + length (patternsOf sls)
-patterns-by unused sls = omega arith
-patterns-by (addressed a) sls = omega arith
-patterns-by (patterned p) sls = omega arith
-patterns-by plainTest sls = omega arith
+positives-by : (k : Kind) (it : Item) (al : List Address) (b : List ℕ) (n : ℕ) (ps : List Pattern) → n ≤ length ps → positiveIn (wantedBy k it al b) + n ≤ length (patternFirst k ps)
+positives-by unused it al b n ps h = omega arith
+positives-by (addressed a) it al b n ps h = omega arith
+positives-by (patterned p) it al b n ps h = by-cases (p .negated) (λ t. rw t (omega arith)) (λ f. rw f (omega arith))
+positives-by plainTest it al b n ps h = omega arith
 
 positives-few : (sls : List Slot) (b : List ℕ) → positives (wanted sls b) ≤ length (patternsOf sls)
 unfolding positives wanted patternsOf
 positives-few [] b = omega arith
 positives-few (sl ∷ sls) b =
     let k = kindOf (sl .item) in
-    omega (
-      arith,
-      patterns-by k sls,
-      positives-by k (sl .item) (sl .addresses) b (positives (wanted sls (behindItem k b))) (length (patternsOf sls)) (positives-few sls (behindItem k b)),
-    )
+    positives-by k (sl .item) (sl .addresses) b (positives (wanted sls (behindItem k b))) (patternsOf sls) (positives-few sls (behindItem k b))
 
 -- ---- a well-formed table
 

@@ -4,9 +4,7 @@ use mathlib.Core.Bool.{Bool, true, false, _&&_}
 use mathlib.Core.List.{List, [], _∷_}
 use Prim.Native.Nat.{ℕ, suc, _+_, _≤_, _<_, max}
 use native.Mathlib.Omega.{arith}
-use native.Mathlib.Numerals.{add-one}
 use lib.ListN.{length, drop, getD}
-use lib.Seq.{drop-cons}
 use lib.Dec.{eqb}
 use Rattle.definitions.specs.declared.table.Pattern.{Pattern}
 use Rattle.definitions.specs.declared.packet.Facts.{Facts}
@@ -17,6 +15,7 @@ use Rattle.definitions.specs.Lists.{keep}
 use Rattle.definitions.specs.References.{lastAfter}
 use Rattle.definitions.specs.Fields.{present, fieldOf}
 use Rattle.definitions.specs.Placements.{Wanted, placed, upFrom, spread, liesIn, starts, placements}
+use Rattle.formed.proofs.Passing.{drop-here}
 use Rattle.windows.specs.declared.Window.{Window}
 use Rattle.windows.specs.Spans.{Spans, placesOf}
 use Rattle.windows.proofs.Listing.{from, standing, passed, places-window}
@@ -26,9 +25,6 @@ use Rattle.search.specs.declared.outcomes.Outcome.{Outcome}
 use Rattle.search.specs.Outcomes.{nothing}
 use Rattle.search.specs.Searching.{push, answer, orElse, startFrom}
 use Rattle.search.proofs.Answering.{kept, none-left, answer-cons, answer-from, answer-nothing}
-
-drop-here : (ss : List ℕ) (j : ℕ) → j < length ss → drop j ss ≡ getD ss j 0 ∷ drop (j + 1) ss
-drop-here ss j h = rw add-one (drop-cons ss j 0 h)
 
 -- ---- before the loop
 
@@ -56,7 +52,7 @@ module _ (facts : Facts) (s d : List ℕ) (m : FieldMap) (p : Pattern) (own : Li
         (spread (λ (x : ℕ). placements (seen facts s d m) ws (lastAfter l p x)) (keep (standing (p .nocase) own f) (from at (w .to))))
     unfolding placements
     try-begin ss at h e =
-        rw (starts-are, e, drop-here ss (acc .count) h)
+        rw (starts-are, e, drop-here ss (acc .count) 0 h)
         (answer-from (λ (x : ℕ). placements (seen facts s d m) ws (lastAfter l p x)) (getD ss (acc .count) 0) (drop (acc .count + 1) ss)
         (standing (p .nocase) own f) (w .to) acc tight (w .from))
 
@@ -78,7 +74,7 @@ module _ (acc : Placement) (tight : Bool) (ss : List ℕ) (f : ℕ → List (Lis
       ≡ orElse (answer (push acc at) (tight && eqb (getD ss (acc .count) 0) at) (drop (acc .count + 1) ss) (f at))
       (answer acc tight (drop (acc .count) ss) (spread f (keep h (from (at + 1) to))))
   try-yes l e g a =
-      rw (kept h at to l e, drop-here ss (acc .count) g)
+      rw (kept h at to l e, drop-here ss (acc .count) 0 g)
       (answer-cons f (getD ss (acc .count) 0) (drop (acc .count + 1) ss) acc tight at (keep h (from (at + 1) to)) a)
 
 -- a start that lies was tried with the items left, whose placements behind a last positive pattern are those of g

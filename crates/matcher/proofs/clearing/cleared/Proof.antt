@@ -1,5 +1,5 @@
 -- Each return goes by what the callees say of the tests that led there.
-use mathlib.Core.Path.{_≡_, sym, ap, _∙_}
+use mathlib.Core.Path.{sym, _∙_}
 use borrow.Author.Tests.{not-true, not-false}
 use Rattle.matcher.proofs.Clearance.{ill-formed, packet-refused, fields-fine, fields-refused}
 use borrow.Author.Needs.{needs}
