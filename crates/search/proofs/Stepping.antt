@@ -1,11 +1,11 @@
 -- One item more: what is wanted of the items left, what the search rests on behind it, and what it answers.
 use mathlib.Core.Path.{_≡_, refl, sym, ap, _∙_}
 use mathlib.Core.Bool.{Bool, true, false}
-use mathlib.Core.List.{List, [], _∷_}
+use mathlib.Core.List.{List, [], _∷_, map}
 use Prim.Native.Nat.{ℕ, _+_, _-_, _≤_, _<_}
 use native.Mathlib.Omega.{arith}
 use native.Mathlib.Nat.{sub-zero}
-use lib.ListN.{length, take, drop, getD, length-drop}
+use lib.ListN.{length, take, drop, getD, length-drop, length-map}
 use lib.Seq.{take-all}
 use types.Run.{OneOf}
 use denote.Enum.Declared.{tagOf}
@@ -29,6 +29,7 @@ use Rattle.references.proofs.OtherItems.{other-kind}
 use Rattle.references.proofs.Firsts.{first-here, first-out}
 use Rattle.windows.specs.Spans.{sizeBound}
 use Rattle.meaning.specs.Seen.{Bounded}
+use Rattle.search.specs.declared.items.Question.{Question}
 use Rattle.search.specs.Outcomes.{nothing}
 use Rattle.search.specs.Searching.{push, answer, itemsLeft, Small, Ready, Trying}
 use Rattle.search.proofs.Answering.{answer-nothing}
@@ -82,11 +83,15 @@ module _ (all : List Slot) (sl : Slot) (sls : List Slot) (u : all ≡ sl ∷ sls
 abbrev pub slot0 : Slot
 slot0 = record { item = item.Unused; addresses = [] }
 
-pub left-here : (items : List Slot) (count k : ℕ) → k < count → count ≤ length items → itemsLeft items count k ≡ getD items k slot0 ∷ itemsLeft items count (k + 1)
-left-here items count k h g = first-here items count k slot0 h g
+-- an array field of structs is held element by element, so its length is told of a map
+pub length-mapped : {A B : Type 0} (f : A → B) (l : List A) (n : ℕ) → length (map f l) ≡ n → length l ≡ n
+length-mapped f l n e = sym (length-map l f) ∙ e
 
-pub left-out : (items : List Slot) (count k : ℕ) → count ≤ k → itemsLeft items count k ≡ []
-left-out items count k h = first-out items count k h
+pub left-here : (q : Question) (k : ℕ) → k < q .count → q .count ≤ length (q .items) → itemsLeft q k ≡ getD (q .items) k slot0 ∷ itemsLeft q (k + 1)
+left-here q k h g = first-here (q .items) (q .count) k slot0 h g
+
+pub left-out : (q : Question) (k : ℕ) → q .count ≤ k → itemsLeft q k ≡ []
+left-out q k h = first-out (q .items) (q .count) k h
 
 -- ---- what the search rests on
 

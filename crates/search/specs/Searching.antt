@@ -18,6 +18,7 @@ use Rattle.definitions.specs.Windows.{lastEnd}
 use Rattle.definitions.specs.Placements.{Start, wanted, positives}
 use Rattle.windows.specs.Spans.{sizeBound}
 use Rattle.search.specs.declared.outcomes.Outcome.{Outcome}
+use Rattle.search.specs.declared.items.Question.{Question}
 use Rattle.search.specs.Outcomes.{nothing, behindIf}
 
 -- ---- the answer
@@ -50,8 +51,8 @@ startFrom false a from = from
 -- ---- what it rests on
 
 -- the items in use from the k-th on
-abbrev pub itemsLeft : List Slot → ℕ → ℕ → List Slot
-itemsLeft items count k = drop k (take count items)
+abbrev pub itemsLeft : Question → ℕ → List Slot
+itemsLeft q k = drop k (take (q .count) (q .items))
 
 -- lengths and places stay far below what a number holds: of pattern bytes b, a payload s and a decoded buffer d
 pub record Small (b s d : List ℕ) (l : Last) : Type 0 where

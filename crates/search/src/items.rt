@@ -30,117 +30,83 @@ use meaning::test_holds;
 use windows::bytes::stands_at;
 use windows::starts::window;
 
-// The first placement of the items from k on, behind the starts in acc; where `tight`, the first behind bound's. `bytes` are the pattern bytes from
-// item k's on, `last` the last positive pattern before it.
+// What a search asks, the same for every item: a table's items, what is seen of the packet, and the starts of the placement to pass.
+pub struct Question {
+    pub items: [Slot; ITEMS],
+    pub count: usize,
+    pub facts: Facts,
+    pub map: FieldMap,
+    pub bound: [usize; PATTERNS],
+}
+
+// The first placement of the items from k on, behind the starts in acc; where `tight`, the first behind those to pass. `bytes` are the pattern
+// bytes from item k's on, `last` is the last positive pattern before it.
 pub fn from_item<'a>(
-    items: [Slot; ITEMS],
-    count: usize,
+    q: Question,
     k: usize,
     bytes: &[u8],
-    facts: Facts,
     payload: &'a [u8],
     decoded: &'a [u8],
-    m: FieldMap,
     last: Last,
     acc: Placement,
-    bound: [usize; PATTERNS],
     tight: bool,
 ) -> Outcome
-    requires { ⌜ (count ≤ itemsMost) × Ready (itemsLeft items count k) (now bytes) (now payload) (now decoded) last acc ⌝ }
-    ensures { λ r. ⌜ r ≡ answer acc tight (drop (acc .count) bound) (placements (seen facts (now (payload .entry)) (now (decoded .entry)) m) (wanted (itemsLeft items count k) (now (bytes .entry))) last) ⌝ }
+    requires { ⌜ (q .count ≤ itemsMost) × Ready (itemsLeft q k) (now bytes) (now payload) (now decoded) last acc ⌝ }
+    ensures { λ r. ⌜ r ≡ answer acc tight (drop (acc .count) (q .bound)) (placements (seen (q .facts) (now (payload .entry)) (now (decoded .entry)) (q .map)) (wanted (itemsLeft q k) (now (bytes .entry))) last) ⌝ }
 {
+    let count = q.count;
     if count <= k {
         return at_end(acc, tight);
     }
-    let slot = items[k];
+    let facts = q.facts;
+    let map = q.map;
+    let slot = q.items[k];
     let item = slot.item;
     let Item::Pattern(p) = item else {
         let addresses = slot.addresses;
-        if !test_holds(facts, payload, decoded, m, item, addresses, last) {
+        if !test_holds(facts, payload, decoded, map, item, addresses, last) {
             return no_match();
         }
-        return from_item(
-            items,
-            count,
-            k + 1,
-            bytes,
-            facts,
-            payload,
-            decoded,
-            m,
-            last,
-            acc,
-            bound,
-            tight,
-        );
+        return from_item(q, k + 1, bytes, payload, decoded, last, acc, tight);
     };
     let n = p.len;
     let own = &bytes[0..n];
     let rest = &bytes[n..];
-    if p.negated {
-        if !negated_holds(payload, decoded, m, p, own, last) {
-            return no_match();
-        }
-        return from_item(
-            items,
-            count,
-            k + 1,
-            rest,
-            facts,
-            payload,
-            decoded,
-            m,
-            last, // a negated pattern moves no reference
-            acc,
-            bound,
-            tight,
-        );
+    if !p.negated {
+        return try_starts(q, k, p, own, rest, payload, decoded, last, acc, tight);
     }
-    try_starts(
-        items,
-        count,
-        k,
-        own,
-        rest,
-        p,
-        facts,
-        payload,
-        decoded,
-        m,
-        last,
-        acc,
-        bound,
-        tight,
-    )
+    if !negated_holds(payload, decoded, map, p, own, last) {
+        return no_match();
+    }
+    // A negated pattern moves no reference.
+    from_item(q, k + 1, rest, payload, decoded, last, acc, tight)
 }
 
 // Tries the starts of the pattern p, which is item k and has the bytes `own`, each with the items left, whose pattern bytes are `rest`.
 fn try_starts<'a>(
-    items: [Slot; ITEMS],
-    count: usize,
+    q: Question,
     k: usize,
+    p: Pattern,
     own: &[u8],
     rest: &[u8],
-    p: Pattern,
-    facts: Facts,
     payload: &'a [u8],
     decoded: &'a [u8],
-    m: FieldMap,
     last: Last,
     acc: Placement,
-    bound: [usize; PATTERNS],
     tight: bool,
 ) -> Outcome
-    requires { ⌜ (k < count) × (count ≤ itemsMost) × Trying (itemsLeft items count (k + 1)) (now rest) p (now payload) (now decoded) last acc ⌝ }
-    ensures { λ r. ⌜ r ≡ answer acc tight (drop (acc .count) bound) (placements (seen facts (now (payload .entry)) (now (decoded .entry)) m) (placed p (now (own .entry)) ∷ wanted (itemsLeft items count (k + 1)) (now (rest .entry))) last) ⌝ }
+    requires { ⌜ (k < q .count) × (q .count ≤ itemsMost) × Trying (itemsLeft q (k + 1)) (now rest) p (now payload) (now decoded) last acc ⌝ }
+    ensures { λ r. ⌜ r ≡ answer acc tight (drop (acc .count) (q .bound)) (placements (seen (q .facts) (now (payload .entry)) (now (decoded .entry)) (q .map)) (placed p (now (own .entry)) ∷ wanted (itemsLeft q (k + 1)) (now (rest .entry))) last) ⌝ }
 {
+    let map = q.map;
     let c = p.context;
-    if !is_present(m, c) {
+    if !is_present(map, c) {
         return no_match();
     }
-    let f = field_of(payload, decoded, m, c);
+    let f = field_of(payload, decoded, map, c);
     let w = window(p, last, f.len());
     let j = acc.count;
+    let bound = q.bound;
     let b = bound[j];
     let nocase = p.nocase;
     let to = w.to;
@@ -148,20 +114,9 @@ fn try_starts<'a>(
     while at < to {
         if stands_at(nocase, own, f, at) {
             let next = last_at(last, p, at);
-            let x = from_item(
-                items,
-                count,
-                k + 1,
-                rest,
-                facts,
-                payload,
-                decoded,
-                m,
-                next,
-                with_start(acc, at),
-                bound,
-                stays(tight, at, b),
-            );
+            let more = with_start(acc, at);
+            let still = stays(tight, at, b);
+            let x = from_item(q, k + 1, rest, payload, decoded, next, more, still);
             if x.found {
                 return x;
             }

@@ -8,6 +8,7 @@ ghost use Rattle.definitions.specs.Placements.{listed};
 ghost use Rattle.meaning.specs.Seen.{seen};
 ghost use Rattle.search.specs.Outcomes.{outcomeOf, behindIf};
 ghost use Rattle.search.specs.Searching.{Searchable};
+use crate::items::Question;
 use crate::items::from_item;
 use crate::outcomes::Outcome;
 use crate::outcomes::no_match;
@@ -45,18 +46,12 @@ pub fn find<'a>(
         count: 0,
         starts: [0; PATTERNS],
     };
-    from_item(
+    let q = Question {
         items,
-        t.count,
-        0,
-        all,
+        count: t.count,
         facts,
-        payload,
-        decoded,
-        m,
-        Last::Nothing,
-        none,
+        map: m,
         bound,
-        tight,
-    )
+    };
+    from_item(q, 0, all, payload, decoded, Last::Nothing, none, tight)
 }

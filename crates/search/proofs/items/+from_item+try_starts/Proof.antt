@@ -5,9 +5,10 @@ use mathlib.Core.Logic.{⊎-elim}
 use mathlib.Core.List.{List, _∷_}
 use native.Mathlib.Omega.{arith}
 use lib.ListN.{length, drop, getD}
+use borrow.Author.Needs.{length-unmapped}
 use borrow.Author.Tests.{not-true, not-false}
 use Rattle.definitions.specs.declared.packet.Last.{Last}
-use Rattle.definitions.specs.Limits.{patternsMost}
+use Rattle.definitions.specs.Limits.{itemsMost, patternsMost}
 use Rattle.definitions.specs.Lists.{keep}
 use Rattle.definitions.specs.References.{lastAfter}
 use Rattle.definitions.specs.Placements.{Wanted, placed, wanted, spread, placements}
@@ -16,7 +17,7 @@ use Rattle.windows.proofs.Listing.{from, standing}
 use Rattle.meaning.specs.Seen.{seen}
 use Rattle.meaning.proofs.Placing.{measured}
 use Rattle.search.specs.Searching.{answer, itemsLeft}
-use Rattle.search.proofs.Stepping.{ownOf, restOf, slot0, left-here, left-out, wanted-test, wanted-nowhere, wanted-placed, ready-test, pattern-stored, pattern-bounded, ready-nowhere, ready-placed, trying-bounded, ready-next, test-yes, test-no, nowhere-yes, nowhere-no, behind-last}
+use Rattle.search.proofs.Stepping.{length-mapped, ownOf, restOf, slot0, left-here, left-out, wanted-test, wanted-nowhere, wanted-placed, ready-test, pattern-stored, pattern-bounded, ready-nowhere, ready-placed, trying-bounded, ready-next, test-yes, test-no, nowhere-yes, nowhere-no, behind-last}
 use Rattle.search.proofs.Trials.{try-absent, try-begin, ahead, try-done, try-no, tried, or-found, or-missing}
 use Prim.Native.Nat.{ℕ, _+_, _-_, _≤_, _<_}
 use borrow.Fn.Kinds.{In}
@@ -43,10 +44,10 @@ use Rattle.search.proofs.items.+from_item+try_starts.{statement}
 use Rattle.search.proofs.items.+from_item+try_starts.Tie.{close}
 
 abbrev μ-from-item : Measures 2 from-item-kinds.ps ℕ
-μ-from-item κs a = (a .1 .0 - a .1 .1 .0) + (a .1 .0 - a .1 .1 .0) + 1
+μ-from-item κs a = (a .0 .count - a .1 .0) + (a .0 .count - a .1 .0) + 1
 
 abbrev μ-try-starts : Measures 3 try-starts-kinds.ps ℕ
-μ-try-starts κs a = (a .1 .0 - a .1 .1 .0) + (a .1 .0 - a .1 .1 .0)
+μ-try-starts κs a = (a .0 .count - a .1 .0) + (a .0 .count - a .1 .0)
 
 abbrev from-item-at : ℕ → In 2 from-item-kinds.ps
 from-item-at t = and 2 from-item-kinds.ps (is 2 from-item-kinds.ps μ-from-item t) from-item.Pre
@@ -74,10 +75,10 @@ from-item-claims t = (
   no-match-reads.Learnt,
   from-item-below t,
   from-item.Post,
-  negated-holds-reads.Asked,
-  negated-holds-reads.Learnt,
   try-starts-below t,
   try-starts.Post,
+  negated-holds-reads.Asked,
+  negated-holds-reads.Learnt,
 )
 
 abbrev try-starts-claims : ℕ → try-starts-lts.Claims
@@ -110,16 +111,16 @@ from-item-at-end-requires t c κs = tt
 from-item-returns : (t : ℕ) → from-item-lts.Need-returns (from-item-claims t) (from-item-at t) from-item.Post
 from-item-returns t c =
     let x = c .before .before .before .before .before .args in
-    let q = drop (x .acc .count) (x .bound) in
-    c .at-end .ensures q
-    ∙ behind-last (seen (x .facts) (x .payload .now) (x .decoded .now) (x .m)) (x .last) (x .acc) (x .tight) q (itemsLeft (x .t1) (x .count) (x .k)) (x .bytes .now)
-    (left-out (x .t1) (x .count) (x .k) (c .before .if1 .taken))
+    let passed = drop (x .acc .count) (x .t1 .bound) in
+    c .at-end .ensures passed
+    ∙ behind-last (seen (x .t1 .facts) (x .payload .now) (x .decoded .now) (x .t1 .map)) (x .last) (x .acc) (x .tight) passed (itemsLeft (x .t1) (x .k)) (x .bytes .now)
+    (left-out (x .t1) (x .k) (c .before .if1 .taken))
 
 from-item-mul-slot : (t : ℕ) → from-item-lts.Need-mul-slot (from-item-claims t) (from-item-at t) from-item.Post
-from-item-mul-slot t c = omega arith
+from-item-mul-slot t c = omega (arith, c .before .before .before .before .before .before .pre .1 .0)
 
-from-item-array-copy-out-slot : (t : ℕ) → from-item-lts.Need-array-copy-out-slot (from-item-claims t) (from-item-at t) from-item.Post
-from-item-array-copy-out-slot t c = omega arith
+from-item-element-copy-out-slot : (t : ℕ) → from-item-lts.Need-element-copy-out-slot (from-item-claims t) (from-item-at t) from-item.Post
+from-item-element-copy-out-slot t c = omega (arith, c .before .before .before .before .before .before .pre .1 .0)
 
 from-item-enum-known-item : (t : ℕ) → from-item-lts.Need-enum-known-item (from-item-claims t) (from-item-at t) from-item.Post
 from-item-enum-known-item t c = c .match .keys1
@@ -132,43 +133,46 @@ from-item-no-match-requires t c κs = tt
 
 from-item-returns-2 : (t : ℕ) → from-item-lts.Need-returns-2 (from-item-claims t) (from-item-at t) from-item.Post
 from-item-returns-2 t c =
-    let a = c .before .before .before .before .before .before .before .before .before .before in
+    let a = c .before .before .before .before .before .before .before .before .before .before .before .before in
     let x = a .args in
-    let all = itemsLeft (x .t1) (x .count) (x .k) in
-    let sl = getD (x .t1) (x .k) slot0 in
-    let sls = itemsLeft (x .t1) (x .count) (x .k + 1) in
-    let u : all ≡ sl ∷ sls = left-here (x .t1) (x .count) (x .k) (c .before .before .before .before .before .before .if1 .left) (omega arith) in
-    let v = seen (x .facts) (x .payload .now) (x .decoded .now) (x .m) in
-    let q = drop (x .acc .count) (x .bound) in
+    let long : length (x .t1 .items) ≡ itemsMost = length-mapped _ (x .t1 .items) itemsMost (a .good .0 .1 .1 .0 .1 .0 .1) in
+    let all = itemsLeft (x .t1) (x .k) in
+    let sl = getD (x .t1 .items) (x .k) slot0 in
+    let sls = itemsLeft (x .t1) (x .k + 1) in
+    let u : all ≡ sl ∷ sls = left-here (x .t1) (x .k) (c .before .before .before .before .before .before .before .before .if1 .left) (omega (arith, a .pre .1 .0, long)) in
+    let v = seen (x .t1 .facts) (x .payload .now) (x .decoded .now) (x .t1 .map) in
+    let passed = drop (x .acc .count) (x .t1 .bound) in
     c .no-match .ensures
-    ∙ test-no v (x .last) (x .acc) (x .tight) q (wanted all (x .bytes .now)) (wanted sls (x .bytes .now)) (sl .item) (sl .addresses) (wanted-test all sl sls u (x .bytes .now) (c .before .before .before .before .match .keys2))
+    ∙ test-no v (x .last) (x .acc) (x .tight) passed (wanted all (x .bytes .now)) (wanted sls (x .bytes .now)) (sl .item) (sl .addresses) (wanted-test all sl sls u (x .bytes .now) (c .before .before .before .before .match .keys2))
     (sym (c .before .before .test-holds .ensures) ∙ not-true _ (c .before .if2 .taken))
 
 from-item-add-from-item : (t : ℕ) → from-item-lts.Need-add-from-item (from-item-claims t) (from-item-at t) from-item.Post
-from-item-add-from-item t c = omega arith
+from-item-add-from-item t c = omega (arith, c .before .before .before .before .before .before .before .before .before .before .before .pre .1 .0, c .before .before .before .before .before .before .before .if1 .left)
 
 from-item-from-item-requires : (t : ℕ) → from-item-lts.Need-from-item-requires (from-item-claims t) (from-item-at t) from-item.Post
 from-item-from-item-requires t c κs =
-    let a = c .before .before .before .before .before .before .before .before .before in
+    let a = c .before .before .before .before .before .before .before .before .before .before .before in
     let x = a .args in
-    let all = itemsLeft (x .t1) (x .count) (x .k) in
-    let sl = getD (x .t1) (x .k) slot0 in
-    let sls = itemsLeft (x .t1) (x .count) (x .k + 1) in
-    let u : all ≡ sl ∷ sls = left-here (x .t1) (x .count) (x .k) (c .before .before .before .before .before .if1 .left) (omega arith) in
-    (omega arith, (a .pre .1 .0, ready-test all sl sls u (x .bytes .now) (x .payload .now) (x .decoded .now) (x .last) (x .acc) (a .pre .1 .1) (c .before .before .before .match .keys2)))
+    let long : length (x .t1 .items) ≡ itemsMost = length-mapped _ (x .t1 .items) itemsMost (a .good .0 .1 .1 .0 .1 .0 .1) in
+    let all = itemsLeft (x .t1) (x .k) in
+    let sl = getD (x .t1 .items) (x .k) slot0 in
+    let sls = itemsLeft (x .t1) (x .k + 1) in
+    let u : all ≡ sl ∷ sls = left-here (x .t1) (x .k) (c .before .before .before .before .before .before .before .if1 .left) (omega (arith, a .pre .1 .0, long)) in
+    (omega (arith, c .before .before .before .before .before .before .before .before .before .before .before .pre .0, c .before .before .before .before .before .before .before .if1 .left), (a .pre .1 .0, ready-test all sl sls u (x .bytes .now) (x .payload .now) (x .decoded .now) (x .last) (x .acc) (a .pre .1 .1) (c .before .before .before .match .keys2)))
 
 from-item-returns-3 : (t : ℕ) → from-item-lts.Need-returns-3 (from-item-claims t) (from-item-at t) from-item.Post
 from-item-returns-3 t c =
-    let a = c .before .before .before .before .before .before .before .before .before .before in
+    let a = c .before .before .before .before .before .before .before .before .before .before .before .before in
     let x = a .args in
-    let all = itemsLeft (x .t1) (x .count) (x .k) in
-    let sl = getD (x .t1) (x .k) slot0 in
-    let sls = itemsLeft (x .t1) (x .count) (x .k + 1) in
-    let u : all ≡ sl ∷ sls = left-here (x .t1) (x .count) (x .k) (c .before .before .before .before .before .before .if1 .left) (omega arith) in
-    let v = seen (x .facts) (x .payload .now) (x .decoded .now) (x .m) in
-    let q = drop (x .acc .count) (x .bound) in
+    let long : length (x .t1 .items) ≡ itemsMost = length-mapped _ (x .t1 .items) itemsMost (a .good .0 .1 .1 .0 .1 .0 .1) in
+    let all = itemsLeft (x .t1) (x .k) in
+    let sl = getD (x .t1 .items) (x .k) slot0 in
+    let sls = itemsLeft (x .t1) (x .k + 1) in
+    let u : all ≡ sl ∷ sls = left-here (x .t1) (x .k) (c .before .before .before .before .before .before .before .before .if1 .left) (omega (arith, a .pre .1 .0, long)) in
+    let v = seen (x .t1 .facts) (x .payload .now) (x .decoded .now) (x .t1 .map) in
+    let passed = drop (x .acc .count) (x .t1 .bound) in
     c .from-item .ensures
-    ∙ test-yes v (x .last) (x .acc) (x .tight) q (wanted all (x .bytes .now)) (wanted sls (x .bytes .now)) (sl .item) (sl .addresses) (wanted-test all sl sls u (x .bytes .now) (c .before .before .before .before .match .keys2))
+    ∙ test-yes v (x .last) (x .acc) (x .tight) passed (wanted all (x .bytes .now)) (wanted sls (x .bytes .now)) (sl .item) (sl .addresses) (wanted-test all sl sls u (x .bytes .now) (c .before .before .before .before .match .keys2))
     (sym (c .before .before .test-holds .ensures) ∙ not-false _ (c .before .if2 .left))
 
 from-item-sub-own : (t : ℕ) → from-item-lts.Need-sub-own (from-item-claims t) (from-item-at t) from-item.Post
@@ -179,128 +183,137 @@ from-item-part-own-start t c = omega arith
 
 from-item-part-own-end : (t : ℕ) → from-item-lts.Need-part-own-end (from-item-claims t) (from-item-at t) from-item.Post
 from-item-part-own-end t c =
-    let a = c .before .before .before .before .before .before .before .before in
+    let a = c .before .before .before .before .before .before .before .before .before .before in
     let x = a .args in
-    let all = itemsLeft (x .t1) (x .count) (x .k) in
-    let sl = getD (x .t1) (x .k) slot0 in
-    let sls = itemsLeft (x .t1) (x .count) (x .k + 1) in
-    let u : all ≡ sl ∷ sls = left-here (x .t1) (x .count) (x .k) (c .before .before .before .before .if1 .left) (omega arith) in
+    let long : length (x .t1 .items) ≡ itemsMost = length-mapped _ (x .t1 .items) itemsMost (a .good .0 .1 .1 .0 .1 .0 .1) in
+    let all = itemsLeft (x .t1) (x .k) in
+    let sl = getD (x .t1 .items) (x .k) slot0 in
+    let sls = itemsLeft (x .t1) (x .k + 1) in
+    let u : all ≡ sl ∷ sls = left-here (x .t1) (x .k) (c .before .before .before .before .before .before .if1 .left) (omega (arith, a .pre .1 .0, long)) in
     omega (arith, pattern-stored all sl sls u (x .bytes .now) (x .payload .now) (x .decoded .now) (x .last) (x .acc) (a .pre .1 .1) (c .before .item .given .0 .0) (c .before .item .given .1))
 
 from-item-sub-rest : (t : ℕ) → from-item-lts.Need-sub-rest (from-item-claims t) (from-item-at t) from-item.Post
 from-item-sub-rest t c =
-    let a = c .before .before .before .before .before .before .before .before .before in
+    let a = c .before .before .before .before .before .before .before .before .before .before .before in
     let x = a .args in
-    let all = itemsLeft (x .t1) (x .count) (x .k) in
-    let sl = getD (x .t1) (x .k) slot0 in
-    let sls = itemsLeft (x .t1) (x .count) (x .k + 1) in
-    let u : all ≡ sl ∷ sls = left-here (x .t1) (x .count) (x .k) (c .before .before .before .before .before .if1 .left) (omega arith) in
+    let long : length (x .t1 .items) ≡ itemsMost = length-mapped _ (x .t1 .items) itemsMost (a .good .0 .1 .1 .0 .1 .0 .1) in
+    let all = itemsLeft (x .t1) (x .k) in
+    let sl = getD (x .t1 .items) (x .k) slot0 in
+    let sls = itemsLeft (x .t1) (x .k + 1) in
+    let u : all ≡ sl ∷ sls = left-here (x .t1) (x .k) (c .before .before .before .before .before .before .before .if1 .left) (omega (arith, a .pre .1 .0, long)) in
     omega (arith, pattern-stored all sl sls u (x .bytes .now) (x .payload .now) (x .decoded .now) (x .last) (x .acc) (a .pre .1 .1) (c .before .before .item .given .0 .0) (c .before .before .item .given .1))
 
 from-item-part-rest-start : (t : ℕ) → from-item-lts.Need-part-rest-start (from-item-claims t) (from-item-at t) from-item.Post
 from-item-part-rest-start t c =
-    let a = c .before .before .before .before .before .before .before .before .before in
+    let a = c .before .before .before .before .before .before .before .before .before .before .before in
     let x = a .args in
-    let all = itemsLeft (x .t1) (x .count) (x .k) in
-    let sl = getD (x .t1) (x .k) slot0 in
-    let sls = itemsLeft (x .t1) (x .count) (x .k + 1) in
-    let u : all ≡ sl ∷ sls = left-here (x .t1) (x .count) (x .k) (c .before .before .before .before .before .if1 .left) (omega arith) in
+    let long : length (x .t1 .items) ≡ itemsMost = length-mapped _ (x .t1 .items) itemsMost (a .good .0 .1 .1 .0 .1 .0 .1) in
+    let all = itemsLeft (x .t1) (x .k) in
+    let sl = getD (x .t1 .items) (x .k) slot0 in
+    let sls = itemsLeft (x .t1) (x .k + 1) in
+    let u : all ≡ sl ∷ sls = left-here (x .t1) (x .k) (c .before .before .before .before .before .before .before .if1 .left) (omega (arith, a .pre .1 .0, long)) in
     omega (arith, pattern-stored all sl sls u (x .bytes .now) (x .payload .now) (x .decoded .now) (x .last) (x .acc) (a .pre .1 .1) (c .before .before .item .given .0 .0) (c .before .before .item .given .1))
 
 from-item-part-rest-end : (t : ℕ) → from-item-lts.Need-part-rest-end (from-item-claims t) (from-item-at t) from-item.Post
 from-item-part-rest-end t c = omega arith
 
+from-item-try-starts-requires : (t : ℕ) → from-item-lts.Need-try-starts-requires (from-item-claims t) (from-item-at t) from-item.Post
+from-item-try-starts-requires t c κs =
+    let a = c .before .before .before .before .before .before .before .before .before .before .before .before .before .before in
+    let x = a .args in
+    let long : length (x .t1 .items) ≡ itemsMost = length-mapped _ (x .t1 .items) itemsMost (a .good .0 .1 .1 .0 .1 .0 .1) in
+    let all = itemsLeft (x .t1) (x .k) in
+    let sl = getD (x .t1 .items) (x .k) slot0 in
+    let sls = itemsLeft (x .t1) (x .k + 1) in
+    let u : all ≡ sl ∷ sls = left-here (x .t1) (x .k) (c .before .before .before .before .before .before .before .before .before .before .if1 .left) (omega (arith, a .pre .1 .0, long)) in
+    (omega (arith, c .before .before .before .before .before .before .before .before .before .before .before .before .before .before .pre .0, c .before .before .before .before .before .before .before .before .before .before .if1 .left), (c .before .before .before .before .before .before .before .before .before .before .if1 .left, a .pre .1 .0, ready-placed all sl sls u (x .bytes .now) (x .payload .now) (x .decoded .now) (x .last) (x .acc) (a .pre .1 .1) (c .before .before .before .before .before .item .given .0 .0) (c .before .before .before .before .before .item .given .1) (not-true _ (c .if3 .taken))))
+
+from-item-returns-4 : (t : ℕ) → from-item-lts.Need-returns-4 (from-item-claims t) (from-item-at t) from-item.Post
+from-item-returns-4 t c =
+    let a = c .before .before .before .before .before .before .before .before .before .before .before .before .before .before .before in
+    let x = a .args in
+    let long : length (x .t1 .items) ≡ itemsMost = length-mapped _ (x .t1 .items) itemsMost (a .good .0 .1 .1 .0 .1 .0 .1) in
+    let all = itemsLeft (x .t1) (x .k) in
+    let sl = getD (x .t1 .items) (x .k) slot0 in
+    let sls = itemsLeft (x .t1) (x .k + 1) in
+    let u : all ≡ sl ∷ sls = left-here (x .t1) (x .k) (c .before .before .before .before .before .before .before .before .before .before .before .if1 .left) (omega (arith, a .pre .1 .0, long)) in
+    let v = seen (x .t1 .facts) (x .payload .now) (x .decoded .now) (x .t1 .map) in
+    let passed = drop (x .acc .count) (x .t1 .bound) in
+    let p = c .before .before .before .before .before .before .item .given .0 .0 in
+    let e = c .before .before .before .before .before .before .item .given .1 in
+    c .try-starts .ensures ∙ ap (λ (ws : List Wanted). answer (x .acc) (x .tight) passed (placements v ws (x .last))) (sym (wanted-placed all sl sls u (x .bytes .now) p e (not-true _ (c .before .if3 .taken))))
+
 from-item-negated-holds-requires : (t : ℕ) → from-item-lts.Need-negated-holds-requires (from-item-claims t) (from-item-at t) from-item.Post
 from-item-negated-holds-requires t c κs =
-    let a = c .before .before .before .before .before .before .before .before .before .before .before in
+    let a = c .before .before .before .before .before .before .before .before .before .before .before .before .before .before in
     let x = a .args in
-    let all = itemsLeft (x .t1) (x .count) (x .k) in
-    let sl = getD (x .t1) (x .k) slot0 in
-    let sls = itemsLeft (x .t1) (x .count) (x .k + 1) in
-    let u : all ≡ sl ∷ sls = left-here (x .t1) (x .count) (x .k) (c .before .before .before .before .before .before .before .if1 .left) (omega arith) in
-    pattern-bounded all sl sls u (x .bytes .now) (x .payload .now) (x .decoded .now) (x .last) (x .acc) (a .pre .1 .1) (c .before .before .before .before .item .given .0 .0) (c .before .before .before .before .item .given .1)
+    let long : length (x .t1 .items) ≡ itemsMost = length-mapped _ (x .t1 .items) itemsMost (a .good .0 .1 .1 .0 .1 .0 .1) in
+    let all = itemsLeft (x .t1) (x .k) in
+    let sl = getD (x .t1 .items) (x .k) slot0 in
+    let sls = itemsLeft (x .t1) (x .k + 1) in
+    let u : all ≡ sl ∷ sls = left-here (x .t1) (x .k) (c .before .before .before .before .before .before .before .before .before .before .if1 .left) (omega (arith, a .pre .1 .0, long)) in
+    pattern-bounded all sl sls u (x .bytes .now) (x .payload .now) (x .decoded .now) (x .last) (x .acc) (a .pre .1 .1) (c .before .before .before .before .before .item .given .0 .0) (c .before .before .before .before .before .item .given .1)
 
 from-item-no-match-requires-2 : (t : ℕ) → from-item-lts.Need-no-match-requires-2 (from-item-claims t) (from-item-at t) from-item.Post
 from-item-no-match-requires-2 t c κs = tt
 
-from-item-returns-4 : (t : ℕ) → from-item-lts.Need-returns-4 (from-item-claims t) (from-item-at t) from-item.Post
-from-item-returns-4 t c =
-    let a = c .before .before .before .before .before .before .before .before .before .before .before .before .before .before in
+from-item-returns-5 : (t : ℕ) → from-item-lts.Need-returns-5 (from-item-claims t) (from-item-at t) from-item.Post
+from-item-returns-5 t c =
+    let a = c .before .before .before .before .before .before .before .before .before .before .before .before .before .before .before .before .before in
     let x = a .args in
-    let all = itemsLeft (x .t1) (x .count) (x .k) in
-    let sl = getD (x .t1) (x .k) slot0 in
-    let sls = itemsLeft (x .t1) (x .count) (x .k + 1) in
-    let u : all ≡ sl ∷ sls = left-here (x .t1) (x .count) (x .k) (c .before .before .before .before .before .before .before .before .before .before .if1 .left) (omega arith) in
-    let v = seen (x .facts) (x .payload .now) (x .decoded .now) (x .m) in
-    let q = drop (x .acc .count) (x .bound) in
-    let p = c .before .before .before .before .before .before .before .item .given .0 .0 in
-    let e = c .before .before .before .before .before .before .before .item .given .1 in
+    let long : length (x .t1 .items) ≡ itemsMost = length-mapped _ (x .t1 .items) itemsMost (a .good .0 .1 .1 .0 .1 .0 .1) in
+    let all = itemsLeft (x .t1) (x .k) in
+    let sl = getD (x .t1 .items) (x .k) slot0 in
+    let sls = itemsLeft (x .t1) (x .k + 1) in
+    let u : all ≡ sl ∷ sls = left-here (x .t1) (x .k) (c .before .before .before .before .before .before .before .before .before .before .before .before .before .if1 .left) (omega (arith, a .pre .1 .0, long)) in
+    let v = seen (x .t1 .facts) (x .payload .now) (x .decoded .now) (x .t1 .map) in
+    let passed = drop (x .acc .count) (x .t1 .bound) in
+    let p = c .before .before .before .before .before .before .before .before .item .given .0 .0 in
+    let e = c .before .before .before .before .before .before .before .before .item .given .1 in
     c .no-match2 .ensures
-    ∙ nowhere-no v (x .last) (x .acc) (x .tight) q (wanted all (x .bytes .now)) (wanted sls (restOf (x .bytes .now) (p .len))) p (ownOf (x .bytes .now) (p .len)) (wanted-nowhere all sl sls u (x .bytes .now) p e (c .before .before .before .if3 .taken))
-    (sym (c .before .before .negated-holds .ensures (x .facts)) ∙ not-true _ (c .before .if4 .taken))
+    ∙ nowhere-no v (x .last) (x .acc) (x .tight) passed (wanted all (x .bytes .now)) (wanted sls (restOf (x .bytes .now) (p .len))) p (ownOf (x .bytes .now) (p .len)) (wanted-nowhere all sl sls u (x .bytes .now) p e (not-false _ (c .before .before .before .if3 .left)))
+    (sym (c .before .before .negated-holds .ensures (x .t1 .facts)) ∙ not-true _ (c .before .if4 .taken))
 
 from-item-add-from-item-2 : (t : ℕ) → from-item-lts.Need-add-from-item-2 (from-item-claims t) (from-item-at t) from-item.Post
-from-item-add-from-item-2 t c = omega arith
+from-item-add-from-item-2 t c = omega (arith, c .before .before .before .before .before .before .before .before .before .before .before .before .before .before .before .before .pre .1 .0, c .before .before .before .before .before .before .before .before .before .before .before .before .if1 .left)
 
 from-item-from-item-requires-2 : (t : ℕ) → from-item-lts.Need-from-item-requires-2 (from-item-claims t) (from-item-at t) from-item.Post
 from-item-from-item-requires-2 t c κs =
-    let a = c .before .before .before .before .before .before .before .before .before .before .before .before .before in
+    let a = c .before .before .before .before .before .before .before .before .before .before .before .before .before .before .before .before in
     let x = a .args in
-    let all = itemsLeft (x .t1) (x .count) (x .k) in
-    let sl = getD (x .t1) (x .k) slot0 in
-    let sls = itemsLeft (x .t1) (x .count) (x .k + 1) in
-    let u : all ≡ sl ∷ sls = left-here (x .t1) (x .count) (x .k) (c .before .before .before .before .before .before .before .before .before .if1 .left) (omega arith) in
-    (omega arith, (a .pre .1 .0, ready-nowhere all sl sls u (x .bytes .now) (x .payload .now) (x .decoded .now) (x .last) (x .acc) (a .pre .1 .1) (c .before .before .before .before .before .before .item .given .0 .0) (c .before .before .before .before .before .before .item .given .1) (c .before .before .if3 .taken)))
-
-from-item-returns-5 : (t : ℕ) → from-item-lts.Need-returns-5 (from-item-claims t) (from-item-at t) from-item.Post
-from-item-returns-5 t c =
-    let a = c .before .before .before .before .before .before .before .before .before .before .before .before .before .before in
-    let x = a .args in
-    let all = itemsLeft (x .t1) (x .count) (x .k) in
-    let sl = getD (x .t1) (x .k) slot0 in
-    let sls = itemsLeft (x .t1) (x .count) (x .k + 1) in
-    let u : all ≡ sl ∷ sls = left-here (x .t1) (x .count) (x .k) (c .before .before .before .before .before .before .before .before .before .before .if1 .left) (omega arith) in
-    let v = seen (x .facts) (x .payload .now) (x .decoded .now) (x .m) in
-    let q = drop (x .acc .count) (x .bound) in
-    let p = c .before .before .before .before .before .before .before .item .given .0 .0 in
-    let e = c .before .before .before .before .before .before .before .item .given .1 in
-    c .from-item2 .ensures
-    ∙ nowhere-yes v (x .last) (x .acc) (x .tight) q (wanted all (x .bytes .now)) (wanted sls (restOf (x .bytes .now) (p .len))) p (ownOf (x .bytes .now) (p .len)) (wanted-nowhere all sl sls u (x .bytes .now) p e (c .before .before .before .if3 .taken))
-    (sym (c .before .before .negated-holds .ensures (x .facts)) ∙ not-false _ (c .before .if4 .left))
-
-from-item-try-starts-requires : (t : ℕ) → from-item-lts.Need-try-starts-requires (from-item-claims t) (from-item-at t) from-item.Post
-from-item-try-starts-requires t c κs =
-    let a = c .before .before .before .before .before .before .before .before .before .before .before in
-    let x = a .args in
-    let all = itemsLeft (x .t1) (x .count) (x .k) in
-    let sl = getD (x .t1) (x .k) slot0 in
-    let sls = itemsLeft (x .t1) (x .count) (x .k + 1) in
-    let u : all ≡ sl ∷ sls = left-here (x .t1) (x .count) (x .k) (c .before .before .before .before .before .before .before .if1 .left) (omega arith) in
-    (omega arith, (c .before .before .before .before .before .before .before .if1 .left, a .pre .1 .0, ready-placed all sl sls u (x .bytes .now) (x .payload .now) (x .decoded .now) (x .last) (x .acc) (a .pre .1 .1) (c .before .before .before .before .item .given .0 .0) (c .before .before .before .before .item .given .1) (c .if3 .left)))
+    let long : length (x .t1 .items) ≡ itemsMost = length-mapped _ (x .t1 .items) itemsMost (a .good .0 .1 .1 .0 .1 .0 .1) in
+    let all = itemsLeft (x .t1) (x .k) in
+    let sl = getD (x .t1 .items) (x .k) slot0 in
+    let sls = itemsLeft (x .t1) (x .k + 1) in
+    let u : all ≡ sl ∷ sls = left-here (x .t1) (x .k) (c .before .before .before .before .before .before .before .before .before .before .before .before .if1 .left) (omega (arith, a .pre .1 .0, long)) in
+    (omega (arith, c .before .before .before .before .before .before .before .before .before .before .before .before .before .before .before .before .pre .0, c .before .before .before .before .before .before .before .before .before .before .before .before .if1 .left), (a .pre .1 .0, ready-nowhere all sl sls u (x .bytes .now) (x .payload .now) (x .decoded .now) (x .last) (x .acc) (a .pre .1 .1) (c .before .before .before .before .before .before .before .item .given .0 .0) (c .before .before .before .before .before .before .before .item .given .1) (not-false _ (c .before .before .if3 .left))))
 
 from-item-returns-6 : (t : ℕ) → from-item-lts.Need-returns-6 (from-item-claims t) (from-item-at t) from-item.Post
 from-item-returns-6 t c =
-    let a = c .before .before .before .before .before .before .before .before .before .before .before .before in
+    let a = c .before .before .before .before .before .before .before .before .before .before .before .before .before .before .before .before .before in
     let x = a .args in
-    let all = itemsLeft (x .t1) (x .count) (x .k) in
-    let sl = getD (x .t1) (x .k) slot0 in
-    let sls = itemsLeft (x .t1) (x .count) (x .k + 1) in
-    let u : all ≡ sl ∷ sls = left-here (x .t1) (x .count) (x .k) (c .before .before .before .before .before .before .before .before .if1 .left) (omega arith) in
-    let v = seen (x .facts) (x .payload .now) (x .decoded .now) (x .m) in
-    let q = drop (x .acc .count) (x .bound) in
-    let p = c .before .before .before .before .before .item .given .0 .0 in
-    let e = c .before .before .before .before .before .item .given .1 in
-    c .try-starts .ensures ∙ ap (λ (ws : List Wanted). answer (x .acc) (x .tight) q (placements v ws (x .last))) (sym (wanted-placed all sl sls u (x .bytes .now) p e (c .before .if3 .left)))
+    let long : length (x .t1 .items) ≡ itemsMost = length-mapped _ (x .t1 .items) itemsMost (a .good .0 .1 .1 .0 .1 .0 .1) in
+    let all = itemsLeft (x .t1) (x .k) in
+    let sl = getD (x .t1 .items) (x .k) slot0 in
+    let sls = itemsLeft (x .t1) (x .k + 1) in
+    let u : all ≡ sl ∷ sls = left-here (x .t1) (x .k) (c .before .before .before .before .before .before .before .before .before .before .before .before .before .if1 .left) (omega (arith, a .pre .1 .0, long)) in
+    let v = seen (x .t1 .facts) (x .payload .now) (x .decoded .now) (x .t1 .map) in
+    let passed = drop (x .acc .count) (x .t1 .bound) in
+    let p = c .before .before .before .before .before .before .before .before .item .given .0 .0 in
+    let e = c .before .before .before .before .before .before .before .before .item .given .1 in
+    c .from-item2 .ensures
+    ∙ nowhere-yes v (x .last) (x .acc) (x .tight) passed (wanted all (x .bytes .now)) (wanted sls (restOf (x .bytes .now) (p .len))) p (ownOf (x .bytes .now) (p .len)) (wanted-nowhere all sl sls u (x .bytes .now) p e (not-false _ (c .before .before .before .if3 .left)))
+    (sym (c .before .before .negated-holds .ensures (x .t1 .facts)) ∙ not-false _ (c .before .if4 .left))
 
 abbrev try-starts-Inv-loop : try-starts-lts.InvT-loop
-try-starts-Inv-loop items count k own rest p facts payload decoded m last acc tight bound f j b nocase to at₀ at =
+try-starts-Inv-loop q k p own rest payload decoded last acc tight f j b nocase to at₀ at =
     (at₀ ≤ at)
-    × (answer acc tight (drop (acc .count) bound) (placements (seen facts payload decoded m) (placed p own ∷ wanted (itemsLeft items count (k + 1)) rest) last)
-    ≡ answer acc tight (drop (acc .count) bound)
-    (spread (λ (s : ℕ). placements (seen facts payload decoded m) (wanted (itemsLeft items count (k + 1)) rest) (lastAfter last p s)) (keep (standing nocase own f) (from at to))))
+    × (answer acc tight (drop (acc .count) (q .bound)) (placements (seen (q .facts) payload decoded (q .map)) (placed p own ∷ wanted (itemsLeft q (k + 1)) rest) last)
+    ≡ answer acc tight (drop (acc .count) (q .bound))
+    (spread (λ (s : ℕ). placements (seen (q .facts) payload decoded (q .map)) (wanted (itemsLeft q (k + 1)) rest) (lastAfter last p s)) (keep (standing nocase own f) (from at to))))
 
 abbrev try-starts-μ-loop : try-starts-lts.MeasureT-loop
-try-starts-μ-loop items count k own rest p facts payload decoded m last acc tight bound f j b nocase to at₀ at = to - at
+try-starts-μ-loop q k p own rest payload decoded last acc tight f j b nocase to at₀ at = to - at
 
 try-starts-is-present-requires : (t : ℕ) → try-starts-lts.Need-is-present-requires (try-starts-claims t) (try-starts-at t) try-starts.Post try-starts-Inv-loop try-starts-μ-loop
 try-starts-is-present-requires t c κs = tt
@@ -310,10 +323,10 @@ try-starts-no-match-requires t c κs = tt
 
 try-starts-returns : (t : ℕ) → try-starts-lts.Need-returns (try-starts-claims t) (try-starts-at t) try-starts.Post try-starts-Inv-loop try-starts-μ-loop
 try-starts-returns t c =
-    let a = c .before .before .before .before .before .before .before in
+    let a = c .before .before .before .before .before .before .before .before in
     let x = a .args in
     c .no-match .ensures
-    ∙ try-absent (x .facts) (x .payload .now) (x .decoded .now) (x .m) (x .p) (x .own .now) (x .last) (wanted (itemsLeft (x .items) (x .count) (x .k + 1)) (x .rest .now)) (x .acc) (x .tight) _
+    ∙ try-absent (x .q .facts) (x .payload .now) (x .decoded .now) (x .q .map) (x .p) (x .own .now) (x .last) (wanted (itemsLeft (x .q) (x .k + 1)) (x .rest .now)) (x .acc) (x .tight) _
     (sym (c .before .before .is-present .ensures) ∙ not-true _ (c .before .if1 .taken))
 
 try-starts-field-of-requires : (t : ℕ) → try-starts-lts.Need-field-of-requires (try-starts-claims t) (try-starts-at t) try-starts.Post try-starts-Inv-loop try-starts-μ-loop
@@ -321,29 +334,29 @@ try-starts-field-of-requires t c κs = tt
 
 try-starts-window-requires : (t : ℕ) → try-starts-lts.Need-window-requires (try-starts-claims t) (try-starts-at t) try-starts.Post try-starts-Inv-loop try-starts-μ-loop
 try-starts-window-requires t c κs =
-    let a = c .before .before .before .before .before .before .before in
+    let a = c .before .before .before .before .before .before .before .before in
     let x = a .args in
-    measured (x .payload .now) (x .decoded .now) (x .m) (x .p) (x .last) (c .field-of .result .now) (trying-bounded (itemsLeft (x .items) (x .count) (x .k + 1)) (x .rest .now) (x .p) (x .payload .now) (x .decoded .now) (x .last) (x .acc) (a .pre .1 .2)) (c .field-of .ensures .0)
+    measured (x .payload .now) (x .decoded .now) (x .q .map) (x .p) (x .last) (c .field-of .result .now) (trying-bounded (itemsLeft (x .q) (x .k + 1)) (x .rest .now) (x .p) (x .payload .now) (x .decoded .now) (x .last) (x .acc) (a .pre .1 .2)) (c .field-of .ensures .0)
 
 try-starts-mul-b : (t : ℕ) → try-starts-lts.Need-mul-b (try-starts-claims t) (try-starts-at t) try-starts.Post try-starts-Inv-loop try-starts-μ-loop
-try-starts-mul-b t c = let room = c .before .before .before .before .before .before .before .before .pre .1 .2 .room in omega arith
+try-starts-mul-b t c = omega (arith, c .before .before .before .before .before .before .before .before .before .before .pre .1 .2 .room)
 
 try-starts-array-read-b : (t : ℕ) → try-starts-lts.Need-array-read-b (try-starts-claims t) (try-starts-at t) try-starts.Post try-starts-Inv-loop try-starts-μ-loop
-try-starts-array-read-b t c = let room = c .before .before .before .before .before .before .before .before .pre .1 .2 .room in omega arith
+try-starts-array-read-b t c = omega (arith, c .before .before .before .before .before .before .before .before .before .before .pre .1 .2 .room)
 
 try-starts-start-from-requires : (t : ℕ) → try-starts-lts.Need-start-from-requires (try-starts-claims t) (try-starts-at t) try-starts.Post try-starts-Inv-loop try-starts-μ-loop
 try-starts-start-from-requires t c κs = tt
 
 try-starts-loop-holds : (t : ℕ) → try-starts-lts.Need-loop-holds (try-starts-claims t) (try-starts-at t) try-starts.Post try-starts-Inv-loop try-starts-μ-loop
 try-starts-loop-holds t c =
-    let a = c .before .before .before .before .before .before .before .before .before in
+    let a = c .before .before .before .before .before .before .before .before .before .before .before in
     let x = a .args in
     let room = a .pre .1 .2 .room in
-    let long : length (x .t13) ≡ patternsMost = a .good .1 .1 .1 .1 .1 .1 .1 .1 .1 .1 .1 .1 .0 .1 .0 .1 in (
+    let long : length (x .q .bound) ≡ patternsMost = length-unmapped _ (x .q .bound) patternsMost (a .good .0 .1 .1 .1 .1 .1 .1 .0 .1 .0 .1) in (
       omega arith,
-      try-begin (x .facts) (x .payload .now) (x .decoded .now) (x .m) (x .p) (x .own .now) (x .last) (wanted (itemsLeft (x .items) (x .count) (x .k + 1)) (x .rest .now)) (x .acc) (x .tight)
-          (c .before .before .field-of .result .now) (c .before .window .result) (c .before .window .ensures) (c .before .before .field-of .ensures .0) (sym (c .before .before .before .before .is-present .ensures) ∙ not-false _ (c .before .before .before .if1 .left))
-          (x .t13) (c .start-from .result) (omega arith) (c .start-from .ensures),
+      try-begin (x .q .facts) (x .payload .now) (x .decoded .now) (x .q .map) (x .p) (x .own .now) (x .last) (wanted (itemsLeft (x .q) (x .k + 1)) (x .rest .now)) (x .acc) (x .tight)
+          (c .before .before .before .field-of .result .now) (c .before .before .window .result) (c .before .before .window .ensures) (c .before .before .before .field-of .ensures .0) (sym (c .before .before .before .before .before .is-present .ensures) ∙ not-false _ (c .before .before .before .before .if1 .left))
+          (x .q .bound) (c .start-from .result) (omega (arith, room, long)) (c .start-from .ensures),
     )
 
 try-starts-stands-at-requires : (t : ℕ) → try-starts-lts.Need-stands-at-requires (try-starts-claims t) (try-starts-at t) try-starts.Post try-starts-Inv-loop try-starts-μ-loop
@@ -351,50 +364,50 @@ try-starts-stands-at-requires t c κs = tt
 
 try-starts-last-at-requires : (t : ℕ) → try-starts-lts.Need-last-at-requires (try-starts-claims t) (try-starts-at t) try-starts.Post try-starts-Inv-loop try-starts-μ-loop
 try-starts-last-at-requires t c κs =
-    let a = c .before .before .before .before .before .before .before .before .before .before .before .before .before in
+    let a = c .before .before .before .before .before .before .before .before .before .before .before .before .before .before .before in
     let x = a .args in
-    let end : c .before .before .before .loop .at + x .p .len < sizeBound = omega (arith, c .before .before .before .before .before .window .ensures .inside (c .before .before .before .loop .at) (c .before .before .loop-test .taken), (measured (x .payload .now) (x .decoded .now) (x .m) (x .p) (x .last) (c .before .before .before .before .before .before .field-of .result .now) (trying-bounded (itemsLeft (x .items) (x .count) (x .k + 1)) (x .rest .now) (x .p) (x .payload .now) (x .decoded .now) (x .last) (x .acc) (a .pre .1 .2)) (c .before .before .before .before .before .before .field-of .ensures .0)) .field) in
+    let end : c .before .before .before .loop .at + x .p .len < sizeBound = omega (arith, c .before .before .before .before .before .before .window .ensures .inside (c .before .before .before .loop .at) (c .before .before .loop-test .taken), (measured (x .payload .now) (x .decoded .now) (x .q .map) (x .p) (x .last) (c .before .before .before .before .before .before .before .field-of .result .now) (trying-bounded (itemsLeft (x .q) (x .k + 1)) (x .rest .now) (x .p) (x .payload .now) (x .decoded .now) (x .last) (x .acc) (a .pre .1 .2)) (c .before .before .before .before .before .before .before .field-of .ensures .0)) .field) in
     end
 
-try-starts-add-from-item : (t : ℕ) → try-starts-lts.Need-add-from-item (try-starts-claims t) (try-starts-at t) try-starts.Post try-starts-Inv-loop try-starts-μ-loop
-try-starts-add-from-item t c = omega arith
-
 try-starts-with-start-requires : (t : ℕ) → try-starts-lts.Need-with-start-requires (try-starts-claims t) (try-starts-at t) try-starts.Post try-starts-Inv-loop try-starts-μ-loop
-try-starts-with-start-requires t c κs = let room = c .before .before .before .before .before .before .before .before .before .before .before .before .before .before .pre .1 .2 .room in omega arith
+try-starts-with-start-requires t c κs = omega (arith, c .before .before .before .before .before .before .before .before .before .before .before .before .before .before .before .before .pre .1 .2 .room)
 
 try-starts-stays-requires : (t : ℕ) → try-starts-lts.Need-stays-requires (try-starts-claims t) (try-starts-at t) try-starts.Post try-starts-Inv-loop try-starts-μ-loop
 try-starts-stays-requires t c κs = tt
 
+try-starts-add-from-item : (t : ℕ) → try-starts-lts.Need-add-from-item (try-starts-claims t) (try-starts-at t) try-starts.Post try-starts-Inv-loop try-starts-μ-loop
+try-starts-add-from-item t c = omega (arith, c .before .before .before .before .before .before .before .before .before .before .before .before .before .before .before .before .before .before .pre .1 .0, c .before .before .before .before .before .before .before .before .before .before .before .before .before .before .before .before .before .before .pre .1 .1)
+
 try-starts-from-item-requires : (t : ℕ) → try-starts-lts.Need-from-item-requires (try-starts-claims t) (try-starts-at t) try-starts.Post try-starts-Inv-loop try-starts-μ-loop
 try-starts-from-item-requires t c κs =
-    let a = c .before .before .before .before .before .before .before .before .before .before .before .before .before .before .before .before in
+    let a = c .before .before .before .before .before .before .before .before .before .before .before .before .before .before .before .before .before .before in
     let x = a .args in
-    let end : c .before .before .before .before .before .before .loop .at + x .p .len < sizeBound = omega (arith, c .before .before .before .before .before .before .before .before .window .ensures .inside (c .before .before .before .before .before .before .loop .at) (c .before .before .before .before .before .loop-test .taken), (measured (x .payload .now) (x .decoded .now) (x .m) (x .p) (x .last) (c .before .before .before .before .before .before .before .before .before .field-of .result .now) (trying-bounded (itemsLeft (x .items) (x .count) (x .k + 1)) (x .rest .now) (x .p) (x .payload .now) (x .decoded .now) (x .last) (x .acc) (a .pre .1 .2)) (c .before .before .before .before .before .before .before .before .before .field-of .ensures .0)) .field) in (
-      omega arith,
+    let end : c .before .before .before .before .before .before .loop .at + x .p .len < sizeBound = omega (arith, c .before .before .before .before .before .before .before .before .before .window .ensures .inside (c .before .before .before .before .before .before .loop .at) (c .before .before .before .before .before .loop-test .taken), (measured (x .payload .now) (x .decoded .now) (x .q .map) (x .p) (x .last) (c .before .before .before .before .before .before .before .before .before .before .field-of .result .now) (trying-bounded (itemsLeft (x .q) (x .k + 1)) (x .rest .now) (x .p) (x .payload .now) (x .decoded .now) (x .last) (x .acc) (a .pre .1 .2)) (c .before .before .before .before .before .before .before .before .before .before .field-of .ensures .0)) .field) in (
+      omega (arith, a .pre .0, a .pre .1 .0),
       (
         a .pre .1 .1,
-        ready-next (itemsLeft (x .items) (x .count) (x .k + 1)) (x .rest .now) (x .p) (x .payload .now) (x .decoded .now) (x .last) (x .acc) (a .pre .1 .2)
+        ready-next (itemsLeft (x .q) (x .k + 1)) (x .rest .now) (x .p) (x .payload .now) (x .decoded .now) (x .last) (x .acc) (a .pre .1 .2)
             (c .before .before .before .before .before .before .loop .at) (c .before .before .last-at .result) (c .before .with-start .result) end (c .before .before .last-at .ensures) (c .before .with-start .ensures),
       ),
     )
 
 try-starts-returns-2 : (t : ℕ) → try-starts-lts.Need-returns-2 (try-starts-claims t) (try-starts-at t) try-starts.Post try-starts-Inv-loop try-starts-μ-loop
 try-starts-returns-2 t c =
-    let a = c .before .before .before .before .before .before .before .before .before .before .before .before .before .before .before .before .before .before in
+    let a = c .before .before .before .before .before .before .before .before .before .before .before .before .before .before .before .before .before .before .before .before in
     let x = a .args in
-    let v = seen (x .facts) (x .payload .now) (x .decoded .now) (x .m) in
-    let q = drop (x .acc .count) (x .t13) in
-    let g : Last → List (List ℕ) = λ l. placements v (wanted (itemsLeft (x .items) (x .count) (x .k + 1)) (x .rest .now)) l in
-    let h = standing (x .p .nocase) (x .own .now) (c .before .before .before .before .before .before .before .before .before .before .before .field-of .result .now) in
-    let to = c .before .before .before .before .before .before .before .before .before .before .window .result .to in
-    let at = c .before .before .before .before .before .before .before .before .loop .at in
     let room = a .pre .1 .2 .room in
-    let long : length (x .t13) ≡ patternsMost = a .good .1 .1 .1 .1 .1 .1 .1 .1 .1 .1 .1 .1 .0 .1 .0 .1 in
-    or-found (c .before .from-item .result) (answer (x .acc) (x .tight) q (spread (λ (s : ℕ). g (lastAfter (x .last) (x .p) s)) (keep h (from (at + 1) to)))) _
+    let long : length (x .q .bound) ≡ patternsMost = length-unmapped _ (x .q .bound) patternsMost (a .good .0 .1 .1 .1 .1 .1 .1 .0 .1 .0 .1) in
+    let v = seen (x .q .facts) (x .payload .now) (x .decoded .now) (x .q .map) in
+    let passed = drop (x .acc .count) (x .q .bound) in
+    let g : Last → List (List ℕ) = λ l. placements v (wanted (itemsLeft (x .q) (x .k + 1)) (x .rest .now)) l in
+    let h = standing (x .p .nocase) (x .own .now) (c .before .before .before .before .before .before .before .before .before .before .before .before .field-of .result .now) in
+    let to = c .before .before .before .before .before .before .before .before .before .before .before .window .result .to in
+    let at = c .before .before .before .before .before .before .before .before .loop .at in
+    or-found (c .before .from-item .result) (answer (x .acc) (x .tight) passed (spread (λ (s : ℕ). g (lastAfter (x .last) (x .p) s)) (keep h (from (at + 1) to)))) _
     (c .before .before .before .before .before .before .before .before .loop .inv .1
-    ∙ tried (x .acc) (x .tight) (x .t13) g (lastAfter (x .last) (x .p)) h at to (c .before .before .before .before .last-at .result) (c .before .before .before .with-start .result) (c .before .before .stays .result) (c .before .from-item .result)
-    (c .before .before .before .before .before .before .before .loop-test .taken) (sym (c .before .before .before .before .before .before .stands-at .ensures) ∙ c .before .before .before .before .before .if2 .taken) (omega arith)
-    (λ t. let l = ahead (x .tight) (getD (x .t13) (x .acc .count) 0) (c .before .before .before .before .before .before .before .before .before .before .window .result .from) (c .before .before .before .before .before .before .before .before .before .start-from .result) (c .before .before .before .before .before .before .before .before .before .start-from .ensures) t in let on = c .before .before .before .before .before .before .before .before .loop .inv .0 in omega arith)
+    ∙ tried (x .acc) (x .tight) (x .q .bound) g (lastAfter (x .last) (x .p)) h at to (c .before .before .before .before .last-at .result) (c .before .before .before .with-start .result) (c .before .before .stays .result) (c .before .from-item .result)
+    (c .before .before .before .before .before .before .before .loop-test .taken) (sym (c .before .before .before .before .before .before .stands-at .ensures) ∙ c .before .before .before .before .before .if2 .taken) (omega (arith, room, long))
+    (λ t. omega (arith, c .before .before .before .before .before .before .before .before .loop .inv .0, ahead (x .tight) (getD (x .q .bound) (x .acc .count) 0) (c .before .before .before .before .before .before .before .before .before .before .before .window .result .from) (c .before .before .before .before .before .before .before .before .before .start-from .result) (c .before .before .before .before .before .before .before .before .before .start-from .ensures) t))
     (c .before .before .before .before .last-at .ensures) (c .before .before .before .with-start .ensures) (c .before .before .stays .ensures) (c .before .from-item .ensures))
     (c .if3 .taken)
 
@@ -406,26 +419,26 @@ try-starts-loop-less t c = omega arith
 
 try-starts-loop-again : (t : ℕ) → try-starts-lts.Need-loop-again (try-starts-claims t) (try-starts-at t) try-starts.Post try-starts-Inv-loop try-starts-μ-loop
 try-starts-loop-again t c =
-    let a = c .before .before .before .before .before .before .before .before .before .before .before .before .before in
+    let a = c .before .before .before .before .before .before .before .before .before .before .before .before .before .before .before in
     let x = a .args in
-    let v = seen (x .facts) (x .payload .now) (x .decoded .now) (x .m) in
-    let q = drop (x .acc .count) (x .t13) in
-    let g : Last → List (List ℕ) = λ l. placements v (wanted (itemsLeft (x .items) (x .count) (x .k + 1)) (x .rest .now)) l in
-    let h = standing (x .p .nocase) (x .own .now) (c .before .before .before .before .before .before .field-of .result .now) in
-    let to = c .before .before .before .before .before .window .result .to in
-    let at = c .before .before .before .loop .at in
     let room = a .pre .1 .2 .room in
-    let long : length (x .t13) ≡ patternsMost = a .good .1 .1 .1 .1 .1 .1 .1 .1 .1 .1 .1 .1 .0 .1 .0 .1 in (
-      omega arith,
+    let long : length (x .q .bound) ≡ patternsMost = length-unmapped _ (x .q .bound) patternsMost (a .good .0 .1 .1 .1 .1 .1 .1 .0 .1 .0 .1) in
+    let v = seen (x .q .facts) (x .payload .now) (x .decoded .now) (x .q .map) in
+    let passed = drop (x .acc .count) (x .q .bound) in
+    let g : Last → List (List ℕ) = λ l. placements v (wanted (itemsLeft (x .q) (x .k + 1)) (x .rest .now)) l in
+    let h = standing (x .p .nocase) (x .own .now) (c .before .before .before .before .before .before .before .field-of .result .now) in
+    let to = c .before .before .before .before .before .before .window .result .to in
+    let at = c .before .before .before .loop .at in (
+      omega (arith, c .before .before .before .loop .inv .0),
       c .before .before .before .loop .inv .1
           ∙ ⊎-elim
-          (λ w. or-missing (w .4 .result) (answer (x .acc) (x .tight) q (spread (λ (s : ℕ). g (lastAfter (x .last) (x .p) s)) (keep h (from (at + 1) to)))) _
-          (tried (x .acc) (x .tight) (x .t13) g (lastAfter (x .last) (x .p)) h at to (w .1 .result) (w .2 .result) (w .3 .result) (w .4 .result)
-          (c .before .before .loop-test .taken) (sym (c .before .stands-at .ensures) ∙ w .0 .taken) (omega arith)
-          (λ t. let l = ahead (x .tight) (getD (x .t13) (x .acc .count) 0) (c .before .before .before .before .before .window .result .from) (c .before .before .before .before .start-from .result) (c .before .before .before .before .start-from .ensures) t in omega arith)
+          (λ w. or-missing (w .4 .result) (answer (x .acc) (x .tight) passed (spread (λ (s : ℕ). g (lastAfter (x .last) (x .p) s)) (keep h (from (at + 1) to)))) _
+          (tried (x .acc) (x .tight) (x .q .bound) g (lastAfter (x .last) (x .p)) h at to (w .1 .result) (w .2 .result) (w .3 .result) (w .4 .result)
+          (c .before .before .loop-test .taken) (sym (c .before .stands-at .ensures) ∙ w .0 .taken) (omega (arith, room, long))
+          (λ t. omega (arith, c .before .before .before .loop .inv .0, ahead (x .tight) (getD (x .q .bound) (x .acc .count) 0) (c .before .before .before .before .before .before .window .result .from) (c .before .before .before .before .start-from .result) (c .before .before .before .before .start-from .ensures) t))
           (w .1 .ensures) (w .2 .ensures) (w .3 .ensures) (w .4 .ensures))
           (w .5 .left))
-          (λ w. try-no (x .acc) (x .tight) (x .t13) (λ (s : ℕ). g (lastAfter (x .last) (x .p) s)) h at to q (sym (c .before .stands-at .ensures) ∙ w .left))
+          (λ w. try-no (x .acc) (x .tight) (x .q .bound) (λ (s : ℕ). g (lastAfter (x .last) (x .p) s)) h at to passed (sym (c .before .stands-at .ensures) ∙ w .left))
           (c .if2 .came),
     )
 
@@ -434,18 +447,16 @@ try-starts-no-match-requires-2 t c κs = tt
 
 try-starts-returns-3 : (t : ℕ) → try-starts-lts.Need-returns-3 (try-starts-claims t) (try-starts-at t) try-starts.Post try-starts-Inv-loop try-starts-μ-loop
 try-starts-returns-3 t c =
-    let a = c .before .before .before .before .before .before .before .before .before .before .before .before in
+    let a = c .before .before .before .before .before .before .before .before .before .before .before .before .before .before in
     let x = a .args in
-    let v = seen (x .facts) (x .payload .now) (x .decoded .now) (x .m) in
-    let q = drop (x .acc .count) (x .t13) in
-    let g : Last → List (List ℕ) = λ l. placements v (wanted (itemsLeft (x .items) (x .count) (x .k + 1)) (x .rest .now)) l in
-    let h = standing (x .p .nocase) (x .own .now) (c .before .before .before .before .before .field-of .result .now) in
-    let to = c .before .before .before .before .window .result .to in
+    let v = seen (x .q .facts) (x .payload .now) (x .decoded .now) (x .q .map) in
+    let passed = drop (x .acc .count) (x .q .bound) in
+    let g : Last → List (List ℕ) = λ l. placements v (wanted (itemsLeft (x .q) (x .k + 1)) (x .rest .now)) l in
+    let h = standing (x .p .nocase) (x .own .now) (c .before .before .before .before .before .before .field-of .result .now) in
+    let to = c .before .before .before .before .before .window .result .to in
     let at = c .before .before .loop .at in
-    let room = a .pre .1 .2 .room in
-    let long : length (x .t13) ≡ patternsMost = a .good .1 .1 .1 .1 .1 .1 .1 .1 .1 .1 .1 .1 .0 .1 .0 .1 in
     c .no-match2 .ensures
-    ∙ sym (c .before .before .loop .inv .1 ∙ try-done (x .acc) (x .tight) (x .t13) (λ (s : ℕ). g (lastAfter (x .last) (x .p) s)) h at to q (c .before .loop-test .left))
+    ∙ sym (c .before .before .loop .inv .1 ∙ try-done (x .acc) (x .tight) (x .q .bound) (λ (s : ℕ). g (lastAfter (x .last) (x .p) s)) h at to passed (c .before .loop-test .left))
 
 pub +from-item+try-starts-spec : {M : Type 1} → statement M
 +from-item+try-starts-spec = close μ-from-item μ-try-starts (λ t. from-item-lts.spec (from-item-claims t)
@@ -454,7 +465,7 @@ pub +from-item+try-starts-spec : {M : Type 1} → statement M
     (from-item-at-end-requires t)
     (from-item-returns t)
     (from-item-mul-slot t)
-    (from-item-array-copy-out-slot t)
+    (from-item-element-copy-out-slot t)
     (from-item-enum-known-item t)
     (from-item-test-holds-requires t)
     (from-item-no-match-requires t)
@@ -468,13 +479,13 @@ pub +from-item+try-starts-spec : {M : Type 1} → statement M
     (from-item-sub-rest t)
     (from-item-part-rest-start t)
     (from-item-part-rest-end t)
+    (from-item-try-starts-requires t)
+    (from-item-returns-4 t)
     (from-item-negated-holds-requires t)
     (from-item-no-match-requires-2 t)
-    (from-item-returns-4 t)
+    (from-item-returns-5 t)
     (from-item-add-from-item-2 t)
     (from-item-from-item-requires-2 t)
-    (from-item-returns-5 t)
-    (from-item-try-starts-requires t)
     (from-item-returns-6 t))
     λ t. try-starts-lts.spec (try-starts-claims t)
     (try-starts-at t)
@@ -492,9 +503,9 @@ pub +from-item+try-starts-spec : {M : Type 1} → statement M
     (try-starts-loop-holds t)
     (try-starts-stands-at-requires t)
     (try-starts-last-at-requires t)
-    (try-starts-add-from-item t)
     (try-starts-with-start-requires t)
     (try-starts-stays-requires t)
+    (try-starts-add-from-item t)
     (try-starts-from-item-requires t)
     (try-starts-returns-2 t)
     (try-starts-add-at t)
