@@ -4,6 +4,7 @@ use native.Mathlib.Omega.{arith}
 use borrow.Author.Needs.{needs, length-unmapped}
 use borrow.Author.Tests.{not-true, not-false}
 use lib.ListN.{length}
+use Rattle.definitions.specs.Limits.{limits01}
 use Rattle.meaning.specs.Seen.{seen}
 use Rattle.search.proofs.Formed.{few-items, ready-first, found-first, found-none}
 use Rattle.search.proofs.find.Statement.{statement}
@@ -29,7 +30,7 @@ from-item-requires : tie.Need-from-item-requires
 from-item-requires c κs =
     let a = c .before .before .before .before .before .before .before in
     let x = a .args in
-    let room : length (x .t .bytes) ≡ 1024 = length-unmapped _ (x .t .bytes) 1024 (a .good .0 .1 .1 .1 .1 .1 .1 .0 .1 .0 .1) in
+    let room : length (x .t .bytes) ≡ limits01 .room = length-unmapped _ (x .t .bytes) (limits01 .room) (a .good .0 .1 .1 .1 .1 .1 .1 .0 .1 .0 .1) in
     (few-items (x .t) (a .pre .formed), ready-first (x .t) (a .pre .formed) (x .payload .now) (x .decoded .now) (omega arith) (a .pre .payload) (a .pre .decoded))
 
 returns-2 : tie.Need-returns-2
