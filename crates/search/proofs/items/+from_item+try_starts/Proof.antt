@@ -105,6 +105,13 @@ try-starts-claims t = (
   from-item.Post,
 )
 
+-- the item at hand, and those behind it
+slots-here : (t : ℕ) (a : from-item-lts.Start (from-item-claims t) (from-item-at t) from-item.Post) → a .args .k < a .args .t1 .count
+    → itemsLeft (a .args .t1) (a .args .k) ≡ getD (a .args .t1 .items) (a .args .k) slot0 ∷ itemsLeft (a .args .t1) (a .args .k + 1)
+slots-here t a h =
+    let long : length (a .args .t1 .items) ≡ itemsMost = length-mapped _ (a .args .t1 .items) itemsMost (a .good .0 .1 .1 .0 .1 .0 .1) in
+    left-here (a .args .t1) (a .args .k) h (omega (arith, a .pre .1 .0, long))
+
 from-item-at-end-requires : (t : ℕ) → from-item-lts.Need-at-end-requires (from-item-claims t) (from-item-at t) from-item.Post
 from-item-at-end-requires t c κs = tt
 
@@ -135,11 +142,10 @@ from-item-returns-2 : (t : ℕ) → from-item-lts.Need-returns-2 (from-item-clai
 from-item-returns-2 t c =
     let a = c .before .before .before .before .before .before .before .before .before .before .before .before in
     let x = a .args in
-    let long : length (x .t1 .items) ≡ itemsMost = length-mapped _ (x .t1 .items) itemsMost (a .good .0 .1 .1 .0 .1 .0 .1) in
     let all = itemsLeft (x .t1) (x .k) in
     let sl = getD (x .t1 .items) (x .k) slot0 in
     let sls = itemsLeft (x .t1) (x .k + 1) in
-    let u : all ≡ sl ∷ sls = left-here (x .t1) (x .k) (c .before .before .before .before .before .before .before .before .if1 .left) (omega (arith, a .pre .1 .0, long)) in
+    let u : all ≡ sl ∷ sls = slots-here t a (c .before .before .before .before .before .before .before .before .if1 .left) in
     let v = seen (x .t1 .facts) (x .payload .now) (x .decoded .now) (x .t1 .map) in
     let passed = drop (x .acc .count) (x .t1 .bound) in
     c .no-match .ensures
@@ -153,22 +159,20 @@ from-item-from-item-requires : (t : ℕ) → from-item-lts.Need-from-item-requir
 from-item-from-item-requires t c κs =
     let a = c .before .before .before .before .before .before .before .before .before .before .before in
     let x = a .args in
-    let long : length (x .t1 .items) ≡ itemsMost = length-mapped _ (x .t1 .items) itemsMost (a .good .0 .1 .1 .0 .1 .0 .1) in
     let all = itemsLeft (x .t1) (x .k) in
     let sl = getD (x .t1 .items) (x .k) slot0 in
     let sls = itemsLeft (x .t1) (x .k + 1) in
-    let u : all ≡ sl ∷ sls = left-here (x .t1) (x .k) (c .before .before .before .before .before .before .before .if1 .left) (omega (arith, a .pre .1 .0, long)) in
+    let u : all ≡ sl ∷ sls = slots-here t a (c .before .before .before .before .before .before .before .if1 .left) in
     (omega (arith, c .before .before .before .before .before .before .before .before .before .before .before .pre .0, c .before .before .before .before .before .before .before .if1 .left), (a .pre .1 .0, ready-test all sl sls u (x .bytes .now) (x .payload .now) (x .decoded .now) (x .last) (x .acc) (a .pre .1 .1) (c .before .before .before .match .keys2)))
 
 from-item-returns-3 : (t : ℕ) → from-item-lts.Need-returns-3 (from-item-claims t) (from-item-at t) from-item.Post
 from-item-returns-3 t c =
     let a = c .before .before .before .before .before .before .before .before .before .before .before .before in
     let x = a .args in
-    let long : length (x .t1 .items) ≡ itemsMost = length-mapped _ (x .t1 .items) itemsMost (a .good .0 .1 .1 .0 .1 .0 .1) in
     let all = itemsLeft (x .t1) (x .k) in
     let sl = getD (x .t1 .items) (x .k) slot0 in
     let sls = itemsLeft (x .t1) (x .k + 1) in
-    let u : all ≡ sl ∷ sls = left-here (x .t1) (x .k) (c .before .before .before .before .before .before .before .before .if1 .left) (omega (arith, a .pre .1 .0, long)) in
+    let u : all ≡ sl ∷ sls = slots-here t a (c .before .before .before .before .before .before .before .before .if1 .left) in
     let v = seen (x .t1 .facts) (x .payload .now) (x .decoded .now) (x .t1 .map) in
     let passed = drop (x .acc .count) (x .t1 .bound) in
     c .from-item .ensures
@@ -185,33 +189,30 @@ from-item-part-own-end : (t : ℕ) → from-item-lts.Need-part-own-end (from-ite
 from-item-part-own-end t c =
     let a = c .before .before .before .before .before .before .before .before .before .before in
     let x = a .args in
-    let long : length (x .t1 .items) ≡ itemsMost = length-mapped _ (x .t1 .items) itemsMost (a .good .0 .1 .1 .0 .1 .0 .1) in
     let all = itemsLeft (x .t1) (x .k) in
     let sl = getD (x .t1 .items) (x .k) slot0 in
     let sls = itemsLeft (x .t1) (x .k + 1) in
-    let u : all ≡ sl ∷ sls = left-here (x .t1) (x .k) (c .before .before .before .before .before .before .if1 .left) (omega (arith, a .pre .1 .0, long)) in
+    let u : all ≡ sl ∷ sls = slots-here t a (c .before .before .before .before .before .before .if1 .left) in
     omega (arith, pattern-stored all sl sls u (x .bytes .now) (x .payload .now) (x .decoded .now) (x .last) (x .acc) (a .pre .1 .1) (c .before .item .given .0 .0) (c .before .item .given .1))
 
 from-item-sub-rest : (t : ℕ) → from-item-lts.Need-sub-rest (from-item-claims t) (from-item-at t) from-item.Post
 from-item-sub-rest t c =
     let a = c .before .before .before .before .before .before .before .before .before .before .before in
     let x = a .args in
-    let long : length (x .t1 .items) ≡ itemsMost = length-mapped _ (x .t1 .items) itemsMost (a .good .0 .1 .1 .0 .1 .0 .1) in
     let all = itemsLeft (x .t1) (x .k) in
     let sl = getD (x .t1 .items) (x .k) slot0 in
     let sls = itemsLeft (x .t1) (x .k + 1) in
-    let u : all ≡ sl ∷ sls = left-here (x .t1) (x .k) (c .before .before .before .before .before .before .before .if1 .left) (omega (arith, a .pre .1 .0, long)) in
+    let u : all ≡ sl ∷ sls = slots-here t a (c .before .before .before .before .before .before .before .if1 .left) in
     omega (arith, pattern-stored all sl sls u (x .bytes .now) (x .payload .now) (x .decoded .now) (x .last) (x .acc) (a .pre .1 .1) (c .before .before .item .given .0 .0) (c .before .before .item .given .1))
 
 from-item-part-rest-start : (t : ℕ) → from-item-lts.Need-part-rest-start (from-item-claims t) (from-item-at t) from-item.Post
 from-item-part-rest-start t c =
     let a = c .before .before .before .before .before .before .before .before .before .before .before in
     let x = a .args in
-    let long : length (x .t1 .items) ≡ itemsMost = length-mapped _ (x .t1 .items) itemsMost (a .good .0 .1 .1 .0 .1 .0 .1) in
     let all = itemsLeft (x .t1) (x .k) in
     let sl = getD (x .t1 .items) (x .k) slot0 in
     let sls = itemsLeft (x .t1) (x .k + 1) in
-    let u : all ≡ sl ∷ sls = left-here (x .t1) (x .k) (c .before .before .before .before .before .before .before .if1 .left) (omega (arith, a .pre .1 .0, long)) in
+    let u : all ≡ sl ∷ sls = slots-here t a (c .before .before .before .before .before .before .before .if1 .left) in
     omega (arith, pattern-stored all sl sls u (x .bytes .now) (x .payload .now) (x .decoded .now) (x .last) (x .acc) (a .pre .1 .1) (c .before .before .item .given .0 .0) (c .before .before .item .given .1))
 
 from-item-part-rest-end : (t : ℕ) → from-item-lts.Need-part-rest-end (from-item-claims t) (from-item-at t) from-item.Post
@@ -221,22 +222,20 @@ from-item-try-starts-requires : (t : ℕ) → from-item-lts.Need-try-starts-requ
 from-item-try-starts-requires t c κs =
     let a = c .before .before .before .before .before .before .before .before .before .before .before .before .before .before in
     let x = a .args in
-    let long : length (x .t1 .items) ≡ itemsMost = length-mapped _ (x .t1 .items) itemsMost (a .good .0 .1 .1 .0 .1 .0 .1) in
     let all = itemsLeft (x .t1) (x .k) in
     let sl = getD (x .t1 .items) (x .k) slot0 in
     let sls = itemsLeft (x .t1) (x .k + 1) in
-    let u : all ≡ sl ∷ sls = left-here (x .t1) (x .k) (c .before .before .before .before .before .before .before .before .before .before .if1 .left) (omega (arith, a .pre .1 .0, long)) in
+    let u : all ≡ sl ∷ sls = slots-here t a (c .before .before .before .before .before .before .before .before .before .before .if1 .left) in
     (omega (arith, c .before .before .before .before .before .before .before .before .before .before .before .before .before .before .pre .0, c .before .before .before .before .before .before .before .before .before .before .if1 .left), (c .before .before .before .before .before .before .before .before .before .before .if1 .left, a .pre .1 .0, ready-placed all sl sls u (x .bytes .now) (x .payload .now) (x .decoded .now) (x .last) (x .acc) (a .pre .1 .1) (c .before .before .before .before .before .item .given .0 .0) (c .before .before .before .before .before .item .given .1) (not-true _ (c .if3 .taken))))
 
 from-item-returns-4 : (t : ℕ) → from-item-lts.Need-returns-4 (from-item-claims t) (from-item-at t) from-item.Post
 from-item-returns-4 t c =
     let a = c .before .before .before .before .before .before .before .before .before .before .before .before .before .before .before in
     let x = a .args in
-    let long : length (x .t1 .items) ≡ itemsMost = length-mapped _ (x .t1 .items) itemsMost (a .good .0 .1 .1 .0 .1 .0 .1) in
     let all = itemsLeft (x .t1) (x .k) in
     let sl = getD (x .t1 .items) (x .k) slot0 in
     let sls = itemsLeft (x .t1) (x .k + 1) in
-    let u : all ≡ sl ∷ sls = left-here (x .t1) (x .k) (c .before .before .before .before .before .before .before .before .before .before .before .if1 .left) (omega (arith, a .pre .1 .0, long)) in
+    let u : all ≡ sl ∷ sls = slots-here t a (c .before .before .before .before .before .before .before .before .before .before .before .if1 .left) in
     let v = seen (x .t1 .facts) (x .payload .now) (x .decoded .now) (x .t1 .map) in
     let passed = drop (x .acc .count) (x .t1 .bound) in
     let p = c .before .before .before .before .before .before .item .given .0 .0 in
@@ -247,11 +246,10 @@ from-item-negated-holds-requires : (t : ℕ) → from-item-lts.Need-negated-hold
 from-item-negated-holds-requires t c κs =
     let a = c .before .before .before .before .before .before .before .before .before .before .before .before .before .before in
     let x = a .args in
-    let long : length (x .t1 .items) ≡ itemsMost = length-mapped _ (x .t1 .items) itemsMost (a .good .0 .1 .1 .0 .1 .0 .1) in
     let all = itemsLeft (x .t1) (x .k) in
     let sl = getD (x .t1 .items) (x .k) slot0 in
     let sls = itemsLeft (x .t1) (x .k + 1) in
-    let u : all ≡ sl ∷ sls = left-here (x .t1) (x .k) (c .before .before .before .before .before .before .before .before .before .before .if1 .left) (omega (arith, a .pre .1 .0, long)) in
+    let u : all ≡ sl ∷ sls = slots-here t a (c .before .before .before .before .before .before .before .before .before .before .if1 .left) in
     pattern-bounded all sl sls u (x .bytes .now) (x .payload .now) (x .decoded .now) (x .last) (x .acc) (a .pre .1 .1) (c .before .before .before .before .before .item .given .0 .0) (c .before .before .before .before .before .item .given .1)
 
 from-item-no-match-requires-2 : (t : ℕ) → from-item-lts.Need-no-match-requires-2 (from-item-claims t) (from-item-at t) from-item.Post
@@ -261,11 +259,10 @@ from-item-returns-5 : (t : ℕ) → from-item-lts.Need-returns-5 (from-item-clai
 from-item-returns-5 t c =
     let a = c .before .before .before .before .before .before .before .before .before .before .before .before .before .before .before .before .before in
     let x = a .args in
-    let long : length (x .t1 .items) ≡ itemsMost = length-mapped _ (x .t1 .items) itemsMost (a .good .0 .1 .1 .0 .1 .0 .1) in
     let all = itemsLeft (x .t1) (x .k) in
     let sl = getD (x .t1 .items) (x .k) slot0 in
     let sls = itemsLeft (x .t1) (x .k + 1) in
-    let u : all ≡ sl ∷ sls = left-here (x .t1) (x .k) (c .before .before .before .before .before .before .before .before .before .before .before .before .before .if1 .left) (omega (arith, a .pre .1 .0, long)) in
+    let u : all ≡ sl ∷ sls = slots-here t a (c .before .before .before .before .before .before .before .before .before .before .before .before .before .if1 .left) in
     let v = seen (x .t1 .facts) (x .payload .now) (x .decoded .now) (x .t1 .map) in
     let passed = drop (x .acc .count) (x .t1 .bound) in
     let p = c .before .before .before .before .before .before .before .before .item .given .0 .0 in
@@ -281,22 +278,20 @@ from-item-from-item-requires-2 : (t : ℕ) → from-item-lts.Need-from-item-requ
 from-item-from-item-requires-2 t c κs =
     let a = c .before .before .before .before .before .before .before .before .before .before .before .before .before .before .before .before in
     let x = a .args in
-    let long : length (x .t1 .items) ≡ itemsMost = length-mapped _ (x .t1 .items) itemsMost (a .good .0 .1 .1 .0 .1 .0 .1) in
     let all = itemsLeft (x .t1) (x .k) in
     let sl = getD (x .t1 .items) (x .k) slot0 in
     let sls = itemsLeft (x .t1) (x .k + 1) in
-    let u : all ≡ sl ∷ sls = left-here (x .t1) (x .k) (c .before .before .before .before .before .before .before .before .before .before .before .before .if1 .left) (omega (arith, a .pre .1 .0, long)) in
+    let u : all ≡ sl ∷ sls = slots-here t a (c .before .before .before .before .before .before .before .before .before .before .before .before .if1 .left) in
     (omega (arith, c .before .before .before .before .before .before .before .before .before .before .before .before .before .before .before .before .pre .0, c .before .before .before .before .before .before .before .before .before .before .before .before .if1 .left), (a .pre .1 .0, ready-nowhere all sl sls u (x .bytes .now) (x .payload .now) (x .decoded .now) (x .last) (x .acc) (a .pre .1 .1) (c .before .before .before .before .before .before .before .item .given .0 .0) (c .before .before .before .before .before .before .before .item .given .1) (not-false _ (c .before .before .if3 .left))))
 
 from-item-returns-6 : (t : ℕ) → from-item-lts.Need-returns-6 (from-item-claims t) (from-item-at t) from-item.Post
 from-item-returns-6 t c =
     let a = c .before .before .before .before .before .before .before .before .before .before .before .before .before .before .before .before .before in
     let x = a .args in
-    let long : length (x .t1 .items) ≡ itemsMost = length-mapped _ (x .t1 .items) itemsMost (a .good .0 .1 .1 .0 .1 .0 .1) in
     let all = itemsLeft (x .t1) (x .k) in
     let sl = getD (x .t1 .items) (x .k) slot0 in
     let sls = itemsLeft (x .t1) (x .k + 1) in
-    let u : all ≡ sl ∷ sls = left-here (x .t1) (x .k) (c .before .before .before .before .before .before .before .before .before .before .before .before .before .if1 .left) (omega (arith, a .pre .1 .0, long)) in
+    let u : all ≡ sl ∷ sls = slots-here t a (c .before .before .before .before .before .before .before .before .before .before .before .before .before .if1 .left) in
     let v = seen (x .t1 .facts) (x .payload .now) (x .decoded .now) (x .t1 .map) in
     let passed = drop (x .acc .count) (x .t1 .bound) in
     let p = c .before .before .before .before .before .before .before .before .item .given .0 .0 in
