@@ -1,0 +1,2 @@
+-- What a run of asks writes.
+pub mod Runs

@@ -1,0 +1,40 @@
+-- A run of asks over a lent buffer: the answers of the model, as numbers, one answer behind the other. Section "Meaning", its last paragraph.
+use Prim.Native.Nat.{ℕ, zero, suc, _+_, _*_}
+use mathlib.Core.Bool.{Bool}
+use mathlib.Core.List.{List, [], _∷_, _++_, map}
+use lib.ListN.{length, drop}
+use lib.Dec.{leb}
+use Rattle.forms.specs.Bytes.{if_then_else_}
+use Rattle.definitions.specs.declared.table.Table.{Table}
+use Rattle.definitions.specs.declared.packet.Direction.{Direction}
+use Rattle.definitions.specs.declared.packet.FieldMap.{FieldMap}
+use Rattle.definitions.specs.declared.packet.Placement.{Placement}
+use Rattle.definitions.specs.declared.answers.Answer.{Answer}
+use Rattle.definitions.specs.declared.answers.Ask.{Ask}
+use Rattle.definitions.specs.declared.answers.Ask.the-variants.{First, Next}
+use Rattle.definitions.specs.Limits.{patternsMost}
+use Rattle.definitions.specs.Asks.{answerNumbers, answers}
+
+-- an ask is a byte: 0 is "first", any other "next"
+abbrev pub askOf : ℕ → Ask
+askOf zero = First
+askOf (suc a) = Next
+
+-- refusal number, found or none, count, and all starts
+abbrev pub numbersOfOne : ℕ
+numbersOfOne = 3 + patternsMost
+
+unfoldable pub allNumbers : List Answer → List ℕ
+allNumbers [] = []
+allNumbers (a ∷ rest) = answerNumbers a ++ allNumbers rest
+
+-- the buffer has room for the numbers of all answers
+abbrev pub room : List ℕ → List ℕ → Bool
+room asks out = leb (length asks * numbersOfOne) (length out)
+
+-- the buffer afterwards: all answers, and behind them what stood there; with no room for them all as it was
+unfoldable pub written : Table → List ℕ → List ℕ → Direction → FieldMap → Placement → List ℕ → List ℕ → List ℕ
+written t p decoded dir m h asks out =
+    if room asks out
+    then allNumbers (answers t p decoded dir m h (map askOf asks)) ++ drop (length asks * numbersOfOne) out
+    else out
