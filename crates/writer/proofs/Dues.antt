@@ -19,8 +19,16 @@ use Rattle.definitions.specs.WellFormed.{wellFormed}
 use Rattle.definitions.specs.House.{houseText}
 use Rattle.definitions.specs.Writing.{writingDue, writtenIf, bufferIf, writes, bufferAfter}
 use Rattle.output.specs.Puts.{countedMost, Puts}
+use Rattle.output.specs.Clipped.{atMost}
 use Rattle.output.proofs.Whole.{most-of, most-full, puts-count, puts-buffer}
 use Rattle.writer.specs.Measured.{Measures}
+
+-- put from the start on, a house text is counted, whatever the buffer holds
+pub measures : (t : Table) {out after : List ℕ} {n : ℕ} → Puts out 0 (houseText t) after n → Measures t n
+measures t {out = out} p =
+    ap (λ (q : List ℕ × ℕ). q .1) (p .is)
+    ∙ puts-count out 0 (houseText t) (omega arith)
+    ∙ ap (λ (k : ℕ). atMost k countedMost) (zero-add (length (houseText t)))
 
 module _ (t : Table) where
   abbrev len : ℕ
