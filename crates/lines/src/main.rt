@@ -1,5 +1,6 @@
 // The line program: moves bytes between standard input, the work on lines (crate line_answers) and standard output.
 use definitions::limits::TEXT_BYTES;
+use libc::STDERR_FILENO;
 use libc::STDIN_FILENO;
 use libc::STDOUT_FILENO;
 use line_answers::Begun;
@@ -17,6 +18,12 @@ fn stop(begun: Begun) -> Step {
         begun,
         going: false,
     }
+}
+
+// No answer is longer than the output, so this is not met; if it were, nothing would be lost unsaid.
+fn no_room(begun: Begun) -> Step {
+    io::write_all(STDERR_FILENO, b"an answer has no room\n");
+    stop(begun)
 }
 
 // Writes the first bytes of the output; if it can't, says so.
@@ -43,7 +50,7 @@ fn answer_block(block: &[u8], line: &mut [u8], out: &mut [u8], begun: Begun) -> 
             return stop(now);
         }
         if taken == 0 {
-            return stop(now);
+            return no_room(now);
         }
         from += taken;
     }

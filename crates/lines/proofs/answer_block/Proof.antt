@@ -45,8 +45,8 @@ same-length-2 c = search needs
 returns : tie.Need-returns Inv-loop μ-loop
 returns c = tt
 
-stop-requires-2 : tie.Need-stop-requires-2 Inv-loop μ-loop
-stop-requires-2 c κs = tt
+no-room-requires : tie.Need-no-room-requires Inv-loop μ-loop
+no-room-requires c κs = tt
 
 same-length-3 : tie.Need-same-length-3 Inv-loop μ-loop
 same-length-3 c = search needs
@@ -108,7 +108,7 @@ answer-block-spec =
     same-length
     same-length-2
     returns
-    stop-requires-2
+    no-room-requires
     same-length-3
     same-length-4
     returns-2
