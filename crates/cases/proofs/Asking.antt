@@ -1,6 +1,6 @@
 -- The ask: the word, or what stands between the brackets.
 use mathlib.Core.Path.{_≡_, refl, sym, ap, _∙_}
-use mathlib.Core.Bool.{Bool, true, false, _&&_, _||_}
+use mathlib.Core.Bool.{Bool, true, false, _&&_}
 use mathlib.Core.List.{List, [], _∷_}
 use Prim.Native.Nat.{ℕ}
 use native.Mathlib.Omega.{arith}
@@ -13,7 +13,7 @@ use Rattle.definitions.specs.Lists.{none?, sameBytes}
 use Rattle.definitions.specs.Answers.{placementOf}
 use Rattle.cases.specs.declared.asks.Kind.{Kind}
 use Rattle.cases.specs.declared.asks.Kind.the-variants.{All, First, Next, Bad}
-use Rattle.cases.specs.CaseLines.{marked, front, rear, Ask, next, inside, isEnclosed, areStarts, startsIn, isAsk, askOf}
+use Rattle.cases.specs.CaseLines.{marked, front, rear, next, inside, isEnclosed, areStarts, startsIn, isAsk, askOf}
 use Rattle.cases.specs.Parsing.{Starts, isKind, askBy, NextColumn, AskColumn}
 
 none-by : (l : List ℕ) → eqb (length l) 0 ≡ none? l

@@ -9,9 +9,9 @@ use lib.ListN.{length, getD, drop, drop-of-length-le}
 use lib.Seq.{drop-cons}
 use lib.Dec.{leb, ltb}
 use borrow.Author.Tests.{le-leb, lt-leb, leb-true, le-ltb, lt-ltb}
-use Rattle.forms.specs.Bytes.{if_then_else_, between}
+use Rattle.forms.specs.Bytes.{between}
 use Rattle.forms.specs.Form.{has}
-use Rattle.forms.proofs.Bools.{by-cases, both-left, both-right, or-false}
+use Rattle.forms.proofs.Bools.{both-left, both-right, or-false}
 use Rattle.definitions.specs.Lists.{all?, none?}
 use Rattle.definitions.specs.Numbers.{decimalDigits, digitValue, valueOf}
 use Rattle.cases.specs.CaseLines.{isNumber}

@@ -1,14 +1,14 @@
 -- The entries of a map, one after the other.
-use mathlib.Core.Path.{_≡_, refl, sym, ap, _∙_}
-use mathlib.Core.Bool.{Bool, true, false, not, _&&_}
-use mathlib.Core.List.{List, [], _∷_}
+use mathlib.Core.Path.{_≡_, sym, ap, _∙_}
+use mathlib.Core.Bool.{Bool, true, false}
+use mathlib.Core.List.{List, _∷_}
 use Prim.Native.Nat.{ℕ, _+_, _-_, _≤_, _<_}
 use lib.ListN.{length, take, drop}
 use borrow.Rule.Slice.PartAt.{part-to-end}
 use Rattle.definitions.specs.declared.packet.FieldMap.{FieldMap}
 use Rattle.definitions.specs.Lists.{sameBytes}
 use Rattle.forms.specs.Bytes.{text}
-use Rattle.cases.specs.CaseLines.{front, parts, noFields, isEntry, entered, areEntries, mapFrom, isMap, mapOf}
+use Rattle.cases.specs.CaseLines.{front, parts, noFields, areEntries, mapFrom, isMap, mapOf}
 use Rattle.cases.specs.Parsing.{Entry, Entries, MapColumn}
 use Rattle.cases.proofs.Parting.{partsFrom, from-start, from-on, from-end}
 

@@ -1,7 +1,7 @@
 -- A LINE OF CASES: six columns parted by tabs, for rule writers and for comparison with other programs. docs/vectors/README.md has the form in words.
 -- What a line asks by the meaning of document 01, section "Meaning", is in crate case_answers.
 use Prim.Native.Nat.{ℕ, zero, suc, _%_}
-use mathlib.Core.Bool.{Bool, true, false, not, _&&_, _||_}
+use mathlib.Core.Bool.{Bool, true, not, _&&_, _||_}
 use mathlib.Core.List.{List, [], _∷_, map}
 use lib.ListN.{length, take, drop}
 use lib.Dec.{eqb, ltb, leb}

@@ -1,0 +1,3 @@
+-- How the parts of an answer go together.
+pub mod Listing
+pub mod Columns

@@ -1,0 +1,4 @@
+-- What the contracts of `case_answers` cite.
+pub mod CaseAnswers
+pub mod Following
+pub mod Columns

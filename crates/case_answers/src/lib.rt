@@ -1,0 +1,228 @@
+// The answer to a line of cases, put into a lent buffer.
+mod answers;
+mod lists;
+mod placements;
+
+ghost use mathlib.Core.Path.{_≡_};
+ghost use mathlib.Core.Bool.{true};
+ghost use Prim.Native.Nat.{_≤_};
+ghost use lib.ListN.{length};
+ghost use Rattle.definitions.specs.Cases.{pairs};
+ghost use Rattle.definitions.specs.Limits.{limits01};
+ghost use Rattle.definitions.specs.Reading.{read as readText};
+ghost use Rattle.output.specs.Puts.{Puts};
+ghost use Rattle.cases.specs.CaseLines.{isHex};
+ghost use Rattle.cases.specs.Parsing.{isKind, askBy};
+ghost use Rattle.case_answers.specs.CaseAnswers.{askText, readingText, caseAnswer};
+ghost use Rattle.case_answers.specs.Columns.{columnsText};
+use crate::answers::put_answer;
+use crate::lists::put_list;
+use cases::asks::Kind;
+use cases::asks::ask_column;
+use cases::directions::direction_of;
+use cases::directions::is_direction;
+use cases::hex::is_hex_column;
+use cases::hex::put_pairs;
+use cases::maps::map_column;
+use cases::parts::front;
+use cases::parts::marked;
+use cases::parts::rear;
+use codes::number_of;
+use definitions::answers::ReadOutcome;
+use definitions::answers::Reading;
+use definitions::packet::Direction;
+use definitions::packet::FieldMap;
+use definitions::packet::Placement;
+use definitions::table::Table;
+use output::put;
+use output::put_decimal;
+use output::put_word;
+
+// Bytes of a line before its LF.
+pub const LINE_BYTES: usize = 16384;
+
+// Bytes that the pairs of a column write at most.
+pub const PAIRS: usize = 8192;
+
+fn put_ask<'a>(
+    out: &mut [u8],
+    at: usize,
+    t: Table,
+    p: &'a [u8],
+    decoded: &'a [u8],
+    dir: Direction,
+    m: FieldMap,
+    kind: Kind,
+    held: Placement,
+) -> usize
+    ensures { λ r. ⌜ Puts (now (out .entry)) at (askText (now (p .entry)) (now (decoded .entry)) dir m t (askBy kind held)) (now (out .exit)) r ⌝ }
+{
+    match kind {
+        Kind::All => put_list(out, at, t, p, decoded, dir, m),
+        Kind::First => put_answer(out, at, matcher::first(t, p, decoded, dir, m)),
+        Kind::Next => put_answer(out, at, matcher::next(t, p, decoded, dir, m, held)),
+        Kind::Bad => put_answer(out, at, matcher::first(t, p, decoded, dir, m)),
+    }
+}
+
+fn put_reading<'a>(
+    out: &mut [u8],
+    at: usize,
+    reading: Reading,
+    p: &'a [u8],
+    decoded: &'a [u8],
+    dir: Direction,
+    m: FieldMap,
+    kind: Kind,
+    held: Placement,
+) -> usize
+    ensures { λ r. ⌜ Puts (now (out .entry)) at (readingText (now (p .entry)) (now (decoded .entry)) dir m reading (askBy kind held)) (now (out .exit)) r ⌝ }
+{
+    let outcome = reading.outcome;
+    let table = reading.table;
+    match outcome {
+        ReadOutcome::Accepted => put_ask(out, at, table, p, decoded, dir, m, kind, held),
+        ReadOutcome::Refused(r, place) => {
+            let a1 = put_word(out, at, b"text ");
+            let a2 = put_decimal(out, a1, number_of(r));
+            let a3 = put(out, a2, 32);
+            put_decimal(out, a3, place as u64)
+        }
+    }
+}
+
+// A case whose columns are of their form; the pairs of packet and decoded buffer are written into room that the caller lends.
+fn put_formed(
+    out: &mut [u8],
+    at: usize,
+    dir: Direction,
+    packet: &[u8],
+    m: FieldMap,
+    decoded: &[u8],
+    kind: Kind,
+    held: Placement,
+    text: &[u8],
+    room: &mut [u8],
+    more: &mut [u8],
+) -> usize
+    requires { ⌜ (isHex (now packet) ≡ true) × (isHex (now decoded) ≡ true) × (length (now packet) ≤ 16384) × (length (now decoded) ≤ 16384) × (8192 ≤ length (now room)) × (8192 ≤ length (now more)) ⌝ }
+    ensures { λ r. ⌜ Puts (now (out .entry)) at (readingText (pairs (now (packet .entry))) (pairs (now (decoded .entry))) dir m (readText limits01 (now (text .entry))) (askBy kind held)) (now (out .exit)) r ⌝ }
+{
+    let n = put_pairs(room, 0, packet);
+    let d = put_pairs(more, 0, decoded);
+    let reading = reader::read(text);
+    put_reading(
+        out,
+        at,
+        reading,
+        &room[0..n],
+        &more[0..d],
+        dir,
+        m,
+        kind,
+        held,
+    )
+}
+
+fn is_ask(kind: Kind) -> bool
+    ensures { λ r. ⌜ r ≡ isKind kind ⌝ }
+{
+    match kind {
+        Kind::All => true,
+        Kind::First => true,
+        Kind::Next => true,
+        Kind::Bad => false,
+    }
+}
+
+// The six columns of a line; `bad` where one is of another form.
+fn put_columns(
+    out: &mut [u8],
+    at: usize,
+    origin: &[u8],
+    packet: &[u8],
+    fields: &[u8],
+    decoded: &[u8],
+    ask: &[u8],
+    text: &[u8],
+    room: &mut [u8],
+    more: &mut [u8],
+) -> usize
+    requires { ⌜ (length (now packet) ≤ 16384) × (length (now decoded) ≤ 16384) × (8192 ≤ length (now room)) × (8192 ≤ length (now more)) ⌝ }
+    ensures { λ r. ⌜ Puts (now (out .entry)) at (columnsText (now (origin .entry)) (now (packet .entry)) (now (fields .entry)) (now (decoded .entry)) (now (ask .entry)) (now (text .entry))) (now (out .exit)) r ⌝ }
+{
+    if !is_direction(origin) {
+        return put_word(out, at, b"bad");
+    }
+    if !is_hex_column(packet) {
+        return put_word(out, at, b"bad");
+    }
+    let mapped = map_column(fields);
+    if !mapped.fits {
+        return put_word(out, at, b"bad");
+    }
+    if !is_hex_column(decoded) {
+        return put_word(out, at, b"bad");
+    }
+    let asked = ask_column(ask);
+    let kind = asked.kind;
+    if !is_ask(kind) {
+        return put_word(out, at, b"bad");
+    }
+    let map = mapped.map;
+    let held = asked.placement;
+    put_formed(
+        out,
+        at,
+        direction_of(origin),
+        packet,
+        map,
+        decoded,
+        kind,
+        held,
+        text,
+        room,
+        more,
+    )
+}
+
+// THE ANSWER to a line. The caller lends room for the bytes of packet and decoded buffer.
+pub fn answer_case(
+    out: &mut [u8],
+    at: usize,
+    line: &[u8],
+    room: &mut [u8],
+    more: &mut [u8],
+) -> usize
+    requires { ⌜ (8192 ≤ length (now room)) × (8192 ≤ length (now more)) ⌝ }
+    ensures { λ r. ⌜ Puts (now (out .entry)) at (caseAnswer (now (line .entry))) (now (out .exit)) r ⌝ }
+{
+    if LINE_BYTES < line.len() {
+        return put_word(out, at, b"bad");
+    }
+    let r1 = rear(line, 9);
+    let r2 = rear(r1, 9);
+    let r3 = rear(r2, 9);
+    let r4 = rear(r3, 9);
+    let r5 = rear(r4, 9);
+    if !marked(r4, 9) {
+        return put_word(out, at, b"bad");
+    }
+    let origin = front(line, 9);
+    let packet = front(r1, 9);
+    let fields = front(r2, 9);
+    let decoded = front(r3, 9);
+    let ask = front(r4, 9);
+    put_columns(
+        out,
+        at,
+        origin,
+        packet,
+        fields,
+        decoded,
+        ask,
+        r5,
+        room,
+        more,
+    )
+}
