@@ -13,7 +13,7 @@ use Rattle.forms.specs.Bytes.{if_then_else_}
 use Rattle.forms.proofs.Bools.{by-cases}
 use Rattle.line_answers.specs.declared.Begun.{Begun}
 use Rattle.line_answers.specs.declared.Going.{Going}
-use Rattle.line_answers.specs.Stream.{Standing, ended, longer, byteRead, behind, Holds, Roomy, Feeds}
+use Rattle.line_answers.specs.Stream.{Standing, ended, longer, byteRead, behind, Holds, Roomy, answerFits, Feeds}
 use Rattle.line_answers.specs.Steps.{begunOf, fedOf, Stands, Takes}
 
 -- one part behind the other
@@ -47,5 +47,5 @@ module _ (st : Standing) (input : List ℕ) (i : ℕ) {line out line' out' : Lis
     pub feed-on : r .full ≡ false → Stands (st .written) (behind st (take (i + 1) input)) line' out' r
     feed-on f = subst (λ (x : Standing). Stands (st .written) x line' out' r) (sym (behind-on st input i h)) (t (st .written) (behind st (take i input)) roomy fits s .1 f)
 
-    pub feed-full : r .full ≡ true → Stands (st .written) (behind st (take i input)) line' out' r
+    pub feed-full : r .full ≡ true → Stands (st .written) (behind st (take i input)) line' out' r × (answerFits (behind st (take i input)) (r .put) out' ≡ false)
     feed-full f = t (st .written) (behind st (take i input)) roomy fits s .0 f

@@ -9,7 +9,7 @@ use native.Mathlib.Numerals.{add-one}
 use lib.Dec.{ltb}
 use lib.ListN.{length, take, drop, set, length-take, length-set, length-append}
 use lib.Seq.{take-all, take-nil, take-length, take-append-le, take-append-seam, take-set-le, take-suc-set, take-take, length-take-le}
-use borrow.Author.Tests.{lt-ltb, eq-eqb, ne-eqb}
+use borrow.Author.Tests.{lt-ltb, ltb-true, eq-eqb, ne-eqb}
 use Rattle.forms.specs.Bytes.{if_then_else_}
 use Rattle.forms.proofs.Bools.{by-cases}
 use Rattle.definitions.specs.Limits.{limits01}
@@ -19,13 +19,23 @@ use Rattle.output.specs.Puts.{countedMost, counted, puts, Puts}
 use Rattle.output.specs.Clipped.{atMost}
 use Rattle.output.proofs.Putting.{same-length}
 use Rattle.output.proofs.Clipping.{at-most-le, taken-most}
-use Rattle.output.proofs.Whole.{placed-front, placed-whole}
+use Rattle.output.proofs.Whole.{most-of, puts-count, placed-front, placed-whole}
 use Rattle.line_answers.specs.declared.Going.{Going}
-use Rattle.line_answers.specs.Stream.{answerTo, lastLine, Standing, ended, longer, byteRead, behind, Holds, Roomy}
+use Rattle.line_answers.specs.Stream.{answerTo, lastLine, Standing, ended, longer, byteRead, behind, Holds, Roomy, hasRoom, answerFits}
 use Rattle.line_answers.specs.Steps.{begunOf, Stands, Goes, Steps, Ends, Keeps, Takes}
 use Rattle.line_answers.proofs.Answering.{kept-line}
 
 -- ---- the end of a line
+
+-- what has no room where it was counted has none by its length
+no-room : (out : List ℕ) (at len : ℕ) {l after : List ℕ} {n : ℕ} → Puts out at l after n → hasRoom n len ≡ false → hasRoom (at + length l) len ≡ false
+no-room out at len {l = l} {n = n} p h =
+    by-cases (ltb (at + length l) countedMost)
+    (λ t.
+    let few : at + length l < countedMost = ltb-true (at + length l) countedMost t in
+    let is : n ≡ at + length l = ap (λ (q : List ℕ × ℕ). q .1) (p .is) ∙ puts-count out at l (omega (arith, few)) ∙ most-of (at + length l) countedMost (omega (arith, few)) in
+    subst (λ (k : ℕ). hasRoom k len ≡ false) is h)
+    (λ f. rw f)
 
 module _ (line out out' : List ℕ) (g : Going) (len place : ℕ) where
   -- what the code answers to is what the program answers to
@@ -58,9 +68,12 @@ module _ (line out out' : List ℕ) (g : Going) (len place : ℕ) where
             ∙ ap (λ (l : List ℕ). l ++ answerTo (g .number) (take (len - 0) (drop 0 line))) (s .written)
             ∙ ap (λ (l : List ℕ). st .written ++ l) (same-answer st roomy (s .holds) e)
 
-    pub ends-full : Ends line out out' g (record { number = g .number; len = g .len; put = g .put; full = true })
-    ends-full w st roomy fits s = (λ t. record { holds = s .holds; put = fit; written = ap (λ (l : List ℕ). w ++ l) (placed-front out (g .put) p) ∙ s .written }, λ f. absurd (true≢false f))
+    pub ends-full : hasRoom place (length out') ≡ false → Ends line out out' g (record { number = g .number; len = g .len; put = g .put; full = true })
+    ends-full full w st roomy fits s = (λ t. (record { holds = s .holds; put = fit; written = ap (λ (l : List ℕ). w ++ l) (placed-front out (g .put) p) ∙ s .written }, crowded), λ f. absurd (true≢false f))
       where
+        crowded : answerFits st (g .put) out' ≡ false
+        crowded = subst (λ (l : List ℕ). hasRoom (g .put + length l) (length out') ≡ false) (same-answer st roomy (s .holds) e) (no-room out (g .put) (length out') p full)
+
         fit : g .put ≤ length out'
         fit = subst (λ (k : ℕ). g .put ≤ k) (sym (same-length p)) (s .put)
 

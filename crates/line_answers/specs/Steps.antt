@@ -7,7 +7,7 @@ use lib.ListN.{length, take}
 use Rattle.line_answers.specs.declared.Begun.{Begun}
 use Rattle.line_answers.specs.declared.Fed.{Fed}
 use Rattle.line_answers.specs.declared.Going.{Going}
-use Rattle.line_answers.specs.Stream.{Standing, ended, longer, byteRead, Holds, Roomy}
+use Rattle.line_answers.specs.Stream.{Standing, ended, longer, byteRead, Holds, Roomy, answerFits}
 
 abbrev pub begunOf : Going → Begun
 begunOf g = record { number = g .number; len = g .len }
@@ -21,9 +21,11 @@ pub record Stands (w : List ℕ) (st : Standing) (line out : List ℕ) (g : Goin
   pub put : g .put ≤ length out
   pub written : w ++ take (g .put) out ≡ st .written
 
--- where it was full, it stands where it stood
+-- where it was full, it stands where it stood, and the answer to the line begun has no room
 abbrev pub Goes : List ℕ → Standing → Standing → List ℕ → List ℕ → Going → Type 0
-Goes w st st' line out r = (r .full ≡ true → Stands w st line out r) × (r .full ≡ false → Stands w st' line out r)
+Goes w st st' line out r =
+    (r .full ≡ true → Stands w st line out r × (answerFits st (r .put) out ≡ false))
+    × (r .full ≡ false → Stands w st' line out r)
 
 abbrev pub Steps : (Standing → Standing) → List ℕ → List ℕ → List ℕ → List ℕ → Going → Going → Type 0
 Steps next line out line' out' g r =

@@ -1,13 +1,15 @@
 -- The line program's output as its input comes, part by part. Section "The line program".
 use mathlib.Core.Path.{_≡_}
 use Prim.Native.Nat.{ℕ, suc, _+_, _≤_, _<_, _^_}
+use mathlib.Core.Bool.{Bool, false, _&&_}
 use mathlib.Core.List.{List, [], _∷_, _++_}
-use lib.Dec.{eqb}
+use lib.Dec.{eqb, ltb, leb}
 use lib.ListN.{length, take}
 use Rattle.forms.specs.Bytes.{if_then_else_, text}
 use Rattle.definitions.specs.Limits.{limits01}
 use Rattle.definitions.specs.House.{decimal}
 use Rattle.definitions.specs.Lines.{lineOf}
+use Rattle.output.specs.Puts.{countedMost}
 use Rattle.line_answers.specs.declared.Begun.{Begun}
 use Rattle.line_answers.specs.declared.Fed.{Fed}
 
@@ -58,11 +60,20 @@ pub record Holds (st : Standing) (line : List ℕ) (b : Begun) : Type 0 where
 abbrev pub Roomy : List ℕ → Type 0
 Roomy line = limits01 .text < length line
 
+-- so many bytes are counted, and a buffer of len bytes has room for them
+abbrev pub hasRoom : ℕ → ℕ → Bool
+hasRoom n len = ltb n countedMost && leb n len
+
+-- the answer to the line begun has room behind the first bytes of a buffer
+abbrev pub answerFits : Standing → ℕ → List ℕ → Bool
+answerFits st put out = hasRoom (put + length (answerTo (st .number) (st .begun))) (length out)
+
 -- FEEDING: whatever the program stood at, as long as the numbers of lines fit 64 bits: what was taken of the input is answered in the output's first bytes,
--- and what the code holds is what the program then stands at
+-- and what the code holds is what the program then stands at. All is taken, unless the answer to the line begun has no room
 pub record Feeds (input line out line' out' : List ℕ) (b : Begun) (r : Fed) : Type 0 where
   pub taken : r .taken ≤ length input
   pub right : (st : Standing) → Roomy line → Holds st line b → st .number + length input < 2 ^ 64
       → Holds (behind st (take (r .taken) input)) line' (r .begun)
       × (r .put ≤ length out')
       × (st .written ++ take (r .put) out' ≡ behind st (take (r .taken) input) .written)
+      × (r .taken < length input → answerFits (behind st (take (r .taken) input)) (r .put) out' ≡ false)

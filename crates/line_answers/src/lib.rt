@@ -1,17 +1,16 @@
 // The line program's work on slices: texts one a line in, answers out, in parts of any length.
 ghost use mathlib.Core.Path.{_≡_};
 ghost use mathlib.Core.List.{_++_};
-ghost use mathlib.Core.Bool.{_&&_};
 ghost use Prim.Native.Nat.{_+_};
-ghost use lib.Dec.{leb, ltb};
+ghost use lib.Dec.{ltb};
 ghost use lib.ListN.{take};
 ghost use Rattle.forms.specs.Bytes.{if_then_else_, text};
 ghost use Rattle.definitions.specs.Limits.{limits01};
 ghost use Rattle.definitions.specs.Lines.{refusedLine, houseLine, lineOf};
 ghost use Rattle.definitions.specs.Writing.{writingDue};
-ghost use Rattle.line_answers.specs.Stream.{answerTo, lastLine, Feeds};
+ghost use Rattle.line_answers.specs.Stream.{answerTo, lastLine, hasRoom, Feeds};
 ghost use Rattle.line_answers.specs.Steps.{Ends, Keeps, Takes, fedOf};
-ghost use Rattle.output.specs.Puts.{countedMost, Puts};
+ghost use Rattle.output.specs.Puts.{Puts};
 use codes::number_of;
 use definitions::answers::ReadOutcome;
 use definitions::answers::Refusal;
@@ -103,7 +102,7 @@ struct Going {
 
 // Whether all up to the place was counted and kept.
 fn has_room(place: usize, len: usize) -> bool
-    ensures { λ r. ⌜ r ≡ (ltb place countedMost && leb place len) ⌝ }
+    ensures { λ r. ⌜ r ≡ hasRoom place len ⌝ }
 {
     if place < COUNTED { place <= len } else { false }
 }

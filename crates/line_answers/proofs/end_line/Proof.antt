@@ -42,7 +42,7 @@ same-length-2 : tie.Need-same-length-2
 same-length-2 c = search needs
 
 returns-2 : tie.Need-returns-2
-returns-2 c = ends-full (c .before .before .before .before .before .before .before .before .before .before .args .line .now) (c .before .before .before .before .before .before .before .before .before .before .args .out .now) (c .before .before .before .before .put-line .last .0) (c .before .before .before .before .before .before .before .before .before .before .args .g) (c .before .before .before .before .before .before .before .at-most .result) (c .before .before .before .before .put-line .result) (c .before .before .before .before .before .before .before .at-most .ensures) (c .before .before .before .before .put-line .ensures)
+returns-2 c = ends-full (c .before .before .before .before .before .before .before .before .before .before .args .line .now) (c .before .before .before .before .before .before .before .before .before .before .args .out .now) (c .before .before .before .before .put-line .last .0) (c .before .before .before .before .before .before .before .before .before .before .args .g) (c .before .before .before .before .before .before .before .at-most .result) (c .before .before .before .before .put-line .result) (c .before .before .before .before .before .before .before .at-most .ensures) (c .before .before .before .before .put-line .ensures) (sym (c .before .has-room .ensures) ∙ c .if1 .left)
 
 pub end-line-spec : {M : Type 1} → statement M
 end-line-spec =

@@ -46,7 +46,7 @@ returns c =
       taken = c .before .before .before .before .before .before .before .before .before .before .before .loop .inv .0;
       right = λ st roomy h few.
           let s = feed-full st (c .before .before .before .before .before .before .before .before .before .before .before .before .before .before .before .args .input .now) (c .before .before .before .before .before .before .before .before .before .before .before .loop .i) (c .before .before .before .before .before .before .take-byte .ensures) (c .before .before .before .before .before .before .before .before .before .before .loop-test .taken) (subst (λ n. limits01 .text < n) (sym (c .before .before .before .before .before .before .before .before .before .before .before .loop .inv .1)) roomy) few (c .before .before .before .before .before .before .before .before .before .before .before .loop .inv .3 st roomy h few) (c .before .if1 .taken) in
-          (s .holds, s .put, s .written);
+          (s .0 .holds, s .0 .put, s .0 .written, λ _. s .1);
     })
 
 add-i : tie.Need-add-i Inv-loop μ-loop
@@ -77,7 +77,7 @@ returns-2 c =
       taken = c .before .before .loop .inv .0;
       right = λ st roomy h few.
           let s = c .before .before .loop .inv .3 st roomy h few in
-          (s .holds, s .put, s .written);
+          (s .holds, s .put, s .written, λ less. absurd (let z : ⊥ = omega (arith, less, c .before .loop-test .left) in z));
     })
 
 pub feed-spec : {M : Type 1} → statement M
