@@ -1,4 +1,4 @@
--- The definitions of document 01, a file for each section or part of one, in its order. Nothing here assumes anything.
+-- The definitions of document 01, a file for each section or part of one; each stands on files before it. Nothing here assumes anything.
 pub mod Lists
 pub mod Limits
 pub mod Numbers

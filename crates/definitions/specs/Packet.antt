@@ -109,13 +109,16 @@ transportShort d =
     if isTcp (protocolOf d) then tcpShort d
     else (isUdp (protocolOf d) || isIcmp (protocolOf d)) && ltb (length (behindHeader d)) 8
 
+-- 33 and 34 are the datagram's own
+abbrev pub datagramDue : List ℕ → Due
+datagramDue d = refuseIf (isFragment d) refusal.Fragment (refuseIf (transportShort d) refusal.Transport Fine)
+
 unfoldable pub packetDue : List ℕ → List ℕ → Due
 packetDue p decoded =
     refuseIf (ltb packetMost (length p) || ltb decodedMost (length decoded)) refusal.LentLength
     (refuseIf (ltb (length p) 20 || not (eqb (versionOf p) 4)) refusal.NotIpv4
     (refuseIf (ltb (headerWords p) 5 || (ltb (totalLength p) (headerLength p) || ltb (length p) (totalLength p))) refusal.Lengths
-    (refuseIf (isFragment (datagramOf p)) refusal.Fragment
-    (refuseIf (transportShort (datagramOf p)) refusal.Transport Fine))))
+    (datagramDue (datagramOf p))))
 
 abbrev pub packetBy : Due → List ℕ → PacketAnswer
 packetBy Fine d = Seen (factsOf d)

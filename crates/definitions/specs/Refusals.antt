@@ -1,4 +1,4 @@
--- Document 01's number and values of each answer. Section "Numbers of refusal". No answer has an outcome that the papers leave free.
+-- Document 01's number and values of each answer. Section "Numbers of refusal". No case of these answers is one that the papers leave free.
 use Prim.Native.Nat.{ℕ}
 use mathlib.Core.Bool.{Bool}
 use Rattle.forms.specs.Bytes.{if_then_else_}
@@ -8,6 +8,8 @@ use Rattle.definitions.specs.declared.answers.Due.{Due}
 use Rattle.definitions.specs.declared.answers.Due.the-variants.{Fine, No}
 use Rattle.definitions.specs.declared.answers.ReadOutcome.{ReadOutcome}
 use Rattle.definitions.specs.declared.answers.ReadOutcome.the-variants as outcome
+use Rattle.definitions.specs.declared.answers.PacketAnswer.{PacketAnswer}
+use Rattle.definitions.specs.declared.answers.PacketAnswer.the-variants as packet
 use Rattle.definitions.specs.declared.answers.Writing.{Writing}
 use Rattle.definitions.specs.declared.answers.Writing.the-variants as writing
 use Rattle.definitions.specs.declared.answers.Verdict.{Verdict}
@@ -41,6 +43,11 @@ numberOf refusal.EarlierCount = 36
 
 -- ---- A success has number and place 0
 
+-- what is due: its number, of a packet's fields too
+abbrev pub dueNumber : Due → ℕ
+dueNumber Fine = 0
+dueNumber (No r) = numberOf r
+
 -- reading: number and place
 abbrev pub readNumber : ReadOutcome → ℕ
 readNumber outcome.Accepted = 0
@@ -58,6 +65,11 @@ writeNumber (writing.Refused r) = numberOf r
 abbrev pub writeLength : Writing → ℕ
 writeLength (writing.Written n) = n
 writeLength (writing.Refused r) = 0
+
+-- a packet's facts: number
+abbrev pub packetNumber : PacketAnswer → ℕ
+packetNumber (packet.Seen f) = 0
+packetNumber (packet.Refused r) = numberOf r
 
 -- verdicts: number, and 1 for met
 abbrev pub verdictNumber : Verdict → ℕ

@@ -22,3 +22,15 @@ pub const ADDRESSES: usize = 8;
 pub const PACKET_BYTES: usize = 2048;
 
 pub const DECODED_BYTES: usize = 4096;
+
+// Numbers of one byte and of two bytes, a distance either way, and the bits of an address.
+pub const BYTE_MOST: u64 = 255;
+
+pub const WORD_MOST: u64 = 65535;
+
+pub const OFFSET_MOST: i32 = 65535;
+
+pub const PREFIX_MOST: u8 = 32;
+
+// The options of document 01's table.
+pub const OPTIONS: usize = 22;

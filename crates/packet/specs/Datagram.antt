@@ -6,17 +6,9 @@ use Rattle.forms.specs.Bytes.{if_then_else_}
 use Rattle.definitions.specs.declared.packet.Facts.{Facts}
 use Rattle.definitions.specs.declared.packet.FieldSpan.{FieldSpan}
 use Rattle.definitions.specs.declared.packet.FieldSpan.the-variants.{Absent, At}
-use Rattle.definitions.specs.declared.answers.Refusal.the-variants as refusal
-use Rattle.definitions.specs.declared.answers.Due.{Due}
-use Rattle.definitions.specs.declared.answers.Due.the-variants.{Fine}
 use Rattle.definitions.specs.declared.answers.PacketAnswer.{PacketAnswer}
-use Rattle.definitions.specs.Refusals.{refuseIf}
-use Rattle.definitions.specs.Packet.{isFragment, transportShort, packetBy}
+use Rattle.definitions.specs.Packet.{datagramDue, packetBy}
 use Rattle.definitions.specs.Fields.{shown, cut}
-
--- 33 and 34, the last two of `packetDue`, are the datagram's own
-abbrev pub datagramDue : List ℕ → Due
-datagramDue d = refuseIf (isFragment d) refusal.Fragment (refuseIf (transportShort d) refusal.Transport Fine)
 
 unfoldable pub datagramAnswer : List ℕ → PacketAnswer
 datagramAnswer d = packetBy (datagramDue d) d
