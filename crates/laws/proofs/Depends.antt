@@ -1,12 +1,14 @@
 -- Besides the table, a verdict depends at most on the datagram, the present fields, direction, earlier placement, lent lengths and the map;
--- refusals 31 and 32 also on the packet's first four bytes (`verdict-depends`, `first-depends`, `next-depends`). An absent field has no numbers in the map,
--- and its part is empty whatever the buffers hold. Section "Packet and fields".
+-- refusals 31 and 32 also on the packet's first four bytes (`verdict-depends`, `first-depends`, `next-depends`). A packet shorter than its total
+-- length has no datagram, and is refused by lengths and the first four bytes; an absent field's part is empty whatever the buffers hold.
+-- Section "Packet and fields".
 use mathlib.Core.Path.{_≡_, refl, sym, ap, _∙_, fun-ext}
-use mathlib.Core.Bool.{Bool, true, false, true≢false}
+use mathlib.Core.Bool.{Bool, true, false, not, _||_, true≢false}
 use mathlib.Core.List.{List, [], _∷_}
-use Prim.Native.Nat.{ℕ, _+_}
+use Prim.Native.Nat.{ℕ, _+_, _*_, _/_, _%_, _≤_}
 use lib.ListN.{length, take, getD}
-use lib.Dec.{ltb}
+use lib.Dec.{eqb, ltb}
+use borrow.Author.Tests.{ltb-false}
 use Rattle.definitions.specs.declared.packet.Direction.{Direction}
 use Rattle.definitions.specs.declared.table.Context.{Context}
 use Rattle.definitions.specs.declared.table.Context.the-variants as context
@@ -15,19 +17,28 @@ use Rattle.definitions.specs.declared.packet.FieldSpan.{FieldSpan}
 use Rattle.definitions.specs.declared.packet.FieldSpan.the-variants.{Absent, At}
 use Rattle.definitions.specs.declared.packet.FieldMap.{FieldMap}
 use Rattle.definitions.specs.declared.packet.Placement.{Placement}
-use Rattle.definitions.specs.Lists.{any?}
-use Rattle.definitions.specs.Packet.{wide, datagramOf, factsOf, payloadOf, packetDue}
+use Rattle.definitions.specs.declared.answers.Refusal.the-variants as refusal
+use Rattle.definitions.specs.declared.answers.Due.{Due}
+use Rattle.definitions.specs.declared.answers.Due.the-variants.{Fine, No}
+use Rattle.definitions.specs.declared.answers.Answer.{Answer}
+use Rattle.definitions.specs.Limits.{packetMost, decodedMost}
+use Rattle.definitions.specs.Lists.{any?, keep}
+use Rattle.definitions.specs.Refusals.{refuseIf, orElse}
+use Rattle.definitions.specs.WellFormed.{wellFormed}
+use Rattle.definitions.specs.Packet.{wide, totalLength, datagramOf, factsOf, payloadOf, datagramDue, packetDue}
 use Rattle.definitions.specs.Fields.{View, viewOf, bufferOf, spanOf, isAt, passes, shown, cut, fieldOf, present, fieldsDue}
-use Rattle.definitions.specs.Placements.{listed}
-use Rattle.definitions.specs.Answers.{verdictDue, placementsOf, verdictAnswer, firstAnswer, nextAnswer}
+use Rattle.definitions.specs.Placements.{listed, behind}
+use Rattle.definitions.specs.Answers.{startsOf, headOf, unless, verdictBy, verdictDue, placementsOf, verdictAnswer, firstAnswer, earlierDue, nextAnswer}
+use Rattle.laws.proofs.Dues.{refuse-same, refuse-fine, else-same, else-fine, neither}
 
 -- two packets and two decoded buffers that a verdict cannot tell apart
 pub record Alike (p p′ decoded decoded′ : List ℕ) (m : FieldMap) : Type 0 where
   pub lent : length p ≡ length p′
   pub lent-decoded : length decoded ≡ length decoded′
   pub front : take 4 p ≡ take 4 p′
-  pub datagrams : datagramOf p ≡ datagramOf p′
-  pub fields : (c : Context) → present m c ≡ true → fieldOf (payloadOf (datagramOf p)) decoded m c ≡ fieldOf (payloadOf (datagramOf p)) decoded′ m c
+  pub datagrams : totalLength p ≤ length p → datagramOf p ≡ datagramOf p′
+  pub fields : totalLength p ≤ length p → (c : Context) → present m c ≡ true
+      → fieldOf (payloadOf (datagramOf p)) decoded m c ≡ fieldOf (payloadOf (datagramOf p)) decoded′ m c
 
 -- the first four bytes
 byte0 : (p : List ℕ) → getD p 0 0 ≡ getD (take 4 p) 0 0
@@ -76,7 +87,76 @@ absent-same payload decoded decoded′ m context.Banner e = refl
 absent-same payload decoded decoded′ m context.Host e = cut-same (m .host) decoded decoded′ e
 absent-same payload decoded decoded′ m context.File e = refl
 
+-- 30 to 32 by the lent lengths, the first byte and the total length, then what is due of the datagram
+abbrev tooLong : ℕ → ℕ → Bool
+tooLong n k = ltb packetMost n || ltb decodedMost k
+
+abbrev otherVersion : ℕ → ℕ → Bool
+otherVersion n b = ltb n 20 || not (eqb (b / 16) 4)
+
+abbrev wrongLengths : ℕ → ℕ → ℕ → Bool
+wrongLengths n b total = ltb (b % 16) 5 || (ltb total (b % 16 * 4) || ltb n total)
+
+unfoldable dueBy : ℕ → ℕ → ℕ → ℕ → Due → Due
+dueBy n k b total d =
+    refuseIf (tooLong n k) refusal.LentLength (refuseIf (otherVersion n b) refusal.NotIpv4 (refuseIf (wrongLengths n b total) refusal.Lengths d))
+
+lengths-within : (n b total : ℕ) → wrongLengths n b total ≡ false → total ≤ n
+lengths-within n b total e = ltb-false n total (neither (ltb total (b % 16 * 4)) (ltb n total) (neither (ltb (b % 16) 5) (ltb total (b % 16 * 4) || ltb n total) e .1) .1)
+
+-- the datagram is looked at only where it lies in the lent bytes
+due-by-same : (n k b total : ℕ) (d d′ : Due) → (total ≤ n → d ≡ d′) → dueBy n k b total d ≡ dueBy n k b total d′
+unfolding dueBy
+due-by-same n k b total d d′ f =
+    let x : refuseIf (wrongLengths n b total) refusal.Lengths d ≡ refuseIf (wrongLengths n b total) refusal.Lengths d′ =
+        refuse-same (wrongLengths n b total) refusal.Lengths d d′ (λ e. f (lengths-within n b total e)) in
+    ap (λ (u : Due). refuseIf (tooLong n k) refusal.LentLength (refuseIf (otherVersion n b) refusal.NotIpv4 u)) x
+
+due-by-within : (n k b total : ℕ) (d : Due) → dueBy n k b total d ≡ Fine → total ≤ n
+unfolding dueBy
+due-by-within n k b total d e =
+    let lengths : Due = refuseIf (wrongLengths n b total) refusal.Lengths d in
+    let x = refuse-fine (tooLong n k) refusal.LentLength (refuseIf (otherVersion n b) refusal.NotIpv4 lengths) e .1 in
+    let y = refuse-fine (otherVersion n b) refusal.NotIpv4 lengths x .1 in
+    lengths-within n b total (refuse-fine (wrongLengths n b total) refusal.Lengths d y .0)
+
+due-by : (p decoded : List ℕ) → packetDue p decoded ≡ dueBy (length p) (length decoded) (wide 1 p 0) (totalLength p) (datagramDue (datagramOf p))
+unfolding packetDue dueBy
+due-by p decoded = refl
+
+verdict-by-same : (d : Due) (l l′ : List (List ℕ)) → (d ≡ Fine → l ≡ l′) → verdictBy d l ≡ verdictBy d l′
+verdict-by-same Fine l l′ f = ap (verdictBy Fine) (f refl)
+verdict-by-same (No r) l l′ f = refl
+
+unless-same : (d : Due) (a a′ : Answer) → (d ≡ Fine → a ≡ a′) → unless d a ≡ unless d a′
+unless-same Fine a a′ f = f refl
+unless-same (No r) a a′ f = refl
+
 module _ (p p′ decoded decoded′ : List ℕ) (m : FieldMap) (h : Alike p p′ decoded decoded′ m) where
+  first-same : wide 1 p 0 ≡ wide 1 p′ 0
+  unfolding wide
+  first-same = ap (λ (b : ℕ). 0 * 256 + b) (byte0 p ∙ ap (λ (l : List ℕ). getD l 0 0) (h .front) ∙ sym (byte0 p′))
+
+  total-same : totalLength p ≡ totalLength p′
+  unfolding wide
+  total-same =
+      let b : getD p 2 0 ≡ getD p′ 2 0 = byte2 p ∙ ap (λ (l : List ℕ). getD l 2 0) (h .front) ∙ sym (byte2 p′) in
+      let c : getD p 3 0 ≡ getD p′ 3 0 = byte3 p ∙ ap (λ (l : List ℕ). getD l 3 0) (h .front) ∙ sym (byte3 p′) in
+      rw (b, c)
+
+  packet-due-same : packetDue p decoded ≡ packetDue p′ decoded′
+  packet-due-same =
+      let d′ : Due = datagramDue (datagramOf p′) in
+      let r : dueBy (length p) (length decoded) (wide 1 p 0) (totalLength p) d′ ≡ dueBy (length p′) (length decoded′) (wide 1 p′ 0) (totalLength p′) d′ =
+          rw (h .lent, h .lent-decoded, first-same, total-same) in
+      due-by p decoded
+      ∙ due-by-same (length p) (length decoded) (wide 1 p 0) (totalLength p) (datagramDue (datagramOf p)) d′ (λ w. ap datagramDue (h .datagrams w))
+      ∙ r
+      ∙ sym (due-by p′ decoded′)
+
+  packet-within : packetDue p decoded ≡ Fine → totalLength p ≤ length p
+  packet-within e = due-by-within (length p) (length decoded) (wide 1 p 0) (totalLength p) (datagramDue (datagramOf p)) (sym (due-by p decoded) ∙ e)
+
   one-passes : (payload : List ℕ) (c : Context) → passes (spanOf payload m c) (bufferOf payload decoded c) ≡ passes (spanOf payload m c) (bufferOf payload decoded′ c)
   one-passes payload c = passes-same (spanOf payload m c) (bufferOf payload decoded c) (bufferOf payload decoded′ c) (buffer-same payload decoded decoded′ (h .lent-decoded) c)
 
@@ -85,43 +165,51 @@ module _ (p p′ decoded decoded′ : List ℕ) (m : FieldMap) (h : Alike p p′
   fields-due-same payload =
       rw (one-passes payload context.Uri, one-passes payload context.Header, one-passes payload context.Host)
 
-  packet-due-same : packetDue p decoded ≡ packetDue p′ decoded′
-  unfolding packetDue wide
-  packet-due-same =
-      let a : getD p 0 0 ≡ getD p′ 0 0 = byte0 p ∙ ap (λ (l : List ℕ). getD l 0 0) (h .front) ∙ sym (byte0 p′) in
-      let b : getD p 2 0 ≡ getD p′ 2 0 = byte2 p ∙ ap (λ (l : List ℕ). getD l 2 0) (h .front) ∙ sym (byte2 p′) in
-      let c : getD p 3 0 ≡ getD p′ 3 0 = byte3 p ∙ ap (λ (l : List ℕ). getD l 3 0) (h .front) ∙ sym (byte3 p′) in
-      rw (h .datagrams, a, b, c, h .lent, h .lent-decoded)
+  module _ (w : totalLength p ≤ length p) where
+    field-same : (c : Context) → fieldOf (payloadOf (datagramOf p)) decoded m c ≡ fieldOf (payloadOf (datagramOf p)) decoded′ m c
+    field-same c = go (present m c) refl
+      where
+        go : (t : Bool) → present m c ≡ t → fieldOf (payloadOf (datagramOf p)) decoded m c ≡ fieldOf (payloadOf (datagramOf p)) decoded′ m c
+        go true e = h .fields w c e
+        go false e = absent-same (payloadOf (datagramOf p)) decoded decoded′ m c e
 
-  field-same : (c : Context) → fieldOf (payloadOf (datagramOf p)) decoded m c ≡ fieldOf (payloadOf (datagramOf p)) decoded′ m c
-  field-same c = go (present m c) refl
-    where
-      go : (t : Bool) → present m c ≡ t → fieldOf (payloadOf (datagramOf p)) decoded m c ≡ fieldOf (payloadOf (datagramOf p)) decoded′ m c
-      go true e = h .fields c e
-      go false e = absent-same (payloadOf (datagramOf p)) decoded decoded′ m c e
-
-  view-same : viewOf p decoded m ≡ viewOf p′ decoded′ m
-  view-same =
-      ap (λ (f : Context → List ℕ). record { facts = factsOf (datagramOf p); present = present m; field = f }) (fun-ext field-same)
-      ∙ ap (λ (d : List ℕ). record { facts = factsOf d; present = present m; field = fieldOf (payloadOf d) decoded′ m }) (h .datagrams)
+    view-same : viewOf p decoded m ≡ viewOf p′ decoded′ m
+    view-same =
+        ap (λ (f : Context → List ℕ). record { facts = factsOf (datagramOf p); present = present m; field = f }) (fun-ext field-same)
+        ∙ ap (λ (d : List ℕ). record { facts = factsOf d; present = present m; field = fieldOf (payloadOf d) decoded′ m }) (h .datagrams w)
 
   module _ (t : Table) (dir : Direction) where
     due-same : verdictDue t p decoded dir m ≡ verdictDue t p′ decoded′ dir m
     unfolding verdictDue
-    due-same = rw (packet-due-same, fields-due-same (payloadOf (datagramOf p)), h .datagrams)
+    due-same =
+        ap (refuseIf (not (wellFormed t)) refusal.IllFormed)
+        (else-same (packetDue p decoded) (fieldsDue (payloadOf (datagramOf p)) decoded m) (fieldsDue (payloadOf (datagramOf p′)) decoded′ m)
+        (λ e. fields-due-same (payloadOf (datagramOf p)) ∙ ap (λ (d : List ℕ). fieldsDue (payloadOf d) decoded′ m) (h .datagrams (packet-within e)))
+        ∙ ap (λ (d : Due). orElse d (fieldsDue (payloadOf (datagramOf p′)) decoded′ m)) packet-due-same)
 
-    list-same : placementsOf t p decoded dir m ≡ placementsOf t p′ decoded′ dir m
-    unfolding placementsOf
-    list-same = ap (λ (v : View). listed t v dir) view-same
+    list-same : verdictDue t p decoded dir m ≡ Fine → placementsOf t p decoded dir m ≡ placementsOf t p′ decoded′ dir m
+    unfolding placementsOf verdictDue
+    list-same e =
+        let f = refuse-fine (not (wellFormed t)) refusal.IllFormed _ e .1 in
+        ap (λ (v : View). listed t v dir) (view-same (packet-within (else-fine (packetDue p decoded) _ f .0)))
 
     pub verdict-depends : verdictAnswer t p decoded dir m ≡ verdictAnswer t p′ decoded′ dir m
     unfolding verdictAnswer
-    verdict-depends = rw (due-same, list-same)
+    verdict-depends =
+        verdict-by-same (verdictDue t p decoded dir m) (placementsOf t p decoded dir m) (placementsOf t p′ decoded′ dir m) list-same
+        ∙ ap (λ (d : Due). verdictBy d (placementsOf t p′ decoded′ dir m)) due-same
 
     pub first-depends : firstAnswer t p decoded dir m ≡ firstAnswer t p′ decoded′ dir m
     unfolding firstAnswer
-    first-depends = rw (due-same, list-same)
+    first-depends =
+        unless-same (verdictDue t p decoded dir m) (headOf (placementsOf t p decoded dir m)) (headOf (placementsOf t p′ decoded′ dir m)) (λ e. ap headOf (list-same e))
+        ∙ ap (λ (d : Due). unless d (headOf (placementsOf t p′ decoded′ dir m))) due-same
 
     pub next-depends : (held : Placement) → nextAnswer t p decoded dir m held ≡ nextAnswer t p′ decoded′ dir m held
     unfolding nextAnswer
-    next-depends held = rw (due-same, list-same)
+    next-depends held =
+        let least : List (List ℕ) → Answer = λ l. headOf (keep (behind (startsOf held)) l) in
+        let due : Due → Due = λ d. orElse d (earlierDue t p decoded dir m held) in
+        unless-same (due (verdictDue t p decoded dir m)) (least (placementsOf t p decoded dir m)) (least (placementsOf t p′ decoded′ dir m))
+        (λ e. ap least (list-same (else-fine (verdictDue t p decoded dir m) _ e .0)))
+        ∙ ap (λ (d : Due). unless (due d) (least (placementsOf t p′ decoded′ dir m))) due-same
