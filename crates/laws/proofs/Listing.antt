@@ -1,6 +1,6 @@
--- The theorems on the list of placements: it holds exactly the placements that meet the table (`listed-meets`), and it rises strictly, so
--- that it holds each once (`listed-rising`). Membership goes by cases on the items; nothing here knows what a test or a window is,
--- but that a pattern lies within its field (`lies-inside`).
+-- The theorems on the list of placements: it holds exactly the placements that meet the table (`listed-meets`), it rises strictly
+-- (`listed-rising`), and so it holds each once (`listed-once`). Membership goes by cases on the items; nothing here knows what a test or a window
+-- is, but that a pattern lies within its field (`lies-inside`).
 use mathlib.Core.Path.{_≡_, refl, sym, ap, _∙_, subst}
 use mathlib.Core.Logic.{_⊎_, inl, inr, ⊎-elim, _↔_}
 use mathlib.Core.Bool.{Bool, true, false, _&&_, false≢true}
@@ -11,7 +11,7 @@ use lib.ListN.{length, drop}
 use lib.Dec.{leb, eqb}
 use lib.IntN.{ℤ, pos, _+ℤ_}
 use lib.Signed.{leZ}
-use borrow.Author.Tests.{leb-true, eqb-true, eqb-false, lt-ltb, le-ltb, eq-eqb}
+use borrow.Author.Tests.{leb-true, eqb-true, eqb-false}
 use Rattle.definitions.specs.declared.packet.Direction.{Direction}
 use Rattle.definitions.specs.declared.table.Within.{Within}
 use Rattle.definitions.specs.declared.table.Within.the-variants as within
@@ -25,6 +25,7 @@ use Rattle.definitions.specs.Tests.{testHolds}
 use Rattle.definitions.specs.Windows.{windowStart, beforeEnd, inWindow, standsAt, lies}
 use Rattle.definitions.specs.Lists.{keep, keepOne, none?}
 use Rattle.definitions.specs.Placements.{upFrom, spread, onlyIf, Wanted, placed, nowhere, tested, itemsOf, positives, liesIn, starts, nowhereHolds, Meets, placements, headHolds, MeetsTable, listed, behind}
+use Rattle.laws.proofs.Rising.{Rising, rising-append, behind-same, behind-head, rising-once}
 
 both : (a b : Bool) → (a && b) ≡ true → (a ≡ true) × (b ≡ true)
 both true b e = (refl, e)
@@ -44,7 +45,7 @@ keep-in f x (y ∷ l) m = go (f y) refl m (keep-in f x l)
     go true e m ih = ⊎-elim (λ p. (here p, ap f p ∙ e)) (λ p. (there (ih p .0), ih p .1)) (cases-cons (rw e at m))
     go false e m ih = let p = ih (rw e at m) in (there (p .0), p .1)
 
-keep-of : {A : Type 0} (f : A → Bool) (x : A) (l : List A) → Mem x l → f x ≡ true → Mem x (keep f l)
+pub keep-of : {A : Type 0} (f : A → Bool) (x : A) (l : List A) → Mem x l → f x ≡ true → Mem x (keep f l)
 unfolding keep
 keep-of f x [] m h = absurd (not-nil m)
 keep-of f x (y ∷ l) m h = go (f y) refl (cases-cons m) (λ n. keep-of f x l n h)
@@ -203,24 +204,6 @@ module _ (v : View) where
   meets-length (nowhere p b ∷ ws) l q h = let e = meets-length ws l q (h .2) in omega arith
   meets-length (tested it al ∷ ws) l q h = let e = meets-length ws l q (h .1) in omega arith
 
--- the list rises strictly: each is followed only by those behind it
-abbrev pub Rising : List (List ℕ) → Type 0
-Rising [] = Unit {0}
-Rising (p ∷ ps) = ((q : List ℕ) → Mem q ps → behind p q ≡ true) × Rising ps
-
-rising-append : (xs ys : List (List ℕ)) → Rising xs → Rising ys → ((x y : List ℕ) → Mem x xs → Mem y ys → behind x y ≡ true) → Rising (xs ++ ys)
-rising-append [] ys hx hy h = hy
-rising-append (x ∷ xs) ys hx hy h =
-    (λ q m. ⊎-elim (λ n. hx .0 q n) (λ n. h x q (here refl) n) (append-cases xs m), rising-append xs ys (hx .1) hy (λ u v m n. h u v (there m) n))
-
-behind-same : (s : ℕ) (p q : List ℕ) → behind p q ≡ true → behind (s ∷ p) (s ∷ q) ≡ true
-unfolding behind
-behind-same s p q h = rw (le-ltb s s (omega arith), eq-eqb s s refl) h
-
-behind-head : (a s : ℕ) (p q : List ℕ) → a < s → behind (a ∷ p) (s ∷ q) ≡ true
-unfolding behind
-behind-head a s p q h = rw (lt-ltb a s h)
-
 rising-map : (s : ℕ) (l : List (List ℕ)) → Rising l → Rising (map (λ (u : List ℕ). s ∷ u) l)
 rising-map s [] h = tt
 rising-map s (p ∷ l) h =
@@ -255,7 +238,7 @@ placements-rising v (placed p b ∷ ws) l =
 placements-rising v (nowhere p b ∷ ws) l = rising-only (nowhereHolds v p b l) (placements v ws l) (placements-rising v ws l)
 placements-rising v (tested it al ∷ ws) l = rising-only (testHolds v it al l) (placements v ws l) (placements-rising v ws l)
 
--- the two laws of the list of placements of a table
+-- the laws of the list of placements of a table
 pub listed-meets : (t : Table) (v : View) (dir : Direction) (q : List ℕ) → Mem q (listed t v dir) ↔ MeetsTable t v dir q
 unfolding listed MeetsTable
 listed-meets t v dir q = (
@@ -266,3 +249,7 @@ listed-meets t v dir q = (
 pub listed-rising : (t : Table) (v : View) (dir : Direction) → Rising (listed t v dir)
 unfolding listed
 listed-rising t v dir = rising-only (headHolds t v dir) (placements v (itemsOf t) Nothing) (placements-rising v (itemsOf t) Nothing)
+
+pub listed-once : (t : Table) (v : View) (dir : Direction) (xs ys : List (List ℕ)) (q : List ℕ) → listed t v dir ≡ xs ++ (q ∷ ys)
+    → (Mem q xs → ⊥) × (Mem q ys → ⊥)
+listed-once t v dir xs ys q e = rising-once xs q ys (subst Rising e (listed-rising t v dir))
