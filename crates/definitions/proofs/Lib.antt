@@ -1,5 +1,6 @@
 -- The definitions, computed.
 pub mod Starred
+pub mod LeftOut
 pub mod Tables
 pub mod Fair
 pub mod Sample

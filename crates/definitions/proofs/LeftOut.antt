@@ -1,0 +1,63 @@
+-- What document 01 leaves out is refused, by computation: the name of an option left out with 5, a form left out of a listed option with 6, each
+-- at the option's first dash. One statement over one table.
+use mathlib.Core.Path.{_≡_, refl}
+use mathlib.Core.Bool.{Bool, true, _&&_}
+use mathlib.Core.List.{List, [], _∷_, _++_}
+use Prim.Native.Nat.{ℕ}
+use Prim.Native.String.{String}
+use lib.ListN.{length}
+use lib.Dec.{eqb}
+use Rattle.forms.specs.Bytes.{text}
+use Rattle.definitions.specs.declared.answers.ReadOutcome.{ReadOutcome}
+use Rattle.definitions.specs.Limits.{limits01}
+use Rattle.definitions.specs.Lists.{all?}
+use Rattle.definitions.specs.Refusals.{readNumber, readPlace}
+use Rattle.definitions.specs.Reading.{read}
+use Rattle.definitions.specs.Computing.{computing}
+
+-- a refusal's number, and an option behind its two dashes
+pub record LeftOut : Type 0 where
+  pub number : ℕ
+  pub option : String
+
+pub row : ℕ → String → LeftOut
+row n s = record { number = n; option = s }
+
+pub leftOut : List LeftOut
+leftOut =
+    row 5 "pcre 1;" ∷
+    row 5 "byte_jump 1;" ∷
+    row 5 "byte_test 1;" ∷
+    row 5 "tag 1;" ∷
+    row 5 "rate 1;" ∷
+    row 5 "track 1;" ∷
+    row 5 "log 1;" ∷
+    row 5 "service 1;" ∷
+    row 5 "parsed_type 1;" ∷
+    row 5 "file_type 1;" ∷
+    row 5 "crc32 1;" ∷
+    row 5 "packet_origin 1;" ∷
+    row 5 "distance_abs 1;" ∷
+    row 5 "within_abs 1;" ∷
+    row 6 "ip.id in [1,5];" ∷
+    row 6 "src_addr 1.2.3.4:5;" ∷
+    row 6 "src_addr ::1;" ∷
+    row 6 "protocol ip;" ∷
+    row 6 "flow bi_direction;" ∷
+    row 6 "context packet_origin;" ∷
+    row 6 "distance 5,lasttag;" ∷
+    []
+
+-- the option stands behind these
+pub front : List ℕ
+front = text "F-SBID(--name \"n\";--protocol 6;"
+
+pub refusedAt : ℕ → ℕ → ReadOutcome → Bool
+refusedAt n p o = eqb (readNumber o) n && eqb (readPlace o) p
+
+pub refused : LeftOut → Bool
+refused l = refusedAt (l .number) (length front) (read limits01 (front ++ (text "--" ++ (text (l .option) ++ text ")"))) .outcome)
+
+pub left-out : all? refused leftOut ≡ true
+unfolding computing row leftOut front refusedAt refused
+left-out = refl
