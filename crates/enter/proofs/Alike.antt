@@ -14,9 +14,9 @@ use Rattle.definitions.specs.Entries.{Modifier, Entry, Name, Protocol, Flow}
 use Rattle.definitions.specs.Tables.{bytesIn, slotsIn, modified}
 use Rattle.definitions.specs.Standing.{sameKind, latest}
 use Rattle.entry.specs.declared.Room.{Room}
-use Rattle.enter.specs.declared.Given.{Given}
-use Rattle.enter.specs.declared.State.{State}
-use Rattle.enter.specs.State.{modifierAmong, givenIn}
+use Rattle.reader_state.specs.declared.Given.{Given}
+use Rattle.reader_state.specs.declared.State.{State}
+use Rattle.reader_state.specs.State.{modifierAmong, givenIn}
 use Rattle.enter.proofs.Behind.{or-true, any-append, count-append, bytes-append, slots-append, latest-append}
 
 -- ---- two states whose fields are equal

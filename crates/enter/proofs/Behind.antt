@@ -13,7 +13,7 @@ use Rattle.definitions.specs.Lists.{any?, keep, keepOne, count}
 use Rattle.definitions.specs.Entries.{Modifier, Entry, Name, Protocol, Flow, Test, Pattern, Modified}
 use Rattle.definitions.specs.Tables.{nameIn, protocolIn, flowIn, bytesIn, slotsIn, slotOf, modified, bare, with}
 use Rattle.definitions.specs.Standing.{sameKind, isTest, isPattern, latest}
-use Rattle.enter.specs.State.{lastPlace}
+use Rattle.reader_state.specs.State.{lastPlace}
 
 -- ---- tests over lists
 

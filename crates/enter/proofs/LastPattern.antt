@@ -13,7 +13,7 @@ use Rattle.definitions.specs.Lists.{any?}
 use Rattle.definitions.specs.Entries.{Modifier, Entry, Name, Protocol, Flow, Test, Pattern, Modified}
 use Rattle.definitions.specs.Tables.{slotsIn, slotOf, modified, bare, with}
 use Rattle.definitions.specs.Standing.{isPattern}
-use Rattle.enter.specs.State.{lastPlace}
+use Rattle.reader_state.specs.State.{lastPlace}
 
 -- with no further pattern among the entries, a modifier behind them belongs to the pattern before them
 none-modified : (es : List Entry) (m : Modifier) → any? isPattern es ≡ false → (p : patterns.Pattern) → modified (es ++ (Modified m ∷ [])) p ≡ with m (modified es p)

@@ -12,9 +12,9 @@ use Rattle.definitions.specs.Lists.{any?, keep, keepOne, count}
 use Rattle.definitions.specs.Entries.{Entry}
 use Rattle.definitions.specs.Standing.{isTest, isPattern}
 use Rattle.definitions.specs.Reading.{Said, entriesOf}
-use Rattle.enter.specs.declared.State.{State}
-use Rattle.enter.specs.State.{dashesOf, lastPlace, stateFrom, saidAlso, Holds}
-use Rattle.enter.specs.Entering.{Sound}
+use Rattle.reader_state.specs.declared.State.{State}
+use Rattle.reader_state.specs.State.{dashesOf, lastPlace, stateFrom, saidAlso, Holds}
+use Rattle.reader_state.specs.Sound.{Sound}
 use Rattle.enter.proofs.Behind.{keep-append, slots-length, last-none}
 use Rattle.enter.proofs.LastPattern.{last-is}
 

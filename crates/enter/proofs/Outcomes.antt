@@ -28,11 +28,13 @@ use Rattle.definitions.specs.Standing.{isTest, isPattern, sameModifier, latest,
 use Rattle.definitions.specs.Reading.{Said, entriesOf}
 use Rattle.entry.specs.declared.Room.{Room}
 use Rattle.entry.specs.Values.{appended}
-use Rattle.enter.specs.declared.State.{State}
-use Rattle.enter.specs.declared.Entered.{Entered}
-use Rattle.enter.specs.State.{dashesOf, givenIn, stateFrom, stateOf, saidAlso, Holds}
-use Rattle.enter.specs.Entering.{refusedIn, fineIn, nameEntered, protocolEntered, flowEntered, testEntered, addressesEntered, patternEntered, modifierEntered}
-use Rattle.enter.specs.Entering.{withName, withTest, withNewPattern, modifierBy, already}
+use Rattle.reader_state.specs.declared.State.{State}
+use Rattle.reader_state.specs.declared.Entered.{Entered}
+use Rattle.reader_state.specs.State.{dashesOf, givenIn, stateFrom, stateOf, saidAlso, Holds}
+use Rattle.reader_state.specs.Sound.{refusedIn, fineIn}
+use Rattle.enter.specs.Entering.{withName, nameEntered, protocolEntered, flowEntered}
+use Rattle.enter_counted.specs.Counting.{withTest, withNewPattern, testEntered, addressesEntered, patternEntered}
+use Rattle.enter_modifiers.specs.Modifying.{modifierBy, modifierEntered, already}
 use Rattle.enter.proofs.Behind.{slots-length}
 use Rattle.enter.proofs.Alike.{count-same, count-new}
 use Rattle.enter.proofs.Steps.{name-step, protocol-step, flow-step, test-step, pattern-step, modifier-step}

@@ -26,8 +26,8 @@ use Rattle.entry.specs.declared.Room.{Room}
 use Rattle.entry.specs.declared.Value.{Value}
 use Rattle.entry.specs.declared.Value.the-variants as value
 use Rattle.entry.specs.Values.{entryOf}
-use Rattle.enter.specs.declared.State.{State}
-use Rattle.enter.specs.State.{dashesOf, stateFrom, stateOf, Holds, Apart, Beside, Enterable, EnteredRight, JudgedRight}
+use Rattle.reader_state.specs.declared.State.{State}
+use Rattle.reader_state.specs.State.{dashesOf, stateFrom, stateOf, Holds, Apart, Beside, Enterable, EnteredRight, JudgedRight}
 use Rattle.enter.specs.Entering.{Fit, Ready, valueEntered}
 use Rattle.enter.specs.Judging.{tableIn, usableHeld, judgedIn}
 use Rattle.enter.proofs.Choosing.{if-or}

@@ -17,9 +17,11 @@ use Rattle.definitions.specs.Entries.{Modifier, Context, NoCase, Distance, With
 use Rattle.definitions.specs.Tables.{nameIn, protocolIn, flowIn, bytesIn, slotsIn, slotOf, noSlot, modified, bare, with}
 use Rattle.definitions.specs.Standing.{sameKind, isTest, isPattern, latest}
 use Rattle.entry.specs.Values.{appended}
-use Rattle.enter.specs.declared.State.{State}
-use Rattle.enter.specs.State.{lastPlace, givenIn, stateFrom}
-use Rattle.enter.specs.Entering.{withName, withProtocol, withFlow, withTest, withNewPattern, withPattern, givenAlso, lastSlot, lastPattern, patternOf}
+use Rattle.reader_state.specs.declared.State.{State}
+use Rattle.reader_state.specs.State.{lastPlace, givenIn, stateFrom}
+use Rattle.enter.specs.Entering.{withName, withProtocol, withFlow}
+use Rattle.enter_counted.specs.Counting.{withTest, withNewPattern}
+use Rattle.enter_modifiers.specs.Modifying.{withPattern, givenAlso, lastSlot, lastPattern, patternOf}
 use Rattle.enter.proofs.Padding.{padded-one, padded-more, padded-set, padded-at}
 use Rattle.enter.proofs.Behind.{name-behind, name-first, protocol-behind, protocol-first, flow-behind, flow-first, bytes-append, last-behind, last-new}
 use Rattle.enter.proofs.LastPattern.{LastIs, last-is}

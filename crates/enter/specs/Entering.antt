@@ -1,40 +1,25 @@
 -- What the code does to the state for each value, step by step. That this is the state of one option more is proved in proofs/.
-use Prim.Native.Nat.{ℕ, _+_, _≤_, _<_}
-use mathlib.Core.Path.{_≡_}
-use mathlib.Core.Bool.{Bool, true, false}
-use mathlib.Core.List.{List, []}
-use lib.ListN.{length, getD, take, drop, set}
-use lib.Dec.{eqb, ltb, leb}
-use Rattle.forms.specs.Bytes.{if_then_else_}
-use Rattle.definitions.specs.declared.answers.Refusal.{Refusal}
+use Prim.Native.Nat.{ℕ, _+_, _≤_}
+use mathlib.Core.Bool.{true}
+use mathlib.Core.List.{List}
+use lib.ListN.{length, take, drop}
 use Rattle.definitions.specs.declared.answers.Refusal.the-variants as refusal
-use Rattle.definitions.specs.declared.answers.Due.the-variants.{Fine, No}
+use Rattle.definitions.specs.declared.answers.Due.the-variants.{Fine}
 use Rattle.definitions.specs.declared.table.Flow as flows
-use Rattle.definitions.specs.declared.table.AddressTest.{AddressTest}
-use Rattle.definitions.specs.declared.table.Pattern.{Pattern}
-use Rattle.definitions.specs.declared.table.Item.{Item}
-use Rattle.definitions.specs.declared.table.Item.the-variants as item
 use Rattle.definitions.specs.declared.table.Address.{Address}
-use Rattle.definitions.specs.declared.table.Slot.{Slot}
-use Rattle.definitions.specs.Limits.{nameMost, patternsMost, testsMost, itemsMost, addressesMost}
+use Rattle.definitions.specs.Limits.{nameMost}
 use Rattle.definitions.specs.Lists.{padded}
 use Rattle.definitions.specs.Refusals.{refuseIf}
-use Rattle.definitions.specs.Entries.{Modifier, Context, NoCase, Distance, Within}
-use Rattle.definitions.specs.Tables.{bare, with, Kind, unused, addressed, patterned, plainTest, kindOf}
+use Rattle.definitions.specs.Entries.{Context, NoCase, Distance, Within}
 use Rattle.entry.specs.declared.Room.{Room}
 use Rattle.entry.specs.declared.Value.{Value}
 use Rattle.entry.specs.declared.Value.the-variants as value
-use Rattle.enter.specs.declared.Given.{Given}
-use Rattle.enter.specs.declared.State.{State}
-use Rattle.enter.specs.declared.Entered.{Entered}
-
--- ---- what the code's stores and sums rest on
-
-pub record Sound (st : State) : Type 0 where
-  pub count : st .count ≡ st .patterns + st .tests
-  pub patterns : st .patterns ≤ patternsMost
-  pub tests : st .tests ≤ testsMost
-  pub last : st .last < itemsMost
+use Rattle.reader_state.specs.declared.Given.{Given}
+use Rattle.reader_state.specs.declared.State.{State}
+use Rattle.reader_state.specs.declared.Entered.{Entered}
+use Rattle.reader_state.specs.Sound.{Sound}
+use Rattle.enter_counted.specs.Counting.{testEntered, addressesEntered, patternEntered}
+use Rattle.enter_modifiers.specs.Modifying.{modifierEntered}
 
 -- a name lies in the text and has room in the table
 abbrev pub Fit : List ℕ → Value → Type 0
@@ -52,14 +37,6 @@ Fit s (value.Within w) = Unit {0}
 pub record Ready (s : List ℕ) (st : State) (v : Value) : Type 0 where
   pub sound : Sound st
   pub fit : Fit s v
-
--- ---- answers
-
-abbrev pub refusedIn : State → Refusal → Entered
-refusedIn st r = record { due = No r; state = st }
-
-abbrev pub fineIn : State → Entered
-fineIn st = record { due = Fine; state = st }
 
 -- ---- name, protocol and flow
 
@@ -132,140 +109,6 @@ protocolEntered st p = record { due = refuseIf (st .given .protocol) refusal.Aga
 
 unfoldable pub flowEntered : State → flows.Flow → Entered
 flowEntered st f = record { due = refuseIf (st .given .flow) refusal.Again Fine; state = withFlow st f }
-
--- ---- tests and patterns
-
-abbrev pub withSlot : State → Slot → State
-withSlot st sl =
-    record {
-      name = st .name;
-      len = st .len;
-      protocol = st .protocol;
-      flow = st .flow;
-      room = st .room;
-      items = set (st .items) (st .count) sl;
-      count = st .count + 1;
-      given = st .given;
-      patterns = st .patterns;
-      tests = st .tests;
-      last = st .last;
-      dashes = st .dashes;
-    }
-
-abbrev pub withTest : State → Slot → State
-withTest st sl =
-    record {
-      name = st .name;
-      len = st .len;
-      protocol = st .protocol;
-      flow = st .flow;
-      room = st .room;
-      items = set (st .items) (st .count) sl;
-      count = st .count + 1;
-      given = st .given;
-      patterns = st .patterns;
-      tests = st .tests + 1;
-      last = st .last;
-      dashes = st .dashes;
-    }
-
-unfoldable pub testEntered : State → Item → List Address → Entered
-testEntered st it list =
-    if leb testsMost (st .tests) then refusedIn st refusal.TooMany
-    else fineIn (withTest st (record { item = it; addresses = list }))
-
-unfoldable pub addressesEntered : State → AddressTest → List Address → Entered
-addressesEntered st a list =
-    if ltb addressesMost (a .count) then refusedIn st refusal.TooMany
-    else testEntered st (item.Address a) list
-
--- no modifier is given behind a new pattern
-abbrev pub noModifiers : Given → Given
-noModifiers g = record { name = g .name; protocol = g .protocol; flow = g .flow; context = false; nocase = false; distance = false; within = false }
-
-abbrev pub withNewPattern : State → ℕ → Slot → Room → State
-withNewPattern st dash sl room =
-    record {
-      name = st .name;
-      len = st .len;
-      protocol = st .protocol;
-      flow = st .flow;
-      room = room;
-      items = set (st .items) (st .count) sl;
-      count = st .count + 1;
-      given = noModifiers (st .given);
-      patterns = st .patterns + 1;
-      tests = st .tests;
-      last = st .count;
-      dashes = set (st .dashes) (st .patterns) dash;
-    }
-
-unfoldable pub patternEntered : State → ℕ → Bool → ℕ → List Address → Room → Entered
-patternEntered st dash negated n list room =
-    if leb patternsMost (st .patterns) then refusedIn st refusal.TooMany
-    else fineIn (withNewPattern st dash (record { item = item.Pattern (bare negated n); addresses = list }) room)
-
--- ---- modifiers
-
--- the pattern of an item; of any other item one that says nothing
-abbrev pub patternIn : Kind → Pattern
-patternIn unused = bare false 0
-patternIn (addressed a) = bare false 0
-patternIn (patterned p) = p
-patternIn plainTest = bare false 0
-
-unfoldable pub patternOf : Item → Pattern
-patternOf it = patternIn (kindOf it)
-
--- the slot of the last pattern; what is named for past the end is what the logic takes there
-abbrev pub lastSlot : State → Slot
-lastSlot st = getD (st .items) (st .last) (record { item = item.Unused; addresses = [] })
-
-abbrev pub lastPattern : State → Pattern
-lastPattern st = patternOf (lastSlot st .item)
-
-abbrev pub withLast : State → Slot → Given → State
-withLast st sl g =
-    record {
-      name = st .name;
-      len = st .len;
-      protocol = st .protocol;
-      flow = st .flow;
-      room = st .room;
-      items = set (st .items) (st .last) sl;
-      count = st .count;
-      given = g;
-      patterns = st .patterns;
-      tests = st .tests;
-      last = st .last;
-      dashes = st .dashes;
-    }
-
-abbrev pub withPattern : State → Pattern → Given → State
-withPattern st p g = withLast st (record { item = item.Pattern p; addresses = lastSlot st .addresses }) g
-
-unfoldable pub modifierBy : State → Bool → Pattern → Given → Entered
-modifierBy st again p g =
-    record {
-      due = refuseIf (eqb (st .patterns) 0) refusal.Orphan (refuseIf again refusal.Again Fine);
-      state = withPattern st p g;
-    }
-
--- whether it was given, and that it is
-abbrev pub already : Modifier → Given → Bool
-already (Context c) g = g .context
-already NoCase g = g .nocase
-already (Distance d) g = g .distance
-already (Within w) g = g .within
-
-abbrev pub givenAlso : Modifier → Given → Given
-givenAlso (Context c) g = record { name = g .name; protocol = g .protocol; flow = g .flow; context = true; nocase = g .nocase; distance = g .distance; within = g .within }
-givenAlso NoCase g = record { name = g .name; protocol = g .protocol; flow = g .flow; context = g .context; nocase = true; distance = g .distance; within = g .within }
-givenAlso (Distance d) g = record { name = g .name; protocol = g .protocol; flow = g .flow; context = g .context; nocase = g .nocase; distance = true; within = g .within }
-givenAlso (Within w) g = record { name = g .name; protocol = g .protocol; flow = g .flow; context = g .context; nocase = g .nocase; distance = g .distance; within = true }
-
-abbrev pub modifierEntered : State → Modifier → Entered
-modifierEntered st m = modifierBy st (already m (st .given)) (with m (lastPattern st)) (givenAlso m (st .given))
 
 -- ---- any value
 

@@ -12,7 +12,7 @@ use Rattle.definitions.specs.declared.table.Table.{Table}
 use Rattle.definitions.specs.Tables.{patternsOf}
 use Rattle.definitions.specs.References.{usableRun}
 use Rattle.definitions.specs.Reading.{refusedReading, acceptedReading}
-use Rattle.enter.specs.declared.State.{State}
+use Rattle.reader_state.specs.declared.State.{State}
 
 unfoldable pub tableIn : State → Table
 tableIn st =

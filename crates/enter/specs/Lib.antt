@@ -1,4 +1,3 @@
--- What the contracts of `enter` cite: what the state holds of the options said, and the code's own steps on it.
-pub mod State
+-- What the contracts of `enter` cite: the code's own steps on the state.
 pub mod Entering
 pub mod Judging

@@ -4,15 +4,15 @@ ghost use Prim.Native.Nat.{_<_};
 ghost use lib.ListN.{getD};
 ghost use Rattle.definitions.specs.Limits.{limits01, patternsMost};
 ghost use Rattle.definitions.specs.Reading.{refusedReading};
-ghost use Rattle.enter.specs.Entering.{Sound};
+ghost use Rattle.reader_state.specs.Sound.{Sound};
 ghost use Rattle.enter.specs.Judging.{tableIn, judgedIn};
-use crate::State;
-use crate::fresh;
 use definitions::answers::ReadOutcome;
 use definitions::answers::Reading;
 use definitions::answers::Refusal;
 use definitions::limits::PATTERNS;
 use definitions::table::Table;
+use reader_state::State;
+use reader_state::fresh;
 use references::counting::usable_count;
 
 fn table_of(st: State) -> Table

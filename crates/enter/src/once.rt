@@ -4,14 +4,12 @@ ghost use Prim.Native.Nat.{_+_, _≤_};
 ghost use lib.ListN.{length, take, drop};
 ghost use Rattle.definitions.specs.Limits.{nameMost};
 ghost use Rattle.definitions.specs.Lists.{padded};
-ghost use Rattle.definitions.specs.Refusals.{refuseIf};
 ghost use Rattle.enter.specs.Entering.{nameEntered, protocolEntered, flowEntered};
-use crate::Entered;
-use crate::State;
-use definitions::answers::Due;
-use definitions::answers::Refusal;
 use definitions::limits::NAME_BYTES;
 use definitions::table::Flow;
+use reader_state::Entered;
+use reader_state::State;
+use reader_state::due_again;
 
 // The `n` bytes of `s` from `from` on, with zeros behind them.
 fn copied(s: &[u8], from: usize, n: usize) -> [u8; NAME_BYTES]
@@ -25,16 +23,6 @@ fn copied(s: &[u8], from: usize, n: usize) -> [u8; NAME_BYTES]
         i += 1;
     }
     name
-}
-
-// 8, if it was given already.
-pub fn due_again(again: bool) -> Due
-    ensures { λ r. ⌜ r ≡ refuseIf again Refusal.Again Due.Fine ⌝ }
-{
-    if again {
-        return Due::No(Refusal::Again);
-    }
-    Due::Fine
 }
 
 pub fn enter_name(s: &[u8], st: State, from: usize, n: usize) -> Entered

@@ -1,5 +1,3 @@
--- How the pieces of options' values are read.
-pub mod Choices
-pub mod Ordering
+-- How an option is put together of its pieces.
 pub mod Closing
 pub mod Negation

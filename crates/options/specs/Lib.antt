@@ -1,2 +1,2 @@
 -- Names for parts of the options' forms.
-pub mod Words
+pub mod Parts

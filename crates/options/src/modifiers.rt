@@ -10,7 +10,7 @@ ghost use Rattle.scan.specs.declared.cursor.Cursor.the-variants.{Going};
 use crate::commas::comma_reference_at;
 use crate::commas::directed_at;
 use crate::valued::Valued;
-use crate::words::context_at;
+use option_words::context_at;
 use definitions::table::Reach;
 use definitions::table::Shift;
 use entry::Value;

@@ -10,7 +10,7 @@ use Rattle.forms.proofs.Bools.{by-cases}
 use Rattle.definitions.specs.Options.{Option, optionTable, inName, unlisted, listed, parsed, nameLength, optionAt}
 use Rattle.scan.proofs.Running.{run-le}
 use Rattle.names.specs.Names.{namesOf, optionNames, placeIn}
-use Rattle.reader.specs.Parsing.{nthForm}
+use Rattle.option_values.specs.Parsing.{nthForm}
 
 nth-listed : (os : List Option) (n s : List ℕ) (at : ℕ) → placeIn (namesOf os) n < length (namesOf os) → parsed os n s at ≡ listed (readAt (nthForm (placeIn (namesOf os) n) os) s at)
 unfolding namesOf placeIn parsed nthForm

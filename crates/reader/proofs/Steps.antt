@@ -22,8 +22,8 @@ use Rattle.entry.specs.Values.{entryOf}
 use Rattle.scan.specs.declared.cursor.Cursor.{Cursor}
 use Rattle.scan.specs.declared.cursor.Cursor.the-variants.{Going, Over, Stopped}
 use Rattle.scan.specs.Reads.{readBy, placeOf}
-use Rattle.enter.specs.declared.State.{State}
-use Rattle.enter.specs.State.{Holds, Apart, saidAlso, stateFrom, stateOf}
+use Rattle.reader_state.specs.declared.State.{State}
+use Rattle.reader_state.specs.State.{Holds, Apart, saidAlso, stateFrom, stateOf}
 use Rattle.enter.proofs.Behind.{bytes-append}
 use Rattle.enter.proofs.OneMore.{entries-also}
 use Rattle.reader.specs.Turning.{turnBy, TurnsTo}

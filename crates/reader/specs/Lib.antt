@@ -1,4 +1,3 @@
 -- What the parts of the reader promise.
-pub mod Parsing
 pub mod Turning
 pub mod Framing

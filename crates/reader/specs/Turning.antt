@@ -12,8 +12,8 @@ use Rattle.definitions.specs.Limits.{limits01}
 use Rattle.definitions.specs.Entries.{Entry}
 use Rattle.definitions.specs.Options.{optionAt}
 use Rattle.definitions.specs.Reading.{Said, entriesOf, Options, ended, refused, taken, options}
-use Rattle.enter.specs.declared.State.{State}
-use Rattle.enter.specs.State.{Holds, saidAlso}
+use Rattle.reader_state.specs.declared.State.{State}
+use Rattle.reader_state.specs.State.{Holds, saidAlso}
 use Rattle.reader.specs.declared.turns.Turn.{Turn}
 use Rattle.reader.specs.declared.turns.Turn.the-variants.{Next, Done, Refused}
 use Rattle.reader.specs.declared.turns.Turned.{Turned}

@@ -14,14 +14,11 @@ use definitions::answers::Reading;
 use definitions::answers::Refusal;
 use definitions::limits::TEXT_BYTES;
 use enter::finish;
-use enter::fresh;
 use enter::judging::refused;
+use reader_state::fresh;
 use scan::bytes::is_between;
 
-pub mod lists;
-pub mod parsed;
-pub mod places;
-pub mod turns;
+mod turns;
 
 // The options of a text, from behind `F-SBID(` on.
 fn read_options(s: &[u8]) -> Reading

@@ -4,13 +4,13 @@ ghost use Prim.Native.Nat.{_<_};
 ghost use lib.ListN.{length, drop};
 ghost use Rattle.definitions.specs.Reading.{dashes};
 ghost use Rattle.reader.specs.Turning.{Turnable, Turns, turnBy, closingTurn, Placed, Goes};
-use crate::places::option_by_place;
 use definitions::answers::Due;
 use definitions::answers::Refusal;
-use enter::State;
 use enter::enter;
 use names::name_end;
 use names::name_place;
+use option_values::places::option_by_place;
+use reader_state::State;
 use scan::cursor::Cursor;
 
 // On to a place, the end of the text, or a refusal and its place.

@@ -6,7 +6,7 @@ use borrow.Author.Needs.{needs}
 use lib.ListN.{length, drop}
 use Rattle.definitions.specs.Limits.{limits01}
 use Rattle.definitions.specs.Reading.{Said, options, finished}
-use Rattle.enter.specs.State.{Holds}
+use Rattle.reader_state.specs.State.{Holds}
 use Rattle.reader.specs.declared.turns.Turn.{Turn}
 use Rattle.reader.specs.Turning.{GoesTo}
 use Rattle.reader.proofs.Steps.{fresh-holds}

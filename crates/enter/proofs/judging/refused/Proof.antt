@@ -1,6 +1,6 @@
 -- The table of the fresh state computes to the table of no entries.
 use Rattle.enter.specs.Judging.{tableIn}
-use Rattle.enter.specs.State.{stateFrom}
+use Rattle.reader_state.specs.State.{stateFrom}
 use Rattle.definitions.specs.Tables.{tableOf}
 use borrow.Author.Needs.{needs}
 use Rattle.enter.proofs.judging.refused.Statement.{statement}

@@ -1,6 +1,6 @@
 use mathlib.Core.Path.{sym, _∙_}
 use native.Mathlib.Omega.{arith}
-use Rattle.options.proofs.Choices.{led, not-led, behind-in}
+use Rattle.option_operators.proofs.Choices.{led, not-led, behind-in}
 use borrow.Author.Needs.{needs}
 use Rattle.options.proofs.commas.comma_reference_at.Statement.{statement}
 use Rattle.options.proofs.commas.comma_reference_at.Tie as tie

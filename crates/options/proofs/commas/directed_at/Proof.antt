@@ -1,5 +1,5 @@
 use mathlib.Core.Path.{sym, _∙_}
-use Rattle.options.proofs.Choices.{led, not-led, behind-in}
+use Rattle.option_operators.proofs.Choices.{led, not-led, behind-in}
 use Rattle.scan.proofs.Readings.{pair-reads, joined-reads}
 use borrow.Author.Needs.{needs}
 use Rattle.options.proofs.commas.directed_at.Statement.{statement}

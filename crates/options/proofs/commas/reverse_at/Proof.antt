@@ -1,6 +1,6 @@
 use mathlib.Core.Path.{sym, _∙_}
 use native.Mathlib.Omega.{arith}
-use Rattle.options.proofs.Choices.{led, not-led, behind-in}
+use Rattle.option_operators.proofs.Choices.{led, not-led, behind-in}
 use Rattle.scan.proofs.Wording.{says-reads}
 use Rattle.forms.specs.Bytes.{text}
 use mathlib.Core.Bool.{true}

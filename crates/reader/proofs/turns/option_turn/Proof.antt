@@ -1,4 +1,4 @@
-use Rattle.enter.specs.State.{Beside}
+use Rattle.reader_state.specs.State.{Beside}
 use mathlib.Core.Path.{sym, ap, _∙_, subst}
 use native.Mathlib.Omega.{arith}
 use Rattle.definitions.specs.Options.{listed}

@@ -1,0 +1,41 @@
+-- Each return rewrites with the test of the count; the stores are those of the definition, and in range by the counts.
+use borrow.Author.Tests.{le-leb, lt-leb}
+use Rattle.enter_counted.specs.Counting.{patternEntered}
+use borrow.Author.Needs.{needs}
+use Rattle.enter_counted.proofs.enter_pattern.Statement.{statement}
+use Rattle.enter_counted.proofs.enter_pattern.Tie as tie
+
+returns : tie.Need-returns
+unfolding patternEntered
+returns c = simp (le-leb _ _ (c .if1 .taken))
+
+bare-pattern-requires : tie.Need-bare-pattern-requires
+bare-pattern-requires c κs = search needs
+
+with-slot-requires : tie.Need-with-slot-requires
+with-slot-requires c κs = search needs
+
+mul-state : tie.Need-mul-state
+mul-state c = search needs
+
+element-write-state : tie.Need-element-write-state
+element-write-state c = search needs
+
+add-state : tie.Need-add-state
+add-state c = search needs
+
+returns-2 : tie.Need-returns-2
+unfolding patternEntered
+returns-2 c = simp (lt-leb _ _ (c .before .before .before .if1 .left), c .with-slot .ensures, c .before .before .bare-pattern .ensures)
+
+pub enter-pattern-spec : {M : Type 1} → statement M
+enter-pattern-spec =
+    tie.close
+    (tie.spec
+    returns
+    bare-pattern-requires
+    with-slot-requires
+    mul-state
+    element-write-state
+    add-state
+    returns-2)

@@ -1,0 +1,2 @@
+-- What the contracts of `enter_counted` cite.
+pub mod Counting

@@ -1,0 +1,2 @@
+-- What the contracts of `enter_modifiers` cite.
+pub mod Modifying

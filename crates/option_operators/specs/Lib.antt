@@ -1,0 +1,2 @@
+-- Names for the operators in the options' forms.
+pub mod Operators

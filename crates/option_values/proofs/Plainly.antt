@@ -1,0 +1,59 @@
+-- An option with nothing beside its value, and its place in the table.
+use mathlib.Core.Path.{_≡_, refl, sym, subst}
+use mathlib.Core.Bool.{true}
+use mathlib.Core.List.{List, [], _∷_}
+use Prim.Native.Nat.{ℕ, zero, suc, _≤_}
+use lib.ListN.{length}
+use Rattle.forms.specs.Form.{Form}
+use Rattle.forms.specs.Scan.{fair}
+use Rattle.forms.proofs.Bools.{both-left, both-right}
+use Rattle.definitions.specs.Entries.{Entry}
+use Rattle.definitions.specs.Options.{Option, optionTable}
+use Rattle.definitions.proofs.Fair.{allFair, options-fair}
+use Rattle.entry.specs.declared.Value.{Value}
+use Rattle.entry.specs.declared.Value.the-variants as value
+use Rattle.entry.specs.declared.Room.{Room}
+use Rattle.entry.specs.Values.{entryOf, Plain}
+use Rattle.scan.specs.declared.cursor.Cursor.the-variants.{Going}
+use Rattle.scan.specs.Reads.{Reads}
+use Rattle.options.specs.declared.valued.Valued.{Valued}
+use Rattle.reader_state.specs.State.{Apart}
+use Rattle.option_values.specs.declared.parsed.Parsed.{Parsed}
+use Rattle.option_values.specs.Parsing.{plainParsed, Parses, nthForm}
+use Rattle.option_values.proofs.Onward.{grown-none, stored-none}
+
+plain-apart : (s : List ℕ) (v : Value) → Plain v → Apart s v [] []
+plain-apart s (value.Name from n) p = absurd p
+plain-apart s (value.Protocol q) p = (refl, refl)
+plain-apart s (value.Flow f) p = (refl, refl)
+plain-apart s (value.Test it) p = (refl, refl)
+plain-apart s (value.Addresses a) p = absurd p
+plain-apart s (value.Pattern negated n) p = absurd p
+plain-apart s (value.Context c) p = (refl, refl)
+plain-apart s value.NoCase p = (refl, refl)
+plain-apart s (value.Distance d) p = (refl, refl)
+plain-apart s (value.Within w) p = (refl, refl)
+
+pub plain-parses : {f : Form Entry} {s : List ℕ} {at : ℕ} {room : Room} {v : Valued} {r : Parsed} → fair f ≡ true → at ≤ length s
+    → Reads f s (Going at) (entryOf s (v .value) [] []) (v .cursor) → Plain (v .value) → r ≡ plainParsed v room → Parses f s at room r
+plain-parses {f} {s} {at} {room} {v} {r} w h q p e =
+    subst (λ (x : Parsed). Parses f s at room x) (sym e)
+    (record {
+      al = [];
+      b = [];
+      reads = q;
+      kept = refl;
+      stored = stored-none room;
+      apart = λ n g. plain-apart s (v .value) p;
+      grown = λ n g. grown-none w h q n g;
+    })
+
+-- one byte of look-ahead decides in the form at every place
+forms-fair : (os : List Option) (k : ℕ) → allFair os ≡ true → fair (nthForm k os) ≡ true
+unfolding nthForm allFair
+forms-fair [] k e = refl
+forms-fair (o ∷ os) zero e = both-left (fair (o .form)) (allFair os) e
+forms-fair (o ∷ os) (suc k) e = forms-fair os k (both-right (fair (o .form)) (allFair os) e)
+
+pub nth-fair : (k : ℕ) → fair (nthForm k optionTable) ≡ true
+nth-fair k = forms-fair optionTable k options-fair

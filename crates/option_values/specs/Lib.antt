@@ -1,0 +1,2 @@
+-- What is read of an option behind its name.
+pub mod Parsing

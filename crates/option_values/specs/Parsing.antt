@@ -1,0 +1,39 @@
+-- An option read behind its name: the entry that its value stands for, and what stands beside the value.
+use Prim.Native.Nat.{ℕ, zero, suc, _+_, _≤_}
+use mathlib.Core.Path.{_≡_}
+use mathlib.Core.List.{List, [], _∷_}
+use lib.ListN.{length, take, replicate}
+use Rattle.forms.specs.Form.{Form}
+use Rattle.definitions.specs.declared.table.Address.{Address}
+use Rattle.definitions.specs.Limits.{addressesMost}
+use Rattle.definitions.specs.Lists.{padded}
+use Rattle.definitions.specs.Entries.{Entry}
+use Rattle.definitions.specs.Forms.{nameForm}
+use Rattle.definitions.specs.Options.{Option}
+use Rattle.definitions.specs.Tables.{noAddress}
+use Rattle.entry.specs.declared.Room.{Room}
+use Rattle.entry.specs.Values.{entryOf, appended}
+use Rattle.scan.specs.declared.cursor.Cursor.the-variants.{Going}
+use Rattle.scan.specs.Reads.{Reads}
+use Rattle.options.specs.declared.valued.Valued.{Valued}
+use Rattle.reader_state.specs.State.{Apart}
+use Rattle.option_values.specs.declared.parsed.Parsed.{Parsed}
+
+abbrev pub plainParsed : Valued → Room → Parsed
+plainParsed v room = record { value = v .value; list = replicate addressesMost noAddress; room = room; cursor = v .cursor }
+
+-- the option of the form f behind its name at a place, the pattern bytes before it in the room
+pub record Parses (f : Form Entry) (s : List ℕ) (at : ℕ) (room : Room) (r : Parsed) : Type 0 where
+  pub al : List Address
+  pub b : List ℕ
+  pub reads : Reads f s (Going at) (entryOf s (r .value) al b) (r .cursor)
+  pub kept : r .list ≡ padded addressesMost noAddress (take addressesMost al)
+  pub stored : r .room ≡ appended room b
+  pub apart : (n : ℕ) → r .cursor ≡ Going n → Apart s (r .value) al b
+  pub grown : (n : ℕ) → r .cursor ≡ Going n → at + length b ≤ n
+
+-- the form at a place of the table of options; behind its end any
+unfoldable pub nthForm : ℕ → List Option → Form Entry
+nthForm k [] = nameForm
+nthForm zero (o ∷ os) = o .form
+nthForm (suc k) (o ∷ os) = nthForm k os

@@ -1,0 +1,103 @@
+// The options whose values are lists: name, addresses and pattern.
+ghost use Prim.Native.Nat.{_≤_};
+ghost use lib.ListN.{length};
+ghost use Rattle.definitions.specs.Limits.{limits01};
+ghost use Rattle.definitions.specs.Forms.{nameForm, addressForm, patternForm};
+ghost use Rattle.option_values.specs.Parsing.{Parses};
+use crate::parsed::Parsed;
+use definitions::limits::ADDRESSES;
+use definitions::table::Address;
+use definitions::table::AddressTest;
+use definitions::table::Side;
+use entry::Room;
+use entry::Value;
+use scan::cursor::join;
+use scan::cursor::place;
+use scan::signs::closing_at;
+use scan::signs::gap_at;
+use scan::signs::mark_at;
+use values::addresses::addresses_at;
+use values::names::name_at;
+use values::patterns::pattern_at;
+
+pub fn name_option(s: &[u8], at: usize, room: Room) -> Parsed
+    requires { ⌜ at ≤ length (now s) ⌝ }
+    ensures { λ r. ⌜ Parses nameForm (now (s .entry)) at room r ⌝ }
+{
+    let c0 = gap_at(s, at);
+    let a1 = place(c0);
+    let n = name_at(s, a1);
+    let d1 = n.cursor;
+    let c1 = join(c0, d1);
+    let a2 = place(c1);
+    let d2 = closing_at(s, a2);
+    let cursor = join(c1, d2);
+    let none = Address {
+        number: 0,
+        prefix: 0,
+    };
+    Parsed {
+        value: Value::Name(n.from, n.len),
+        list: [none; ADDRESSES],
+        room,
+        cursor,
+    }
+}
+
+pub fn address_option(s: &[u8], at: usize, side: Side, room: Room) -> Parsed
+    requires { ⌜ at ≤ length (now s) ⌝ }
+    ensures { λ r. ⌜ Parses (addressForm side) (now (s .entry)) at room r ⌝ }
+{
+    let c0 = gap_at(s, at);
+    let a1 = place(c0);
+    let m = mark_at(s, a1, 33);
+    let d1 = m.cursor;
+    let c1 = join(c0, d1);
+    let a2 = place(c1);
+    let l = addresses_at(s, a2);
+    let d2 = l.cursor;
+    let c2 = join(c1, d2);
+    let a3 = place(c2);
+    let d3 = closing_at(s, a3);
+    let cursor = join(c2, d3);
+    let list = l.list;
+    Parsed {
+        value: Value::Addresses(AddressTest {
+            side,
+            negated: m.yes,
+            count: l.count,
+        }),
+        list,
+        room,
+        cursor,
+    }
+}
+
+pub fn pattern_option(s: &[u8], at: usize, room: Room) -> Parsed
+    requires { ⌜ (at ≤ length (now s)) × (length (now s) ≤ limits01 .text) × (room .used ≤ at) ⌝ }
+    ensures { λ r. ⌜ Parses patternForm (now (s .entry)) at room r ⌝ }
+{
+    let c0 = gap_at(s, at);
+    let a1 = place(c0);
+    let m = mark_at(s, a1, 33);
+    let d1 = m.cursor;
+    let c1 = join(c0, d1);
+    let a2 = place(c1);
+    let p = pattern_at(s, a2, room);
+    let d2 = p.cursor;
+    let c2 = join(c1, d2);
+    let a3 = place(c2);
+    let d3 = closing_at(s, a3);
+    let cursor = join(c2, d3);
+    let none = Address {
+        number: 0,
+        prefix: 0,
+    };
+    let after = p.room;
+    Parsed {
+        value: Value::Pattern(m.yes, p.len),
+        list: [none; ADDRESSES],
+        room: after,
+        cursor,
+    }
+}

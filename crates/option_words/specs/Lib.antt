@@ -1,0 +1,2 @@
+-- Names for the words in the options' forms.
+pub mod Words
