@@ -1,5 +1,11 @@
-// What the reader's scanning hands to its entering, by value: an option's value, and the pattern bytes read so far. Types only.
+// What the reader's scanning hands to its entering, by value: an option's value, and the pattern bytes read so far.
+ghost use mathlib.Core.Path.{_≡_};
+ghost use lib.ListN.{replicate};
+ghost use Rattle.definitions.specs.Limits.{addressesMost};
+ghost use Rattle.definitions.specs.Tables.{noAddress};
+use definitions::limits::ADDRESSES;
 use definitions::limits::PATTERN_BYTES;
+use definitions::table::Address;
 use definitions::table::AddressTest;
 use definitions::table::Context;
 use definitions::table::Flow;
@@ -26,4 +32,15 @@ pub enum Value {
 pub struct Room {
     pub bytes: [u8; PATTERN_BYTES],
     pub used: usize,
+}
+
+// The addresses beside a value that has none.
+pub fn no_addresses() -> [Address; ADDRESSES]
+    ensures { λ r. ⌜ r ≡ replicate addressesMost noAddress ⌝ }
+{
+    let none = Address {
+        number: 0,
+        prefix: 0,
+    };
+    [none; ADDRESSES]
 }

@@ -1,2 +1,3 @@
 -- Names and words.
 pub mod Same
+pub mod NameBytes

@@ -7,14 +7,12 @@ use native.Mathlib.Omega.{arith}
 use native.Mathlib.Numerals.{add-one}
 use lib.ListN.{length, getD, take, drop, length-take, length-drop, drop-of-length-le}
 use lib.Seq.{drop-cons, getD-take, getD-drop}
-use lib.Dec.{eqb, leb}
-use borrow.Author.Tests.{eq-eqb, ne-eqb, leb-true}
-use Rattle.forms.specs.Bytes.{between, lower, sameWord}
-use Rattle.forms.proofs.Bools.{by-cases, both-right}
-use Rattle.names.specs.Names.{placeIn}
-
-pub capital-low : (b : ℕ) → between 65 90 b ≡ true → b ≤ 90
-capital-low b e = leb-true b 90 (both-right (leb 65 b) (leb b 90) e)
+use lib.Dec.{eqb}
+use borrow.Author.Tests.{eq-eqb, ne-eqb}
+use Rattle.forms.specs.Bytes.{lower, sameWord}
+use Rattle.forms.proofs.Bools.{by-cases}
+use Rattle.definitions.specs.Options.{optionTable}
+use Rattle.names.specs.Names.{optionCount, namesOf, optionNames, placeIn}
 
 -- words of other lengths are not the same
 pub other-length : (x w : List ℕ) → (length x ≡ length w → ⊥) → sameWord x w ≡ false
@@ -69,6 +67,10 @@ module _ (ws : List (List ℕ)) (n : List ℕ) (k : ℕ) (h : k < length ws) (u 
 pub place-none : (ws : List (List ℕ)) (n : List ℕ) (k : ℕ) → length ws ≤ k → Place ws n k → k ≡ placeIn ws n
 unfolding placeIn
 place-none ws n k h u = let z : placeIn (drop k ws) n ≡ 0 = rw (drop-of-length-le ws {i = k} h) in omega (arith, u, z)
+
+pub names-count : length optionNames ≡ optionCount
+unfolding optionNames namesOf optionTable
+names-count = refl
 
 -- a number that is at least j and not j is more
 pub past : (j k : ℕ) → j ≤ k → (k ≡ j → ⊥) → j + 1 ≤ k

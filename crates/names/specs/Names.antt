@@ -4,6 +4,10 @@ use mathlib.Core.List.{List, [], _∷_}
 use Rattle.forms.specs.Bytes.{if_then_else_, sameWord}
 use Rattle.definitions.specs.Options.{Option, optionTable}
 
+-- how many options the table has (`names-count`)
+abbrev pub optionCount : ℕ
+optionCount = 22
+
 unfoldable pub namesOf : List Option → List (List ℕ)
 namesOf [] = []
 namesOf (o ∷ os) = o .name ∷ namesOf os

@@ -3,49 +3,20 @@ ghost use mathlib.Core.Path.{_≡_};
 ghost use Prim.Native.Nat.{_+_, _-_, _≤_, _<_};
 ghost use mathlib.Core.List.{[]};
 ghost use lib.ListN.{length, getD, take, drop};
-ghost use Rattle.forms.specs.Bytes.{lower, sameWord, run};
+ghost use Rattle.forms.specs.Bytes.{sameWord, run};
 ghost use Rattle.definitions.specs.Options.{inName};
-ghost use Rattle.names.specs.Names.{optionNames, placeIn};
-use scan::bytes::is_between;
-
-// A capital as its small letter, any other byte as it is.
-pub fn small(b: u8) -> u8
-    ensures { λ r. ⌜ r ≡ lower b ⌝ }
-{
-    if is_between(65, 90, b) { b + 32 } else { b }
-}
-
-// A letter, a digit, `_` or `.`.
-fn in_name(b: u8) -> bool
-    ensures { λ r. ⌜ r ≡ inName b ⌝ }
-{
-    let l = small(b);
-    if is_between(97, 122, l) {
-        return true;
-    }
-    if is_between(48, 57, b) {
-        return true;
-    }
-    if b == 95 {
-        return true;
-    }
-    b == 46
-}
+ghost use Rattle.names.specs.Names.{optionCount, optionNames, placeIn};
+use definitions::limits::OPTIONS;
+use letters::lower_of;
+use scan::bytes::Class;
+use scan::runs::run_of;
 
 // The place behind the longest run of a name's bytes.
 pub fn name_end(s: &[u8], at: usize) -> usize
     requires { ⌜ at ≤ length (now s) ⌝ }
     ensures { λ r. ⌜ r ≡ at + run inName (drop at (now (s .entry))) ⌝ }
 {
-    let mut i = at;
-    while i < s.len() {
-        let b = s[i];
-        if !in_name(b) {
-            return i;
-        }
-        i += 1;
-    }
-    i
+    run_of(s, at, Class::NameByte)
 }
 
 // Whether the bytes between two places are the word, their letter case ignored.
@@ -59,7 +30,7 @@ fn same_word(s: &[u8], from: usize, to: usize, w: &[u8]) -> bool
     let mut i = 0;
     while i < w.len() {
         let b = s[from + i];
-        let l = small(b);
+        let l = lower_of(b);
         if l != w[i] {
             return false;
         }
@@ -70,7 +41,7 @@ fn same_word(s: &[u8], from: usize, to: usize, w: &[u8]) -> bool
 
 // Whether the bytes between two places are the name at place k of the table.
 fn name_is(s: &[u8], from: usize, to: usize, k: usize) -> bool
-    requires { ⌜ (from ≤ to) × (to ≤ length (now s)) × (k < 22) ⌝ }
+    requires { ⌜ (from ≤ to) × (to ≤ length (now s)) × (k < optionCount) ⌝ }
     ensures { λ r. ⌜ r ≡ sameWord (take (to - from) (drop from (now (s .entry)))) (getD optionNames k []) ⌝ }
 {
     match k {
@@ -99,13 +70,13 @@ fn name_is(s: &[u8], from: usize, to: usize, k: usize) -> bool
     }
 }
 
-// The place in the table of the name between two places, or 22 where it is not listed.
+// The place in the table of the name between two places, or how many there are where it is not listed.
 pub fn name_place(s: &[u8], from: usize, to: usize) -> usize
     requires { ⌜ (from ≤ to) × (to ≤ length (now s)) ⌝ }
     ensures { λ r. ⌜ r ≡ placeIn optionNames (take (to - from) (drop from (now (s .entry)))) ⌝ }
 {
     let mut k = 0;
-    while k < 22 {
+    while k < OPTIONS {
         if name_is(s, from, to, k) {
             return k;
         }

@@ -5,19 +5,19 @@ ghost use Rattle.forms.specs.Pieces.{opt};
 ghost use Rattle.definitions.specs.Forms.{lessOrGreater, comparison};
 ghost use Rattle.definitions.specs.declared.table.Order.the-variants.{Equal};
 ghost use Rattle.scan.specs.Capped.{farAbove};
-ghost use Rattle.scan.specs.Reads.{Reads};
-ghost use Rattle.scan.specs.declared.cursor.Cursor.the-variants.{Going};
+ghost use Rattle.cursors.specs.Reads.{Reads};
+ghost use Rattle.cursors.specs.declared.Cursor.the-variants.{Going};
 ghost use Rattle.option_operators.specs.Operators.{sizeOrder, greater, masked};
 use definitions::table::Operator;
 use definitions::table::Order;
-use scan::cursor::Cursor;
-use scan::cursor::join;
-use scan::cursor::place;
-use scan::numbers::Numeric;
-use scan::numbers::numeral_at;
-use scan::signs::sign_at;
-use scan::signs::spaces_at;
-use scan::signs::stands;
+use cursors::Cursor;
+use cursors::join;
+use cursors::place;
+use pieces::numbers::Numeric;
+use pieces::numbers::numeral_at;
+use pieces::signs::sign_at;
+use pieces::signs::spaces_at;
+use pieces::signs::stands;
 
 pub struct OrderAt {
     pub order: Order,
@@ -34,13 +34,13 @@ pub fn order_at(s: &[u8], at: usize) -> OrderAt
     requires { ⌜ at ≤ length (now s) ⌝ }
     ensures { λ r. ⌜ Reads (opt Equal lessOrGreater) (now (s .entry)) (Going at) (r .order) (r .cursor) ⌝ }
 {
-    if stands(s, at, 60) {
+    if stands(s, at, b'<') {
         return OrderAt {
             order: Order::Less,
             cursor: Cursor::Going(at + 1),
         };
     }
-    if stands(s, at, 62) {
+    if stands(s, at, b'>') {
         return OrderAt {
             order: Order::Greater,
             cursor: Cursor::Going(at + 1),
@@ -57,19 +57,19 @@ pub fn size_order_at(s: &[u8], at: usize) -> OrderAt
     requires { ⌜ at ≤ length (now s) ⌝ }
     ensures { λ r. ⌜ Reads sizeOrder (now (s .entry)) (Going at) (r .order) (r .cursor) ⌝ }
 {
-    if stands(s, at, 60) {
+    if stands(s, at, b'<') {
         return OrderAt {
             order: Order::Less,
             cursor: Cursor::Going(at + 1),
         };
     }
-    if stands(s, at, 62) {
+    if stands(s, at, b'>') {
         return OrderAt {
             order: Order::Greater,
             cursor: Cursor::Going(at + 1),
         };
     }
-    if stands(s, at, 61) {
+    if stands(s, at, b'=') {
         return OrderAt {
             order: Order::Equal,
             cursor: Cursor::Going(at + 1),
@@ -86,20 +86,20 @@ pub fn comparison_at(s: &[u8], at: usize) -> OperatorAt
     requires { ⌜ at ≤ length (now s) ⌝ }
     ensures { λ r. ⌜ Reads comparison (now (s .entry)) (Going at) (r .operator) (r .cursor) ⌝ }
 {
-    if stands(s, at, 61) {
+    if stands(s, at, b'=') {
         return OperatorAt {
             operator: Operator::Equal,
             cursor: Cursor::Going(at + 1),
         };
     }
-    if stands(s, at, 33) {
+    if stands(s, at, b'!') {
         return OperatorAt {
             operator: Operator::Unequal,
-            cursor: sign_at(s, at + 1, 61),
+            cursor: sign_at(s, at + 1, b'='),
         };
     }
-    if stands(s, at, 60) {
-        if stands(s, at + 1, 61) {
+    if stands(s, at, b'<') {
+        if stands(s, at + 1, b'=') {
             return OperatorAt {
                 operator: Operator::AtMost,
                 cursor: Cursor::Going(at + 1 + 1),
@@ -118,9 +118,9 @@ fn greater_at(s: &[u8], at: usize) -> OperatorAt
     requires { ⌜ at ≤ length (now s) ⌝ }
     ensures { λ r. ⌜ Reads greater (now (s .entry)) (Going at) (r .operator) (r .cursor) ⌝ }
 {
-    let c = sign_at(s, at, 62);
+    let c = sign_at(s, at, b'>');
     let from = place(c);
-    if stands(s, from, 61) {
+    if stands(s, from, b'=') {
         return OperatorAt {
             operator: Operator::AtLeast,
             cursor: join(c, Cursor::Going(from + 1)),
@@ -137,7 +137,7 @@ pub fn mask_at(s: &[u8], at: usize, limit: u64) -> Numeric
     requires { ⌜ (at ≤ length (now s)) × (limit < farAbove) ⌝ }
     ensures { λ r. ⌜ Reads (masked limit) (now (s .entry)) (Going at) (r .value) (r .cursor) × (r .value ≤ limit) ⌝ }
 {
-    if stands(s, at, 38) {
+    if stands(s, at, b'&') {
         let from = spaces_at(s, at + 1);
         let n = numeral_at(s, from, limit);
         let c = n.cursor;

@@ -12,9 +12,9 @@ use Rattle.forms.proofs.Sound.{sound-loose}
 use Rattle.forms.proofs.Places.{begun}
 use Rattle.entry.specs.declared.Room.{Room}
 use Rattle.entry.specs.Values.{appended}
-use Rattle.scan.specs.declared.cursor.Cursor.{Cursor}
-use Rattle.scan.specs.declared.cursor.Cursor.the-variants.{Going, Over, Stopped}
-use Rattle.scan.specs.Reads.{readBy, joined, placeOf, Reads}
+use Rattle.cursors.specs.declared.Cursor.{Cursor}
+use Rattle.cursors.specs.declared.Cursor.the-variants.{Going, Over, Stopped}
+use Rattle.cursors.specs.Reads.{readBy, joined, placeOf, Reads}
 
 placeBy : {A : Type 0} → Read A → ℕ
 placeBy (Is v n) = n

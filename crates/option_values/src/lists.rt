@@ -5,17 +5,16 @@ ghost use Rattle.definitions.specs.Limits.{limits01};
 ghost use Rattle.definitions.specs.Forms.{nameForm, addressForm, patternForm};
 ghost use Rattle.option_values.specs.Parsing.{Parses};
 use crate::parsed::Parsed;
-use definitions::limits::ADDRESSES;
-use definitions::table::Address;
 use definitions::table::AddressTest;
 use definitions::table::Side;
 use entry::Room;
 use entry::Value;
-use scan::cursor::join;
-use scan::cursor::place;
-use scan::signs::closing_at;
-use scan::signs::gap_at;
-use scan::signs::mark_at;
+use entry::no_addresses;
+use cursors::join;
+use cursors::place;
+use pieces::signs::closing_at;
+use pieces::signs::gap_at;
+use pieces::signs::mark_at;
 use values::addresses::addresses_at;
 use values::names::name_at;
 use values::patterns::pattern_at;
@@ -24,6 +23,7 @@ pub fn name_option(s: &[u8], at: usize, room: Room) -> Parsed
     requires { ⌜ at ≤ length (now s) ⌝ }
     ensures { λ r. ⌜ Parses nameForm (now (s .entry)) at room r ⌝ }
 {
+    let list = no_addresses();
     let c0 = gap_at(s, at);
     let a1 = place(c0);
     let n = name_at(s, a1);
@@ -32,13 +32,9 @@ pub fn name_option(s: &[u8], at: usize, room: Room) -> Parsed
     let a2 = place(c1);
     let d2 = closing_at(s, a2);
     let cursor = join(c1, d2);
-    let none = Address {
-        number: 0,
-        prefix: 0,
-    };
     Parsed {
         value: Value::Name(n.from, n.len),
-        list: [none; ADDRESSES],
+        list,
         room,
         cursor,
     }
@@ -50,7 +46,7 @@ pub fn address_option(s: &[u8], at: usize, side: Side, room: Room) -> Parsed
 {
     let c0 = gap_at(s, at);
     let a1 = place(c0);
-    let m = mark_at(s, a1, 33);
+    let m = mark_at(s, a1, b'!');
     let d1 = m.cursor;
     let c1 = join(c0, d1);
     let a2 = place(c1);
@@ -77,9 +73,10 @@ pub fn pattern_option(s: &[u8], at: usize, room: Room) -> Parsed
     requires { ⌜ (at ≤ length (now s)) × (length (now s) ≤ limits01 .text) × (room .used ≤ at) ⌝ }
     ensures { λ r. ⌜ Parses patternForm (now (s .entry)) at room r ⌝ }
 {
+    let list = no_addresses();
     let c0 = gap_at(s, at);
     let a1 = place(c0);
-    let m = mark_at(s, a1, 33);
+    let m = mark_at(s, a1, b'!');
     let d1 = m.cursor;
     let c1 = join(c0, d1);
     let a2 = place(c1);
@@ -89,14 +86,10 @@ pub fn pattern_option(s: &[u8], at: usize, room: Room) -> Parsed
     let a3 = place(c2);
     let d3 = closing_at(s, a3);
     let cursor = join(c2, d3);
-    let none = Address {
-        number: 0,
-        prefix: 0,
-    };
     let after = p.room;
     Parsed {
         value: Value::Pattern(m.yes, p.len),
-        list: [none; ADDRESSES],
+        list,
         room: after,
         cursor,
     }

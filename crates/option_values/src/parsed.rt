@@ -5,8 +5,9 @@ use definitions::limits::ADDRESSES;
 use definitions::table::Address;
 use entry::Room;
 use entry::Value;
+use entry::no_addresses;
 use options::valued::Valued;
-use scan::cursor::Cursor;
+use cursors::Cursor;
 
 pub struct Parsed {
     pub value: Value,
@@ -19,15 +20,12 @@ pub struct Parsed {
 pub fn plain(v: Valued, room: Room) -> Parsed
     ensures { λ r. ⌜ r ≡ plainParsed v room ⌝ }
 {
-    let none = Address {
-        number: 0,
-        prefix: 0,
-    };
+    let list = no_addresses();
     let value = v.value;
     let cursor = v.cursor;
     Parsed {
         value,
-        list: [none; ADDRESSES],
+        list,
         room,
         cursor,
     }

@@ -6,14 +6,17 @@ ghost use lib.ListN.{length};
 ghost use Rattle.definitions.specs.Limits.{limits01};
 ghost use Rattle.definitions.specs.Options.{optionTable};
 ghost use Rattle.entry.specs.Values.{entryOf, Plain};
-ghost use Rattle.scan.specs.Reads.{Reads};
-ghost use Rattle.scan.specs.declared.cursor.Cursor.the-variants.{Going};
+ghost use Rattle.cursors.specs.Reads.{Reads};
+ghost use Rattle.cursors.specs.declared.Cursor.the-variants.{Going};
+ghost use Rattle.names.specs.Names.{optionCount};
 ghost use Rattle.option_values.specs.Parsing.{nthForm, Parses};
 use crate::lists::address_option;
 use crate::lists::name_option;
 use crate::lists::pattern_option;
 use crate::parsed::Parsed;
 use crate::parsed::plain;
+use definitions::limits::BYTE_MOST;
+use definitions::limits::WORD_MOST;
 use definitions::table::HeaderField;
 use definitions::table::NumberField;
 use definitions::table::Side;
@@ -34,22 +37,22 @@ use options::valued::Valued;
 
 // One of the options with nothing beside their value.
 fn plain_option(s: &[u8], at: usize, k: usize) -> Valued
-    requires { ⌜ (at ≤ length (now s)) × (k < 22) × (k ≡ 0 → ⊥) × (k ≡ 3 → ⊥) × (k ≡ 4 → ⊥) × (k ≡ 17 → ⊥) ⌝ }
+    requires { ⌜ (at ≤ length (now s)) × (k < optionCount) × (k ≡ 0 → ⊥) × (k ≡ 3 → ⊥) × (k ≡ 4 → ⊥) × (k ≡ 17 → ⊥) ⌝ }
     ensures { λ r. ⌜ Reads (nthForm k optionTable) (now (s .entry)) (Going at) (entryOf (now (s .entry)) (r .value) [] []) (r .cursor) × Plain (r .value) ⌝ }
 {
     match k {
         1 => protocol_option(s, at),
         2 => flow_option(s, at),
         5 => same_ip_option(s, at),
-        6 => number_option(s, at, NumberField::IpId, 65535),
-        7 => number_option(s, at, NumberField::SourcePort, 65535),
-        8 => number_option(s, at, NumberField::DestinationPort, 65535),
-        9 => number_option(s, at, NumberField::Tos, 255),
+        6 => number_option(s, at, NumberField::IpId, WORD_MOST),
+        7 => number_option(s, at, NumberField::SourcePort, WORD_MOST),
+        8 => number_option(s, at, NumberField::DestinationPort, WORD_MOST),
+        9 => number_option(s, at, NumberField::Tos, BYTE_MOST),
         10 => ttl_option(s, at),
-        11 => field_option(s, at, HeaderField::TotalLength, 65535),
-        12 => field_option(s, at, HeaderField::Id, 65535),
-        13 => field_option(s, at, HeaderField::Checksum, 65535),
-        14 => field_option(s, at, HeaderField::Ttl, 255),
+        11 => field_option(s, at, HeaderField::TotalLength, WORD_MOST),
+        12 => field_option(s, at, HeaderField::Id, WORD_MOST),
+        13 => field_option(s, at, HeaderField::Checksum, WORD_MOST),
+        14 => field_option(s, at, HeaderField::Ttl, BYTE_MOST),
         15 => size_option(s, at),
         16 => at_option(s, at),
         18 => context_option(s, at),
@@ -61,7 +64,7 @@ fn plain_option(s: &[u8], at: usize, k: usize) -> Valued
 
 // The option at place k of the table, read behind its name.
 pub fn option_by_place(s: &[u8], at: usize, k: usize, room: Room) -> Parsed
-    requires { ⌜ (at ≤ length (now s)) × (length (now s) ≤ limits01 .text) × (room .used ≤ at) × (k < 22) ⌝ }
+    requires { ⌜ (at ≤ length (now s)) × (length (now s) ≤ limits01 .text) × (room .used ≤ at) × (k < optionCount) ⌝ }
     ensures { λ r. ⌜ Parses (nthForm k optionTable) (now (s .entry)) at room r ⌝ }
 {
     match k {

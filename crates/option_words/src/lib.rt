@@ -1,21 +1,23 @@
 // The words of options' values. The first letter decides which word must stand; where two words begin alike, the letter behind does.
 ghost use Prim.Native.Nat.{_≤_};
 ghost use lib.ListN.{length};
-ghost use Rattle.scan.specs.Reads.{Reads};
-ghost use Rattle.scan.specs.declared.cursor.Cursor.the-variants.{Going};
+ghost use Rattle.cursors.specs.Reads.{Reads};
+ghost use Rattle.cursors.specs.declared.Cursor.the-variants.{Going};
+ghost use Rattle.definitions.specs.Limits.{byteMost};
 ghost use Rattle.definitions.specs.Forms.{referenceWord};
 ghost use Rattle.option_words.specs.Words.{protocolValue, flowWord, contextWord, hWord, bWord, sizeWord};
+use definitions::limits::BYTE_MOST;
 use definitions::table::Context;
 use definitions::table::Flow;
 use definitions::table::Reference;
 use definitions::table::SizeField;
-use scan::cursor::Cursor;
-use scan::cursor::join;
-use scan::cursor::place;
-use scan::numbers::Numeric;
-use scan::numbers::number_at;
-use scan::signs::starts;
-use scan::words::word_at;
+use cursors::Cursor;
+use cursors::join;
+use cursors::place;
+use pieces::numbers::Numeric;
+use pieces::numbers::number_at;
+use pieces::signs::starts;
+use pieces::words::word_at;
 
 pub struct FlowAt {
     pub flow: Flow,
@@ -40,7 +42,7 @@ pub struct ReferenceAt {
 // `tcp`, `udp`, `icmp` or a number.
 pub fn protocol_at(s: &[u8], at: usize) -> Numeric
     requires { ⌜ at ≤ length (now s) ⌝ }
-    ensures { λ r. ⌜ Reads protocolValue (now (s .entry)) (Going at) (r .value) (r .cursor) × (r .value ≤ 255) ⌝ }
+    ensures { λ r. ⌜ Reads protocolValue (now (s .entry)) (Going at) (r .value) (r .cursor) × (r .value ≤ byteMost) ⌝ }
 {
     if starts(s, at, b't') {
         let cursor = word_at(s, at, b"tcp");
@@ -54,7 +56,7 @@ pub fn protocol_at(s: &[u8], at: usize) -> Numeric
         let cursor = word_at(s, at, b"icmp");
         return Numeric { value: 1, cursor };
     }
-    number_at(s, at, 255)
+    number_at(s, at, BYTE_MOST)
 }
 
 // `from_client` or `from_server`.

@@ -1,8 +1,8 @@
 // What may follow a number behind a comma.
 ghost use Prim.Native.Nat.{_≤_};
 ghost use lib.ListN.{length};
-ghost use Rattle.scan.specs.Reads.{Reads};
-ghost use Rattle.scan.specs.declared.cursor.Cursor.the-variants.{Going};
+ghost use Rattle.cursors.specs.Reads.{Reads};
+ghost use Rattle.cursors.specs.declared.Cursor.the-variants.{Going};
 ghost use Rattle.options.specs.Parts.{sizeField, relative, reference, reversed, directed};
 use option_words::ReferenceAt;
 use option_words::SizeFieldAt;
@@ -10,12 +10,12 @@ use option_words::reference_at;
 use option_words::size_word_at;
 use definitions::table::Reference;
 use definitions::table::SizeField;
-use scan::cursor::Cursor;
-use scan::cursor::join;
-use scan::cursor::place;
-use scan::signs::Mark;
-use scan::signs::stands;
-use scan::words::word_at;
+use cursors::Cursor;
+use cursors::join;
+use cursors::place;
+use pieces::signs::Mark;
+use pieces::signs::stands;
+use pieces::words::word_at;
 
 pub struct DirectedAt {
     pub reference: Reference,
@@ -28,7 +28,7 @@ pub fn size_field_at(s: &[u8], at: usize) -> SizeFieldAt
     requires { ⌜ at ≤ length (now s) ⌝ }
     ensures { λ r. ⌜ Reads sizeField (now (s .entry)) (Going at) (r .field) (r .cursor) ⌝ }
 {
-    if stands(s, at, 44) {
+    if stands(s, at, b',') {
         return size_word_at(s, at + 1);
     }
     SizeFieldAt {
@@ -42,7 +42,7 @@ pub fn relative_at(s: &[u8], at: usize) -> Mark
     requires { ⌜ at ≤ length (now s) ⌝ }
     ensures { λ r. ⌜ Reads relative (now (s .entry)) (Going at) (r .yes) (r .cursor) ⌝ }
 {
-    if stands(s, at, 44) {
+    if stands(s, at, b',') {
         return Mark {
             yes: true,
             cursor: word_at(s, at + 1, b"relative"),
@@ -55,11 +55,11 @@ pub fn relative_at(s: &[u8], at: usize) -> Mark
 }
 
 // Optional `,reverse`.
-pub fn reverse_at(s: &[u8], at: usize) -> Mark
+fn reverse_at(s: &[u8], at: usize) -> Mark
     requires { ⌜ at ≤ length (now s) ⌝ }
     ensures { λ r. ⌜ Reads reversed (now (s .entry)) (Going at) (r .yes) (r .cursor) ⌝ }
 {
-    if stands(s, at, 44) {
+    if stands(s, at, b',') {
         return Mark {
             yes: true,
             cursor: word_at(s, at + 1, b"reverse"),
@@ -76,7 +76,7 @@ pub fn comma_reference_at(s: &[u8], at: usize) -> ReferenceAt
     requires { ⌜ at ≤ length (now s) ⌝ }
     ensures { λ r. ⌜ Reads reference (now (s .entry)) (Going at) (r .reference) (r .cursor) ⌝ }
 {
-    if stands(s, at, 44) {
+    if stands(s, at, b',') {
         return reference_at(s, at + 1);
     }
     ReferenceAt {
@@ -90,7 +90,7 @@ pub fn directed_at(s: &[u8], at: usize) -> DirectedAt
     requires { ⌜ at ≤ length (now s) ⌝ }
     ensures { λ r. ⌜ Reads directed (now (s .entry)) (Going at) (r .reference, r .reverse) (r .cursor) ⌝ }
 {
-    if stands(s, at, 44) {
+    if stands(s, at, b',') {
         let r = reference_at(s, at + 1);
         let c = r.cursor;
         let from = place(c);

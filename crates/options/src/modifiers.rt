@@ -3,23 +3,25 @@ ghost use mathlib.Core.Path.{_≡_};
 ghost use mathlib.Core.List.{[]};
 ghost use Prim.Native.Nat.{_≤_};
 ghost use lib.ListN.{length};
+ghost use Rattle.definitions.specs.Limits.{wordMost};
 ghost use Rattle.definitions.specs.Forms.{contextForm, noCaseForm, signed, distanceForm, withinForm};
 ghost use Rattle.entry.specs.Values.{entryOf, Plain};
-ghost use Rattle.scan.specs.Reads.{Reads};
-ghost use Rattle.scan.specs.declared.cursor.Cursor.the-variants.{Going};
+ghost use Rattle.cursors.specs.Reads.{Reads};
+ghost use Rattle.cursors.specs.declared.Cursor.the-variants.{Going};
 use crate::commas::comma_reference_at;
 use crate::commas::directed_at;
 use crate::valued::Valued;
 use option_words::context_at;
+use definitions::limits::WORD_MOST;
 use definitions::table::Reach;
 use definitions::table::Shift;
 use entry::Value;
-use scan::cursor::join;
-use scan::cursor::place;
-use scan::numbers::number_at;
-use scan::signs::closing_at;
-use scan::signs::gap_at;
-use scan::signs::mark_at;
+use cursors::join;
+use cursors::place;
+use pieces::numbers::number_at;
+use pieces::signs::closing_at;
+use pieces::signs::gap_at;
+use pieces::signs::mark_at;
 
 pub fn context_option(s: &[u8], at: usize) -> Valued
     requires { ⌜ at ≤ length (now s) ⌝ }
@@ -52,7 +54,7 @@ pub fn no_case_option(s: &[u8], at: usize) -> Valued
 
 // `-` and a number of at most 16 bits.
 fn signed_of(minus: bool, n: u64) -> i32
-    requires { ⌜ n ≤ 65535 ⌝ }
+    requires { ⌜ n ≤ wordMost ⌝ }
     ensures { λ r. ⌜ r ≡ signed minus n ⌝ }
 {
     let v = n as i32;
@@ -65,11 +67,11 @@ pub fn distance_option(s: &[u8], at: usize) -> Valued
 {
     let c0 = gap_at(s, at);
     let a1 = place(c0);
-    let m = mark_at(s, a1, 45);
+    let m = mark_at(s, a1, b'-');
     let d1 = m.cursor;
     let c1 = join(c0, d1);
     let a2 = place(c1);
-    let n = number_at(s, a2, 65535);
+    let n = number_at(s, a2, WORD_MOST);
     let d2 = n.cursor;
     let c2 = join(c1, d2);
     let a3 = place(c2);
@@ -97,7 +99,7 @@ pub fn within_option(s: &[u8], at: usize) -> Valued
 {
     let c0 = gap_at(s, at);
     let a1 = place(c0);
-    let n = number_at(s, a1, 65535);
+    let n = number_at(s, a1, WORD_MOST);
     let d1 = n.cursor;
     let c1 = join(c0, d1);
     let a2 = place(c1);

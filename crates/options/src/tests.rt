@@ -2,11 +2,12 @@
 ghost use mathlib.Core.List.{[]};
 ghost use Prim.Native.Nat.{_≤_};
 ghost use lib.ListN.{length};
+ghost use Rattle.definitions.specs.Limits.{wordMost};
 ghost use Rattle.definitions.specs.Forms.{sameIpForm, ttlForm, sizeForm, atForm};
 ghost use Rattle.options.specs.Parts.{numberWithin, fieldWithin};
 ghost use Rattle.entry.specs.Values.{entryOf, Plain};
-ghost use Rattle.scan.specs.Reads.{Reads};
-ghost use Rattle.scan.specs.declared.cursor.Cursor.the-variants.{Going};
+ghost use Rattle.cursors.specs.Reads.{Reads};
+ghost use Rattle.cursors.specs.declared.Cursor.the-variants.{Going};
 use crate::commas::relative_at;
 use crate::commas::size_field_at;
 use option_operators::comparison_at;
@@ -14,6 +15,8 @@ use option_operators::mask_at;
 use option_operators::order_at;
 use option_operators::size_order_at;
 use crate::valued::Valued;
+use definitions::limits::BYTE_MOST;
+use definitions::limits::WORD_MOST;
 use definitions::table::AtTest;
 use definitions::table::FieldTest;
 use definitions::table::HeaderField;
@@ -23,14 +26,14 @@ use definitions::table::NumberTest;
 use definitions::table::SizeTest;
 use definitions::table::TtlTest;
 use entry::Value;
-use scan::cursor::Cursor;
-use scan::cursor::join;
-use scan::cursor::place;
-use scan::numbers::number_at;
-use scan::numbers::numeral_at;
-use scan::signs::closing_at;
-use scan::signs::gap_at;
-use scan::signs::spaces_at;
+use cursors::Cursor;
+use cursors::join;
+use cursors::place;
+use pieces::numbers::number_at;
+use pieces::numbers::numeral_at;
+use pieces::signs::closing_at;
+use pieces::signs::gap_at;
+use pieces::signs::spaces_at;
 
 pub fn same_ip_option(s: &[u8], at: usize) -> Valued
     requires { ⌜ at ≤ length (now s) ⌝ }
@@ -44,7 +47,7 @@ pub fn same_ip_option(s: &[u8], at: usize) -> Valued
 
 // ip_id, src_port, dst_port and ip_tos, whose limit the caller names.
 pub fn number_option(s: &[u8], at: usize, field: NumberField, limit: u64) -> Valued
-    requires { ⌜ (at ≤ length (now s)) × (limit ≤ 65535) ⌝ }
+    requires { ⌜ (at ≤ length (now s)) × (limit ≤ wordMost) ⌝ }
     ensures { λ r. ⌜ Reads (numberWithin field limit) (now (s .entry)) (Going at) (entryOf (now (s .entry)) (r .value) [] []) (r .cursor) × Plain (r .value) ⌝ }
 {
     let c0 = gap_at(s, at);
@@ -72,7 +75,7 @@ pub fn ttl_option(s: &[u8], at: usize) -> Valued
     let d1 = o.cursor;
     let c1 = join(c0, d1);
     let a2 = place(c1);
-    let n = number_at(s, a2, 255);
+    let n = number_at(s, a2, BYTE_MOST);
     let d2 = n.cursor;
     let c2 = join(c1, d2);
     let a3 = place(c2);
@@ -88,7 +91,7 @@ pub fn ttl_option(s: &[u8], at: usize) -> Valued
 
 // ip.total_length, ip.id, ip.checksum and ip.ttl, whose limit the caller names.
 pub fn field_option(s: &[u8], at: usize, field: HeaderField, limit: u64) -> Valued
-    requires { ⌜ (at ≤ length (now s)) × (limit ≤ 65535) ⌝ }
+    requires { ⌜ (at ≤ length (now s)) × (limit ≤ wordMost) ⌝ }
     ensures { λ r. ⌜ Reads (fieldWithin field limit) (now (s .entry)) (Going at) (entryOf (now (s .entry)) (r .value) [] []) (r .cursor) × Plain (r .value) ⌝ }
 {
     let c0 = gap_at(s, at);
@@ -134,7 +137,7 @@ pub fn size_option(s: &[u8], at: usize) -> Valued
     let d1 = o.cursor;
     let c1 = join(c0, d1);
     let a2 = place(c1);
-    let n = number_at(s, a2, 65535);
+    let n = number_at(s, a2, WORD_MOST);
     let d2 = n.cursor;
     let c2 = join(c1, d2);
     let a3 = place(c2);
@@ -163,7 +166,7 @@ pub fn at_option(s: &[u8], at: usize) -> Valued
 {
     let c0 = gap_at(s, at);
     let a1 = place(c0);
-    let n = number_at(s, a1, 65535);
+    let n = number_at(s, a1, WORD_MOST);
     let d1 = n.cursor;
     let c1 = join(c0, d1);
     let a2 = place(c1);

@@ -9,7 +9,8 @@ use Rattle.forms.specs.Place.{readAt}
 use Rattle.forms.proofs.Bools.{by-cases}
 use Rattle.definitions.specs.Options.{Option, optionTable, inName, unlisted, listed, parsed, nameLength, optionAt}
 use Rattle.scan.proofs.Running.{run-le}
-use Rattle.names.specs.Names.{namesOf, optionNames, placeIn}
+use Rattle.names.specs.Names.{optionCount, namesOf, optionNames, placeIn}
+use Rattle.names.proofs.Same.{names-count}
 use Rattle.option_values.specs.Parsing.{nthForm}
 
 nth-listed : (os : List Option) (n s : List ℕ) (at : ℕ) → placeIn (namesOf os) n < length (namesOf os) → parsed os n s at ≡ listed (readAt (nthForm (placeIn (namesOf os) n) os) s at)
@@ -28,10 +29,6 @@ nth-none (o ∷ os) n s at h =
     (λ t. absurd (let g : suc (length (namesOf os)) ≤ 0 = rw t at h in omega (arith, g)))
     (λ t. rw t (nth-none os n s at (let g : suc (length (namesOf os)) ≤ suc (placeIn (namesOf os) n) = rw t at h in omega (arith, g))))
 
-names-count : length optionNames ≡ 22
-unfolding optionNames namesOf optionTable
-names-count = refl
-
 module _ (s : List ℕ) (at to k : ℕ) (e : to ≡ at + 2 + run inName (drop (at + 2) s)) (f : k ≡ placeIn optionNames (take (to - (at + 2)) (drop (at + 2) s))) where
   counted : to - (at + 2) ≡ nameLength s (at + 2)
   counted = omega (arith, e)
@@ -40,16 +37,16 @@ module _ (s : List ℕ) (at to k : ℕ) (e : to ≡ at + 2 + run inName (drop (a
   unfolding optionNames
   place = f ∙ ap (λ (n : ℕ). placeIn (namesOf optionTable) (take n (drop (at + 2) s))) counted
 
-  count : length (namesOf optionTable) ≡ 22
+  count : length (namesOf optionTable) ≡ optionCount
   unfolding optionNames
   count = names-count
 
-  pub option-listed : k < 22 → optionAt s at ≡ listed (readAt (nthForm k optionTable) s to)
+  pub option-listed : k < optionCount → optionAt s at ≡ listed (readAt (nthForm k optionTable) s to)
   unfolding optionAt
   option-listed h =
       rw (place, e) (nth-listed optionTable (take (nameLength s (at + 2)) (drop (at + 2) s)) s (at + 2 + nameLength s (at + 2)) (omega (arith, count, place, h)))
 
-  pub option-unlisted : 22 ≤ k → optionAt s at ≡ unlisted
+  pub option-unlisted : optionCount ≤ k → optionAt s at ≡ unlisted
   unfolding optionAt
   option-unlisted h = nth-none optionTable (take (nameLength s (at + 2)) (drop (at + 2) s)) s (at + 2 + nameLength s (at + 2)) (omega (arith, count, place, h))
 

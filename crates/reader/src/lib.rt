@@ -16,20 +16,24 @@ use definitions::limits::TEXT_BYTES;
 use enter::finish;
 use enter::judging::refused;
 use reader_state::fresh;
-use scan::bytes::is_between;
+use scan::bytes::Class;
+use scan::runs::run_of;
 
 mod turns;
 
+// The bytes of `F-SBID(`.
+const OPENING_BYTES: usize = 7;
+
 // The options of a text, from behind `F-SBID(` on.
 fn read_options(s: &[u8]) -> Reading
-    requires { ⌜ (7 ≤ length (now s)) × (length (now s) ≤ limits01 .text) ⌝ }
-    ensures { λ r. ⌜ r ≡ finished (limits01 .room) (now (s .entry)) (options (now (s .entry)) (drop 7 (now (s .entry))) 0 7 []) ⌝ }
+    requires { ⌜ (length opening ≤ length (now s)) × (length (now s) ≤ limits01 .text) ⌝ }
+    ensures { λ r. ⌜ r ≡ finished (limits01 .room) (now (s .entry)) (options (now (s .entry)) (drop (length opening) (now (s .entry))) 0 (length opening) []) ⌝ }
 {
     let mut st = fresh();
-    let mut at = 7;
+    let mut at = OPENING_BYTES;
     while at < s.len() {
         let b = s[at];
-        if b == 32 {
+        if b == b' ' {
             at += 1;
         } else {
             let t = turn_at(s, st, at);
@@ -56,15 +60,7 @@ fn read_options(s: &[u8]) -> Reading
 fn printable_run(s: &[u8]) -> usize
     ensures { λ r. ⌜ r ≡ run printable (now (s .entry)) ⌝ }
 {
-    let mut i = 0;
-    while i < s.len() {
-        let b = s[i];
-        if !is_between(32, 126, b) {
-            return i;
-        }
-        i += 1;
-    }
-    i
+    run_of(s, 0, Class::Printable)
 }
 
 // Whether `F-SBID(` stands at the front.
@@ -72,11 +68,11 @@ fn is_opened(s: &[u8]) -> bool
     ensures { λ r. ⌜ r ≡ isOpened (now (s .entry)) ⌝ }
 {
     let w = b"F-SBID(";
-    if s.len() < 7 {
+    if s.len() < OPENING_BYTES {
         return false;
     }
     let mut i = 0;
-    while i < 7 {
+    while i < OPENING_BYTES {
         if s[i] != w[i] {
             return false;
         }

@@ -6,12 +6,13 @@ ghost use Rattle.definitions.specs.Reading.{dashes};
 ghost use Rattle.reader.specs.Turning.{Turnable, Turns, turnBy, closingTurn, Placed, Goes};
 use definitions::answers::Due;
 use definitions::answers::Refusal;
+use definitions::limits::OPTIONS;
 use enter::enter;
 use names::name_end;
 use names::name_place;
 use option_values::places::option_by_place;
 use reader_state::State;
-use scan::cursor::Cursor;
+use cursors::Cursor;
 
 // On to a place, the end of the text, or a refusal and its place.
 pub enum Turn {
@@ -26,14 +27,14 @@ pub struct Turned {
 }
 
 // The option whose first dash stands at the place.
-pub fn option_turn(s: &[u8], st: State, at: usize) -> Turned
+fn option_turn(s: &[u8], st: State, at: usize) -> Turned
     requires { ⌜ Turnable (now s) st at ⌝ }
     ensures { λ r. ⌜ Turns (now (s .entry)) st at r ⌝ }
 {
     let from = at + 2;
     let to = name_end(s, from);
     let k = name_place(s, from, to);
-    if 22 <= k {
+    if OPTIONS <= k {
         return Turned {
             turn: Turn::Refused(Refusal::NotListed, at),
             state: st,
@@ -82,7 +83,7 @@ pub fn turn_at(s: &[u8], st: State, at: usize) -> Turned
     ensures { λ r. ⌜ Goes (now (s .entry)) st at r ⌝ }
 {
     let b = s[at];
-    if b == 41 {
+    if b == b')' {
         return Turned {
             turn: closing_turn(at + 1, s.len()),
             state: st,
@@ -113,10 +114,10 @@ fn dashes_at(s: &[u8], at: usize) -> bool
     requires { ⌜ at < length (now s) ⌝ }
     ensures { λ r. ⌜ r ≡ dashes (drop at (now (s .entry))) ⌝ }
 {
-    if s[at] == 45 {
+    if s[at] == b'-' {
         let next = at + 1;
         if next < s.len() {
-            return s[next] == 45;
+            return s[next] == b'-';
         }
     }
     false

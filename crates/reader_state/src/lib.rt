@@ -7,12 +7,10 @@ ghost use Rattle.definitions.specs.Tables.{bare};
 ghost use Rattle.reader_state.specs.State.{stateOf};
 use definitions::answers::Due;
 use definitions::answers::Refusal;
-use definitions::limits::ADDRESSES;
 use definitions::limits::ITEMS;
 use definitions::limits::NAME_BYTES;
 use definitions::limits::PATTERN_BYTES;
 use definitions::limits::PATTERNS;
-use definitions::table::Address;
 use definitions::table::Context;
 use definitions::table::Distance;
 use definitions::table::Flow;
@@ -21,6 +19,7 @@ use definitions::table::Pattern;
 use definitions::table::Slot;
 use definitions::table::Within;
 use entry::Room;
+use entry::no_addresses;
 
 // Which options were given that may stand once; of the modifiers, behind the last pattern.
 pub struct Given {
@@ -60,13 +59,10 @@ pub struct Entered {
 pub fn fresh() -> State
     ensures { λ r. ⌜ r ≡ stateOf (limits01 .room) [] ⌝ }
 {
-    let none = Address {
-        number: 0,
-        prefix: 0,
-    };
+    let addresses = no_addresses();
     let slot = Slot {
         item: Item::Unused,
-        addresses: [none; ADDRESSES],
+        addresses,
     };
     let room = Room {
         bytes: [0u8; PATTERN_BYTES],

@@ -1,9 +1,5 @@
--- How readings go together.
-pub mod Readings
+-- Classes, runs and sums of digits.
 pub mod Tests
 pub mod Cases
 pub mod Running
-pub mod AtPlace
 pub mod Counting
-pub mod Wording
-pub mod Numerals

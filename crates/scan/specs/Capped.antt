@@ -1,17 +1,10 @@
--- Above every limit all numbers read as one; digits as a number.
+-- Above every limit all numbers read as one.
 use Prim.Native.Nat.{ℕ}
-use lib.Dec.{ltb, leb}
+use lib.Dec.{ltb}
 use Rattle.forms.specs.Bytes.{if_then_else_}
-use Rattle.forms.specs.Form.{Class, Form, byte, made, bound}
-use Rattle.forms.specs.Pieces.{some}
-use Rattle.definitions.specs.Numbers.{valueOf}
 
 abbrev pub farAbove : ℕ
 farAbove = 4294967296
 
 abbrev pub capped : ℕ → ℕ
 capped v = if ltb v farAbove then v else farAbove
-
--- digits of a class as a number in a base, up to a limit; as Numbers.number, over the class and the base
-abbrev pub digitsWithin : Class → ℕ → ℕ → Form ℕ
-digitsWithin c base limit = bound (λ (n : ℕ). leb n limit) (λ (n : ℕ). 0) (made (valueOf base 0) (some (byte c)))

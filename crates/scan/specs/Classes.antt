@@ -6,13 +6,15 @@ use Rattle.forms.specs.Form as forms
 use Rattle.definitions.specs.Numbers.{decimalDigits, hexDigits}
 use Rattle.definitions.specs.Forms.{quotable}
 use Rattle.scan.specs.declared.bytes.Class.{Class}
-use Rattle.scan.specs.declared.bytes.Class.the-variants.{Space, Digit, HexDigit, Quotable}
+use Rattle.scan.specs.declared.bytes.Class.the-variants.{Space, Digit, HexDigit, Quotable, NameByte, Printable}
 
 abbrev pub classOf : Class → forms.Class
 classOf Space = (32, 32) ∷ []
 classOf Digit = decimalDigits
 classOf HexDigit = hexDigits
 classOf Quotable = quotable
+classOf NameByte = (65, 90) ∷ (97, 122) ∷ (48, 57) ∷ (95, 95) ∷ (46, 46) ∷ []
+classOf Printable = (32, 126) ∷ []
 
 -- as Pieces.anyCase
 abbrev pub caseClass : ℕ → forms.Class

@@ -1,4 +1,3 @@
--- What the scanners promise.
-pub mod Reads
+-- Classes of bytes, and the number far above.
 pub mod Classes
 pub mod Capped

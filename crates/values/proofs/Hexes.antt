@@ -15,11 +15,12 @@ use Rattle.forms.proofs.Bools.{by-cases}
 use Rattle.forms.proofs.Sound.{never}
 use Rattle.definitions.specs.Numbers.{hexDigits, digitValue, valueOf}
 use Rattle.definitions.specs.Forms.{hexPair}
-use Rattle.scan.specs.declared.cursor.Cursor.the-variants.{Going, Stopped}
+use Rattle.cursors.specs.declared.Cursor.the-variants.{Going, Stopped}
+use Rattle.definitions.specs.Limits.{byteMost}
 use Rattle.scan.specs.Capped.{farAbove, capped}
-use Rattle.scan.specs.Reads.{Reads}
-use Rattle.scan.proofs.Readings.{made-reads, pair-reads, stopped-reads}
-use Rattle.scan.proofs.AtPlace.{begins-at, begins-in, byte-begun, byte-none}
+use Rattle.cursors.specs.Reads.{Reads}
+use Rattle.cursors.proofs.Readings.{made-reads, pair-reads, stopped-reads}
+use Rattle.pieces.proofs.AtPlace.{begins-at, begins-in, byte-begun, byte-none}
 use Rattle.values.proofs.Steps.{stopped-any, begun-in}
 
 digit-small : (b : ℕ) → has hexDigits b ≡ true → digitValue b ≤ 15
@@ -75,7 +76,7 @@ module _ (s : List ℕ) (at : ℕ) where
           let q : v ≡ capped ((0 * 16 + digitValue (getD s at 0)) * 16 + digitValue (getD s (at + 1) 0)) = rw two at e in
           q ∙ rw (lt-ltb ((0 * 16 + digitValue (getD s at 0)) * 16 + digitValue (getD s (at + 1) 0)) farAbove (omega arith)) (omega arith)
 
-      pub pair-fits : (v : ℕ) → v ≡ capped (valueOf 16 0 (take (at + 2 - at) (drop at s))) → v ≤ 255
+      pub pair-fits : (v : ℕ) → v ≡ capped (valueOf 16 0 (take (at + 2 - at) (drop at s))) → v ≤ byteMost
       pair-fits v e = omega (arith, written v e, digit at t, digit (at + 1) u)
 
       pub pair-whole : (v : ℕ) → v ≡ capped (valueOf 16 0 (take (at + 2 - at) (drop at s))) → Reads hexPair s (Going at) v (Going (at + 2))

@@ -11,11 +11,12 @@ ghost use Rattle.values.specs.Listing.{listed, goesAt, Lists};
 use crate::dotted::address_at;
 use definitions::limits::ADDRESSES;
 use definitions::table::Address;
-use scan::cursor::Cursor;
-use scan::cursor::join;
-use scan::cursor::place;
-use scan::signs::sign_at;
-use scan::signs::stands;
+use entry::no_addresses;
+use cursors::Cursor;
+use cursors::join;
+use cursors::place;
+use pieces::signs::sign_at;
+use pieces::signs::stands;
 
 pub struct AddressesAt {
     pub list: [Address; ADDRESSES],
@@ -42,10 +43,7 @@ fn kept(row: Row, count: usize, a: Address) -> Row
 fn one_kept(a: Address) -> Row
     ensures { λ r. ⌜ r .list ≡ padded addressesMost noAddress (a ∷ []) ⌝ }
 {
-    let list = [Address {
-        number: 0,
-        prefix: 0,
-    }; ADDRESSES];
+    let list = no_addresses();
     kept(Row { list: list }, 0, a)
 }
 
@@ -71,7 +69,7 @@ fn list_at(s: &[u8], at: usize) -> AddressesAt
     let mut count = 1;
     let mut c = first.cursor;
     loop {
-        if !goes_with(s, c, 44) {
+        if !goes_with(s, c, b',') {
             let list = row.list;
             return AddressesAt {
                 list: list,
@@ -94,12 +92,12 @@ pub fn addresses_at(s: &[u8], at: usize) -> AddressesAt
     requires { ⌜ at ≤ length (now s) ⌝ }
     ensures { λ r. ⌜ Lists addresses (now (s .entry)) at (r .list) (r .count) (r .cursor) ⌝ }
 {
-    if stands(s, at, 91) {
+    if stands(s, at, b'[') {
         let l = list_at(s, at + 1);
         let list = l.list;
         let c1 = l.cursor;
         let closing = place(c1);
-        let bracket = sign_at(s, closing, 93);
+        let bracket = sign_at(s, closing, b']');
         let c2 = join(c1, bracket);
         AddressesAt {
             list: list,

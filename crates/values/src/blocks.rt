@@ -8,18 +8,18 @@ ghost use Rattle.definitions.specs.Limits.{limits01};
 ghost use Rattle.definitions.specs.Numbers.{hexDigits};
 ghost use Rattle.definitions.specs.Forms.{hexPair, block};
 ghost use Rattle.entry.specs.Values.{appended};
-ghost use Rattle.scan.specs.Reads.{Reads};
-ghost use Rattle.scan.specs.declared.cursor.Cursor.the-variants.{Going};
+ghost use Rattle.cursors.specs.Reads.{Reads};
+ghost use Rattle.cursors.specs.declared.Cursor.the-variants.{Going};
 ghost use Rattle.values.specs.Storing.{pairs, Ready, Stores};
 use entry::Room;
 use scan::bytes::Class;
 use scan::bytes::in_class;
-use scan::cursor::Cursor;
-use scan::cursor::join;
-use scan::cursor::place;
+use cursors::Cursor;
+use cursors::join;
+use cursors::place;
 use scan::numbers::value_of;
-use scan::signs::sign_at;
-use scan::signs::spaces_at;
+use pieces::signs::sign_at;
+use pieces::signs::spaces_at;
 
 pub struct BytesAt {
     pub room: Room,
@@ -112,7 +112,7 @@ pub fn block_at(s: &[u8], at: usize, room: Room) -> BytesAt
     requires { ⌜ Ready (now s) at room ⌝ }
     ensures { λ r. ⌜ Stores block (now (s .entry)) at room (r .room) (r .cursor) ⌝ }
 {
-    let c1 = sign_at(s, at, 124);
+    let c1 = sign_at(s, at, b'|');
     let a1 = place(c1);
     let from = spaces_at(s, a1);
     let c2 = join(c1, Cursor::Going(from));
@@ -121,7 +121,7 @@ pub fn block_at(s: &[u8], at: usize, room: Room) -> BytesAt
     let d = p.cursor;
     let c3 = join(c2, d);
     let a3 = place(c3);
-    let bar = sign_at(s, a3, 124);
+    let bar = sign_at(s, a3, b'|');
     let c4 = join(c3, bar);
     let to = p.room;
     BytesAt {

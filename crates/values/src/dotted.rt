@@ -5,16 +5,18 @@ ghost use lib.ListN.{length};
 ghost use Rattle.definitions.specs.Limits.{byteMost};
 ghost use Rattle.definitions.specs.Numbers.{number};
 ghost use Rattle.definitions.specs.Forms.{dotted, address};
-ghost use Rattle.scan.specs.Reads.{Reads};
-ghost use Rattle.scan.specs.declared.cursor.Cursor.the-variants.{Going};
+ghost use Rattle.cursors.specs.Reads.{Reads};
+ghost use Rattle.cursors.specs.declared.Cursor.the-variants.{Going};
 ghost use Rattle.values.specs.Listing.{prefixed};
+use definitions::limits::BYTE_MOST;
+use definitions::limits::PREFIX_MOST;
 use definitions::table::Address;
-use scan::cursor::Cursor;
-use scan::cursor::join;
-use scan::cursor::place;
-use scan::numbers::number_at;
-use scan::signs::sign_at;
-use scan::signs::stands;
+use cursors::Cursor;
+use cursors::join;
+use cursors::place;
+use pieces::numbers::number_at;
+use pieces::signs::sign_at;
+use pieces::signs::stands;
 
 pub struct ByteAt {
     pub value: u8,
@@ -39,10 +41,10 @@ fn dotted_at(s: &[u8], at: usize) -> ByteAt
     requires { ⌜ at ≤ length (now s) ⌝ }
     ensures { λ r. ⌜ Reads dotted (now (s .entry)) (Going at) (r .value) (r .cursor) ⌝ }
 {
-    let n = byte_at(s, at, 255);
+    let n = byte_at(s, at, BYTE_MOST);
     let c1 = n.cursor;
     let a1 = place(c1);
-    let dot = sign_at(s, a1, 46);
+    let dot = sign_at(s, a1, b'.');
     let c2 = join(c1, dot);
     ByteAt {
         value: n.value,
@@ -55,11 +57,11 @@ fn prefix_at(s: &[u8], at: usize) -> ByteAt
     requires { ⌜ at ≤ length (now s) ⌝ }
     ensures { λ r. ⌜ Reads prefixed (now (s .entry)) (Going at) (r .value) (r .cursor) ⌝ }
 {
-    if stands(s, at, 47) {
-        byte_at(s, at + 1, 32)
+    if stands(s, at, b'/') {
+        byte_at(s, at + 1, PREFIX_MOST as u64)
     } else {
         ByteAt {
-            value: 32,
+            value: PREFIX_MOST,
             cursor: Cursor::Going(at),
         }
     }
@@ -92,7 +94,7 @@ pub fn address_at(s: &[u8], at: usize) -> AddressAt
     let d3 = n3.cursor;
     let c3 = join(c2, d3);
     let a3 = place(c3);
-    let n4 = byte_at(s, a3, 255);
+    let n4 = byte_at(s, a3, BYTE_MOST);
     let d4 = n4.cursor;
     let c4 = join(c3, d4);
     let a4 = place(c4);

@@ -7,11 +7,11 @@ ghost use Rattle.definitions.specs.Limits.{nameMost};
 ghost use Rattle.values.specs.Quoting.{passedBy, limitedBy, Quoted, NameRead};
 use definitions::limits::NAME_BYTES;
 use scan::bytes::Class;
-use scan::cursor::Cursor;
-use scan::cursor::join;
-use scan::cursor::place;
+use cursors::Cursor;
+use cursors::join;
+use cursors::place;
 use scan::runs::run_of;
-use scan::signs::sign_at;
+use pieces::signs::sign_at;
 
 // A name is told by its first byte's place in the text and its length.
 pub struct NameAt {
@@ -36,13 +36,13 @@ fn quoted_at(s: &[u8], at: usize) -> NameAt
     requires { ⌜ at ≤ length (now s) ⌝ }
     ensures { λ r. ⌜ Quoted (now (s .entry)) at (r .from) (r .len) (r .cursor) ⌝ }
 {
-    let c1 = sign_at(s, at, 34);
+    let c1 = sign_at(s, at, b'"');
     let from = place(c1);
     let end = run_of(s, from, Class::Quotable);
     let run = passed(from, end);
     let c2 = join(c1, run);
     let closing = place(c2);
-    let quote = sign_at(s, closing, 34);
+    let quote = sign_at(s, closing, b'"');
     let c3 = join(c2, quote);
     NameAt {
         from: from,

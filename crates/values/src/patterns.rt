@@ -9,11 +9,11 @@ use crate::blocks::block_at;
 use crate::blocks::put;
 use entry::Room;
 use scan::bytes::is_plain;
-use scan::cursor::Cursor;
-use scan::cursor::join;
-use scan::cursor::place;
-use scan::signs::sign_at;
-use scan::signs::stands;
+use cursors::Cursor;
+use cursors::join;
+use cursors::place;
+use pieces::signs::sign_at;
+use pieces::signs::stands;
 
 fn is_plain_at(s: &[u8], at: usize) -> bool
     ensures { λ r. ⌜ r ≡ begins plainBytes (drop at (now (s .entry))) ⌝ }
@@ -33,7 +33,7 @@ fn goes_on(s: &[u8], at: usize) -> bool
     if is_plain_at(s, at) {
         return true;
     }
-    stands(s, at, 124)
+    stands(s, at, b'|')
 }
 
 // A plain byte or a block.
@@ -91,13 +91,13 @@ pub fn pattern_at(s: &[u8], at: usize, room: Room) -> PatternAt
     requires { ⌜ Ready (now s) at room ⌝ }
     ensures { λ r. ⌜ PatternReads (now (s .entry)) at room (r .room) (r .len) (r .cursor) ⌝ }
 {
-    let c1 = sign_at(s, at, 34);
+    let c1 = sign_at(s, at, b'"');
     let from = place(c1);
     let p = bytes_at(s, from, room);
     let d = p.cursor;
     let c2 = join(c1, d);
     let closing = place(c2);
-    let quote = sign_at(s, closing, 34);
+    let quote = sign_at(s, closing, b'"');
     let c3 = join(c2, quote);
     let to = p.room;
     PatternAt {

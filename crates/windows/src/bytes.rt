@@ -1,29 +1,16 @@
 // The bytes of a pattern at a place.
 ghost use mathlib.Core.Path.{_≡_};
 ghost use lib.ListN.{drop};
-ghost use Rattle.forms.specs.Bytes.{lower};
 ghost use Rattle.definitions.specs.Windows as windows;
+use letters::lower_of;
 
-// A capital as its small letter, any other byte as it is.
-fn folded(b: u8) -> u8
-    ensures { λ r. ⌜ r ≡ lower b ⌝ }
-{
-    if b < 65 {
-        return b;
-    }
-    if 90 < b {
-        return b;
-    }
-    b + 32
-}
-
-// Equal, or with no_case letters A to Z and a to z alike. All that folds letters does it here.
+// Equal, or with no_case letters A to Z and a to z alike. Every comparison under no_case goes through here.
 fn alike(nocase: bool, x: u8, y: u8) -> bool
     ensures { λ r. ⌜ r ≡ windows.alike nocase x y ⌝ }
 {
     if nocase {
-        let a = folded(x);
-        let b = folded(y);
+        let a = lower_of(x);
+        let b = lower_of(y);
         return a == b;
     }
     x == y

@@ -1,55 +1,24 @@
-use mathlib.Core.Path.{refl, sym, _∙_}
-use native.Mathlib.Omega.{arith}
-use Prim.Native.Nat.{_-_}
-use borrow.Author.Needs.{needs}
-use borrow.Author.Tests.{not-true, not-false}
-use lib.ListN.{length}
+-- The run of the class is the run of the definition's test.
+use mathlib.Core.Path.{ap, _∙_}
+use Prim.Native.Nat.{ℕ, _+_}
+use lib.ListN.{drop}
+use Rattle.forms.specs.Form.{has}
 use Rattle.definitions.specs.Options.{inName}
-use Rattle.scan.proofs.Running.{Run, run-on, run-halt, run-out}
+use Rattle.scan.specs.Classes.{classOf}
+use Rattle.scan.specs.declared.bytes.Class.the-variants.{NameByte}
+use Rattle.scan.proofs.Running.{run-same}
+use Rattle.names.proofs.NameBytes.{name-bytes}
+use borrow.Author.Needs.{needs}
 use Rattle.names.proofs.name_end.Statement.{statement}
 use Rattle.names.proofs.name_end.Tie as tie
 
-abbrev Inv-loop : tie.InvT-loop
-Inv-loop s at i₀ i = Run inName s at i
+run-of-requires : tie.Need-run-of-requires
+run-of-requires c κs = search needs
 
-abbrev μ-loop : tie.MeasureT-loop
-μ-loop s at i₀ i = length s - i
-
-loop-holds : tie.Need-loop-holds Inv-loop μ-loop
-loop-holds c = refl
-
-shared-slice-read-b : tie.Need-shared-slice-read-b Inv-loop μ-loop
-shared-slice-read-b c = omega arith
-
-in-name-requires : tie.Need-in-name-requires Inv-loop μ-loop
-in-name-requires c κs = search needs
-
-returns : tie.Need-returns Inv-loop μ-loop
-returns c = run-halt _ _ _ _ (c .before .before .before .before .loop .inv) (c .before .before .before .loop-test .taken) (sym (c .before .in-name .ensures) ∙ not-true _ (c .if1 .taken))
-
-add-i : tie.Need-add-i Inv-loop μ-loop
-add-i c = omega arith
-
-loop-less : tie.Need-loop-less Inv-loop μ-loop
-loop-less c = omega arith
-
-loop-again : tie.Need-loop-again Inv-loop μ-loop
-loop-again c = run-on _ _ _ _ (c .before .before .before .before .loop .inv) (c .before .before .before .loop-test .taken) (sym (c .before .in-name .ensures) ∙ not-false _ (c .if1 .left))
-
-returns-2 : tie.Need-returns-2 Inv-loop μ-loop
-returns-2 c = run-out _ _ _ _ (c .before .loop .inv) (c .loop-test .left)
+returns : tie.Need-returns
+returns c =
+    c .run-of .ensures
+    ∙ ap (λ (n : ℕ). c .before .before .args .at + n) (run-same (has (classOf NameByte)) inName name-bytes (drop (c .before .before .args .at) (c .before .before .args .s .now)))
 
 pub name-end-spec : {M : Type 1} → statement M
-name-end-spec =
-    tie.close
-    (tie.spec
-    Inv-loop
-    μ-loop
-    loop-holds
-    shared-slice-read-b
-    in-name-requires
-    returns
-    add-i
-    loop-less
-    loop-again
-    returns-2)
+name-end-spec = tie.close (tie.spec run-of-requires returns)

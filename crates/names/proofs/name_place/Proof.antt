@@ -2,21 +2,19 @@ use mathlib.Core.Path.{_≡_, refl, sym, _∙_}
 use native.Mathlib.Omega.{arith}
 use Prim.Native.Nat.{_-_, _≤_}
 use lib.ListN.{length, take, drop}
-use Rattle.names.specs.Names.{optionNames, namesOf}
-use Rattle.definitions.specs.Options.{optionTable}
-use Rattle.names.proofs.Same.{Place, place-start, place-found, place-on, place-none}
+use Rattle.names.specs.Names.{optionCount, optionNames}
+use Rattle.names.proofs.Same.{names-count, Place, place-start, place-found, place-on, place-none}
 use Rattle.names.proofs.name_place.Statement.{statement}
 use Rattle.names.proofs.name_place.Tie as tie
 
 abbrev Inv-loop : tie.InvT-loop
-Inv-loop s from to k₀ k = (length optionNames ≡ 22) × (k ≤ 22) × Place optionNames (take (to - from) (drop from s)) k
+Inv-loop s from to k₀ k = (length optionNames ≡ optionCount) × (k ≤ optionCount) × Place optionNames (take (to - from) (drop from s)) k
 
 abbrev μ-loop : tie.MeasureT-loop
-μ-loop s from to k₀ k = 22 - k
+μ-loop s from to k₀ k = optionCount - k
 
 loop-holds : tie.Need-loop-holds Inv-loop μ-loop
-unfolding optionNames namesOf optionTable
-loop-holds c = (refl, omega arith, place-start optionNames _)
+loop-holds c = (names-count, omega arith, place-start optionNames _)
 
 name-is-requires : tie.Need-name-is-requires Inv-loop μ-loop
 name-is-requires c κs = (c .before .before .before .pre .0, c .before .before .before .pre .1, c .loop-test .taken)

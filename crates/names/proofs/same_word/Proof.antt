@@ -29,14 +29,14 @@ add-b c = let p = c .before .before .before .before .before .pre in let q = c .b
 shared-slice-read-b : tie.Need-shared-slice-read-b Inv-loop μ-loop
 shared-slice-read-b c = let p = c .before .before .before .before .before .before .pre in let q = c .before .before .loop .inv .1 in omega arith
 
-small-requires : tie.Need-small-requires Inv-loop μ-loop
-small-requires c κs = search needs
+lower-of-requires : tie.Need-lower-of-requires Inv-loop μ-loop
+lower-of-requires c κs = search needs
 
 shared-slice-read-if2 : tie.Need-shared-slice-read-if2 Inv-loop μ-loop
 shared-slice-read-if2 c = omega arith
 
 returns-2 : tie.Need-returns-2 Inv-loop μ-loop
-returns-2 c = sym (letters-off _ _ _ (c .before .before .before .before .before .loop .inv .0) (c .before .before .before .before .loop-test .taken) (c .before .before .before .before .before .loop .inv .2) (λ e. c .if2 .taken (c .before .before .small .ensures ∙ ap lower (sym (part-at _ _ _ (c .before .before .before .before .before .before .before .before .before .pre .0) (c .before .before .before .before .before .before .before .before .before .pre .1) (c .before .before .before .before .before .loop .i) (let q = c .before .before .before .before .before .loop .inv .1 in let h = c .before .before .before .before .loop-test .taken in omega arith))) ∙ e)))
+returns-2 c = sym (letters-off _ _ _ (c .before .before .before .before .before .loop .inv .0) (c .before .before .before .before .loop-test .taken) (c .before .before .before .before .before .loop .inv .2) (λ e. c .if2 .taken (c .before .before .lower-of .ensures ∙ ap lower (sym (part-at _ _ _ (c .before .before .before .before .before .before .before .before .before .pre .0) (c .before .before .before .before .before .before .before .before .before .pre .1) (c .before .before .before .before .before .loop .i) (let q = c .before .before .before .before .before .loop .inv .1 in let h = c .before .before .before .before .loop-test .taken in omega arith))) ∙ e)))
 
 add-i : tie.Need-add-i Inv-loop μ-loop
 add-i c = omega arith
@@ -45,7 +45,7 @@ loop-less : tie.Need-loop-less Inv-loop μ-loop
 loop-less c = omega arith
 
 loop-again : tie.Need-loop-again Inv-loop μ-loop
-loop-again c = (c .before .before .before .before .before .loop .inv .0, c .before .before .before .before .before .loop .inv .1, letters-on _ _ _ (c .before .before .before .before .before .loop .inv .0) (c .before .before .before .before .loop-test .taken) (c .before .before .before .before .before .loop .inv .2) (ap lower (part-at _ _ _ (c .before .before .before .before .before .before .before .before .before .pre .0) (c .before .before .before .before .before .before .before .before .before .pre .1) (c .before .before .before .before .before .loop .i) (let q = c .before .before .before .before .before .loop .inv .1 in let h = c .before .before .before .before .loop-test .taken in omega arith)) ∙ sym (c .before .before .small .ensures) ∙ c .if2 .left))
+loop-again c = (c .before .before .before .before .before .loop .inv .0, c .before .before .before .before .before .loop .inv .1, letters-on _ _ _ (c .before .before .before .before .before .loop .inv .0) (c .before .before .before .before .loop-test .taken) (c .before .before .before .before .before .loop .inv .2) (ap lower (part-at _ _ _ (c .before .before .before .before .before .before .before .before .before .pre .0) (c .before .before .before .before .before .before .before .before .before .pre .1) (c .before .before .before .before .before .loop .i) (let q = c .before .before .before .before .before .loop .inv .1 in let h = c .before .before .before .before .loop-test .taken in omega arith)) ∙ sym (c .before .before .lower-of .ensures) ∙ c .if2 .left))
 
 returns-3 : tie.Need-returns-3 Inv-loop μ-loop
 returns-3 c = sym (letters-out _ _ _ (c .before .loop .inv .0) (c .loop-test .left) (c .before .loop .inv .2))
@@ -61,7 +61,7 @@ same-word-spec =
     loop-holds
     add-b
     shared-slice-read-b
-    small-requires
+    lower-of-requires
     shared-slice-read-if2
     returns-2
     add-i

@@ -29,6 +29,18 @@ enum-told-4 c = search needs
 is-quotable-requires : tie.Need-is-quotable-requires
 is-quotable-requires c κs = search needs
 
+enum-told-5 : tie.Need-enum-told-5
+enum-told-5 c = search needs
+
+is-name-byte-requires : tie.Need-is-name-byte-requires
+is-name-byte-requires c κs = search needs
+
+enum-told-6 : tie.Need-enum-told-6
+enum-told-6 c = search needs
+
+is-between-requires-3 : tie.Need-is-between-requires-3
+is-between-requires-3 c κs = search needs
+
 returns : tie.Need-returns
 unfolding has
 returns c = rw (c .before .enum-told .given .1) (c .is-between .ensures ∙ sym (or-false _))
@@ -43,6 +55,13 @@ returns-3 c = rw (c .before .enum-told3 .given .1) (c .is-hex .ensures)
 returns-4 : tie.Need-returns-4
 returns-4 c = rw (c .before .enum-told4 .given .1) (c .is-quotable .ensures)
 
+returns-5 : tie.Need-returns-5
+returns-5 c = rw (c .before .enum-told5 .given .1) (c .is-name-byte .ensures)
+
+returns-6 : tie.Need-returns-6
+unfolding has
+returns-6 c = rw (c .before .enum-told6 .given .1) (c .is-between3 .ensures ∙ sym (or-false _))
+
 pub in-class-spec : {M : Type 1} → statement M
 in-class-spec =
     tie.close
@@ -55,7 +74,13 @@ in-class-spec =
     is-hex-requires
     enum-told-4
     is-quotable-requires
+    enum-told-5
+    is-name-byte-requires
+    enum-told-6
+    is-between-requires-3
     returns
     returns-2
     returns-3
-    returns-4)
+    returns-4
+    returns-5
+    returns-6)

@@ -13,6 +13,9 @@ stands-requires c κs = search needs
 add-byte-at : tie.Need-add-byte-at
 add-byte-at c = search needs
 
+cast-byte-at : tie.Need-cast-byte-at
+cast-byte-at c = search needs
+
 byte-at-requires : tie.Need-byte-at-requires
 byte-at-requires c κs = (begun-in ((47, 47) ∷ []) _ _ (sym (c .before .stands .ensures) ∙ c .if1 .taken), omega arith)
 
@@ -24,4 +27,4 @@ returns-2 c = no-prefix _ _ (c .before .before .before .pre) (sym (c .before .st
 
 pub prefix-at-spec : {M : Type 1} → statement M
 prefix-at-spec =
-    tie.close (tie.spec stands-requires add-byte-at byte-at-requires returns returns-2)
+    tie.close (tie.spec stands-requires add-byte-at cast-byte-at byte-at-requires returns returns-2)

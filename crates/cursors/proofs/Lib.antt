@@ -1,0 +1,2 @@
+-- How readings go together.
+pub mod Readings

@@ -1,0 +1,2 @@
+-- What a scanner promises.
+pub mod Reads

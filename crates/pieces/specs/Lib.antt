@@ -1,0 +1,2 @@
+-- Names for parts of numbers' forms.
+pub mod Digits
