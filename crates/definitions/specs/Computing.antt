@@ -21,9 +21,9 @@ use Rattle.definitions.specs.Windows.{inWindow, alike, standsAt, lies}
 use Rattle.definitions.specs.Placements.{behind, wanted, itemsOf, positives, upFrom, spread, liesIn, starts, nowhereHolds, Meets, placements, MeetsTable, listed}
 use Rattle.definitions.specs.Answers.{verdictDue, placementsOf, verdictAnswer, firstAnswer, nextAnswer}
 use Rattle.definitions.specs.Asks.{answers}
-use Rattle.definitions.specs.Lines.{lineOf, lineTexts, linesFrom, programOutput}
+use Rattle.definitions.specs.Lines.{lineOf, lineTexts, linesFrom, outputOver, programOutput}
 use Rattle.definitions.specs.Cases.{pairs, sameLists, signature, packetWith, uriOnly, numbersOf, rightBy, right, found, none, onPayload, onUri, onText, cases, slips}
 
 unfoldable pub computing : ℕ
-unfolding lower sameWord run has Means loop scan overs over readAt all? any? keep sameBytes digitValue valueOf optionTable inName parsed optionAt nameIn protocolIn flowIn modified slotsIn bytesIn tableOf patternsOf usable usableRun latest dueFor missing options judged printable readUnbounded read nameFits itemFits itemsFit bytesOf bytesFit wellFormed slotEntries houseEntries digitsOf addressesText fieldText patternText testText modifierText entryText entriesText houseText writingDue writes bufferAfter wide factsOf packetDue packetAnswer fieldOf present fieldsDue inAddresses addressHolds numberHolds fieldHolds sizeHolds atHolds testHolds inWindow alike standsAt lies behind wanted itemsOf positives upFrom spread liesIn starts nowhereHolds Meets placements MeetsTable listed verdictDue placementsOf verdictAnswer firstAnswer nextAnswer answers lineOf lineTexts linesFrom programOutput pairs sameLists signature packetWith uriOnly numbersOf rightBy right found none onPayload onUri onText cases slips
+unfolding lower sameWord run has Means loop scan overs over readAt all? any? keep sameBytes digitValue valueOf optionTable inName parsed optionAt nameIn protocolIn flowIn modified slotsIn bytesIn tableOf patternsOf usable usableRun latest dueFor missing options judged printable readUnbounded read nameFits itemFits itemsFit bytesOf bytesFit wellFormed slotEntries houseEntries digitsOf addressesText fieldText patternText testText modifierText entryText entriesText houseText writingDue writes bufferAfter wide factsOf packetDue packetAnswer fieldOf present fieldsDue inAddresses addressHolds numberHolds fieldHolds sizeHolds atHolds testHolds inWindow alike standsAt lies behind wanted itemsOf positives upFrom spread liesIn starts nowhereHolds Meets placements MeetsTable listed verdictDue placementsOf verdictAnswer firstAnswer nextAnswer answers lineOf lineTexts linesFrom outputOver programOutput pairs sameLists signature packetWith uriOnly numbersOf rightBy right found none onPayload onUri onText cases slips
 computing = 0

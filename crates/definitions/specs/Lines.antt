@@ -42,11 +42,15 @@ lineTexts [] [] = []
 lineTexts (b ∷ line) [] = (b ∷ line) ∷ []
 lineTexts line (b ∷ l) = if eqb b 10 then line ∷ lineTexts [] l else lineTexts (line ++ (b ∷ [])) l
 
--- line number, tab, answer, LF
-unfoldable pub linesFrom : Limits → ℕ → List (List ℕ) → List ℕ
-linesFrom lim n [] = []
-linesFrom lim n (s ∷ ss) = decimal n ++ (text "\t" ++ (lineOf lim s ++ (text "\n" ++ linesFrom lim (suc n) ss)))
+-- line number, tab, answer, LF, for each text in turn
+unfoldable pub linesFrom : (List ℕ → List ℕ) → ℕ → List (List ℕ) → List ℕ
+linesFrom answer n [] = []
+linesFrom answer n (s ∷ ss) = decimal n ++ (text "\t" ++ (answer s ++ (text "\n" ++ linesFrom answer (suc n) ss)))
+
+-- what a program writes that answers each line of its input
+unfoldable pub outputOver : (List ℕ → List ℕ) → List ℕ → List ℕ
+outputOver answer input = linesFrom answer 1 (lineTexts [] input)
 
 -- THE PROGRAM'S OUTPUT
 unfoldable pub programOutput : Limits → List ℕ → List ℕ
-programOutput lim input = linesFrom lim 1 (lineTexts [] input)
+programOutput lim input = outputOver (lineOf lim) input

@@ -1,42 +1,16 @@
-// The line program: moves bytes between standard input, the work on lines (crate line_answers) and standard output.
+// The line program: moves bytes between standard input, the work on lines (crate text_lines) and standard output.
+use blocks::Step;
+use blocks::go_on;
+use blocks::no_room;
+use blocks::stop;
+use blocks::unread;
+use blocks::write_first;
+use blocks::write_last;
 use definitions::limits::TEXT_BYTES;
-use libc::STDERR_FILENO;
 use libc::STDIN_FILENO;
-use libc::STDOUT_FILENO;
-use line_answers::Begun;
-use line_answers::feed;
-use line_answers::finish;
-
-// The line begun, and whether there is more to do.
-struct Step {
-    begun: Begun,
-    going: bool,
-}
-
-fn stop(begun: Begun) -> Step {
-    Step {
-        begun,
-        going: false,
-    }
-}
-
-// No answer is longer than the output, so this is not met; if it were, nothing would be lost unsaid.
-fn no_room(begun: Begun) -> Step {
-    io::write_all(STDERR_FILENO, b"an answer has no room\n");
-    stop(begun)
-}
-
-// Writes the first bytes of the output; if it can't, says so.
-fn write_out(out: &[u8], put: usize) -> bool {
-    if out.len() < put {
-        return false;
-    }
-    let is_written = io::write_all(STDOUT_FILENO, &out[0..put]);
-    if !is_written {
-        os::fail(b"standard output");
-    }
-    is_written
-}
+use line_stream::Begun;
+use text_lines::feed;
+use text_lines::finish;
 
 // Feeds a block and writes its answers, in turns where the output has no room for all of them.
 fn answer_block(block: &[u8], line: &mut [u8], out: &mut [u8], begun: Begun) -> Step {
@@ -46,7 +20,7 @@ fn answer_block(block: &[u8], line: &mut [u8], out: &mut [u8], begun: Begun) -> 
         let fed = feed(&block[from..], line, out, now);
         let taken = fed.taken;
         now = fed.begun;
-        if !write_out(out, fed.put) {
+        if !write_first(out, fed.put) {
             return stop(now);
         }
         if taken == 0 {
@@ -54,10 +28,7 @@ fn answer_block(block: &[u8], line: &mut [u8], out: &mut [u8], begun: Begun) -> 
         }
         from += taken;
     }
-    Step {
-        begun: now,
-        going: true,
-    }
+    go_on(now)
 }
 
 // Reads once and answers what came; at the end of the input, a last line that lacks its LF.
@@ -65,14 +36,12 @@ fn answer_some(line: &mut [u8], out: &mut [u8], begun: Begun) -> Step {
     let mut block = io::large_buffer();
     let got = libc::read(STDIN_FILENO, &mut block);
     if got < 0 {
-        os::fail(b"standard input");
-        return stop(begun);
+        return unread(begun);
     }
     let n = io::count(got, &block);
     if n == 0 {
         let put = finish(line, out, begun);
-        write_out(out, put);
-        return stop(begun);
+        return write_last(out, put, begun);
     }
     answer_block(&block[..n], line, out, begun)
 }

@@ -30,8 +30,8 @@ part-feed-end c = omega arith
 feed-requires : tie.Need-feed-requires Inv-loop μ-loop
 feed-requires c κs = tt
 
-write-out-requires : tie.Need-write-out-requires Inv-loop μ-loop
-write-out-requires c κs = tt
+write-first-requires : tie.Need-write-first-requires Inv-loop μ-loop
+write-first-requires c κs = tt
 
 stop-requires : tie.Need-stop-requires Inv-loop μ-loop
 stop-requires c κs = tt
@@ -83,6 +83,9 @@ loop-again c =
     let outs : length (c .before .before .before .before .before .before .before .before .before .feed .last .1 .1 .0) ≡ length (c .before .before .before .before .before .before .before .before .before .before .before .before .before .before .before .before .before .before .args .out .now) = search needs in
     (omega (arith, taken, long), lines, outs)
 
+go-on-requires : tie.Need-go-on-requires Inv-loop μ-loop
+go-on-requires c κs = tt
+
 same-length-5 : tie.Need-same-length-5 Inv-loop μ-loop
 same-length-5 c = search needs
 
@@ -103,7 +106,7 @@ answer-block-spec =
     part-feed-start
     part-feed-end
     feed-requires
-    write-out-requires
+    write-first-requires
     stop-requires
     same-length
     same-length-2
@@ -115,6 +118,7 @@ answer-block-spec =
     add-from
     loop-less
     loop-again
+    go-on-requires
     same-length-5
     same-length-6
     returns-3)

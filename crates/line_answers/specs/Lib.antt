@@ -1,3 +1,0 @@
--- What the contracts of `line_answers` cite.
-pub mod Stream
-pub mod Steps

@@ -1,0 +1,2 @@
+-- How the answer to a text follows.
+pub mod Answering

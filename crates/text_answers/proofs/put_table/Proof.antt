@@ -1,0 +1,51 @@
+use mathlib.Core.Path.{refl, sym, _∙_}
+use Rattle.text_answers.proofs.Answering.{wrote-line, declined-line}
+use Rattle.output.proofs.Putting.{told}
+use borrow.Author.Needs.{needs}
+use Rattle.text_answers.proofs.put_table.Statement.{statement}
+use Rattle.text_answers.proofs.put_table.Tie as tie
+
+slice-aggregate-write : tie.Need-slice-aggregate-write
+slice-aggregate-write c = search needs
+
+write-requires : tie.Need-write-requires
+write-requires c κs = search needs
+
+enum-known-w : tie.Need-enum-known-w
+enum-known-w c = search needs
+
+put-ok-requires : tie.Need-put-ok-requires
+put-ok-requires c κs = search needs
+
+enum-known-w-2 : tie.Need-enum-known-w-2
+enum-known-w-2 c = search needs
+
+put-refused-requires : tie.Need-put-refused-requires
+put-refused-requires c κs = search needs
+
+same-length : tie.Need-same-length
+same-length c = search needs
+
+returns : tie.Need-returns
+returns c = told (wrote-line (c .before .before .before .before .before .before .before .before .before .before .before .args .t) _ refl (c .before .before .before .before .before .w .given .0 .0) _ (sym (c .before .before .before .before .before .w .given .1) ∙ c .before .before .before .before .before .before .before .before .write .ensures .0) (c .before .before .before .before .before .before .before .before .write .ensures .1)) (c .before .before .put-ok .ensures)
+
+same-length-2 : tie.Need-same-length-2
+same-length-2 c = search needs
+
+returns-2 : tie.Need-returns-2
+returns-2 c = told (declined-line (c .before .before .before .before .before .before .before .before .before .before .before .args .t) _ refl (c .before .before .before .before .before .w2 .given .0 .0) (sym (c .before .before .before .before .before .w2 .given .1) ∙ c .before .before .before .before .before .before .before .before .write .ensures .0)) (c .before .before .put-refused .ensures)
+
+pub put-table-spec : {M : Type 1} → statement M
+put-table-spec =
+    tie.close
+    (tie.spec
+    slice-aggregate-write
+    write-requires
+    enum-known-w
+    put-ok-requires
+    enum-known-w-2
+    put-refused-requires
+    same-length
+    returns
+    same-length-2
+    returns-2)

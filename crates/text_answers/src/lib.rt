@@ -1,0 +1,64 @@
+// The answer to a text, put into a lent buffer: its house text, or a refusal and its place.
+ghost use mathlib.Core.List.{_++_};
+ghost use lib.ListN.{take};
+ghost use Rattle.forms.specs.Bytes.{text};
+ghost use Rattle.definitions.specs.Limits.{limits01};
+ghost use Rattle.definitions.specs.Lines.{refusedLine, houseLine, lineOf};
+ghost use Rattle.definitions.specs.Writing.{writingDue};
+ghost use Rattle.output.specs.Puts.{Puts};
+use codes::number_of;
+use definitions::answers::ReadOutcome;
+use definitions::answers::Refusal;
+use definitions::answers::Writing;
+use definitions::limits::HOUSE_BYTES;
+use definitions::table::Table;
+use output::limits::at_most;
+use output::put;
+use output::put_decimal;
+use output::put_word;
+use reader::read;
+use writer::write;
+
+// Refusal, tab, place.
+fn put_refused(out: &mut [u8], at: usize, r: Refusal, place: usize) -> usize
+    ensures { λ n. ⌜ Puts (now (out .entry)) at (refusedLine r place) (now (out .exit)) n ⌝ }
+{
+    let a1 = put_decimal(out, at, number_of(r));
+    let a2 = put(out, a1, 9);
+    put_decimal(out, a2, place as u64)
+}
+
+// `ok`, tab, and the first `n` bytes of a house text's buffer.
+fn put_ok(out: &mut [u8], at: usize, house: [u8; HOUSE_BYTES], n: usize) -> usize
+    ensures { λ r. ⌜ Puts (now (out .entry)) at (text "ok\t" ++ take n house) (now (out .exit)) r ⌝ }
+{
+    let all = &house[..];
+    let k = at_most(n, HOUSE_BYTES);
+    let a1 = put_word(out, at, b"ok\t");
+    put_word(out, a1, &all[0..k])
+}
+
+// The house text, or the writer's refusal.
+fn put_table(out: &mut [u8], at: usize, t: Table) -> usize
+    ensures { λ n. ⌜ Puts (now (out .entry)) at (houseLine (writingDue limits01 t (limits01 .house)) t) (now (out .exit)) n ⌝ }
+{
+    let mut house = [0u8; HOUSE_BYTES];
+    let w = write(t, &mut house);
+    match w {
+        Writing::Written(n) => put_ok(out, at, house, n),
+        Writing::Refused(r) => put_refused(out, at, r, 0),
+    }
+}
+
+// THE ANSWER to a text, without its number and the LF.
+pub fn answer_text(out: &mut [u8], at: usize, s: &[u8]) -> usize
+    ensures { λ n. ⌜ Puts (now (out .entry)) at (lineOf limits01 (now (s .entry))) (now (out .exit)) n ⌝ }
+{
+    let reading = read(s);
+    let outcome = reading.outcome;
+    let table = reading.table;
+    match outcome {
+        ReadOutcome::Accepted => put_table(out, at, table),
+        ReadOutcome::Refused(r, place) => put_refused(out, at, r, place),
+    }
+}
