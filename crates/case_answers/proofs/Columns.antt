@@ -1,6 +1,6 @@
 -- The columns of a line together: bytes that pairs write, each way in which a line is bad, and the line as its columns.
 use mathlib.Core.Path.{_≡_, sym, ap, _∙_}
-use mathlib.Core.Bool.{true, false}
+use mathlib.Core.Bool.{Bool, true, false, _&&_}
 use mathlib.Core.List.{List, [], _∷_, _++_}
 use Prim.Native.Nat.{ℕ, suc, _+_, _-_, _*_, _≤_, _<_}
 use native.Mathlib.Omega.{arith}
@@ -8,6 +8,7 @@ use lib.ListN.{length, take, drop, length-drop}
 use lib.Seq.{take-append-seam}
 use borrow.Author.Tests.{le-leb, lt-leb}
 use Rattle.forms.specs.Bytes.{text}
+use Rattle.forms.proofs.Bools.{both-left, both-right}
 use Rattle.definitions.specs.declared.packet.Direction.{Direction}
 use Rattle.definitions.specs.declared.packet.FieldMap.{FieldMap}
 use Rattle.definitions.specs.declared.answers.Reading.{Reading}
@@ -20,7 +21,7 @@ use Rattle.output.proofs.Whole.{most-of, puts-count, puts-buffer}
 use Rattle.cases.specs.CaseLines.{lineMost, spot, marked, front, rear, isDirection, directionOf, isHex, isMap, mapOf, isAsk, askOf, Ask, behindTabs, isCase, caseOf}
 use Rattle.cases.proofs.Parting.{front-le}
 use Rattle.case_answers.specs.CaseAnswers.{readingText, caseAnswer}
-use Rattle.case_answers.specs.Columns.{areColumns, columnsText}
+use Rattle.case_answers.specs.Columns.{pairsMost, areColumns, columnsText, Formed}
 
 -- ---- the bytes of a column
 
@@ -30,7 +31,11 @@ pairs-length [] = omega arith
 pairs-length (a ∷ []) = omega arith
 pairs-length (a ∷ (b ∷ l)) = omega (arith, pairs-length l)
 
-module _ (l room after : List ℕ) (n : ℕ) (p : Puts room 0 (pairs l) after n) (h : length l ≤ 16384) (g : 8192 ≤ length room) where
+-- a lent array is long enough for the pairs of a line
+pub room-is : {n : ℕ} → n ≡ pairsMost → lineMost ≤ n * 2
+room-is e = omega (arith, e)
+
+module _ (l room after : List ℕ) (n : ℕ) (p : Puts room 0 (pairs l) after n) (h : length l ≤ lineMost) (g : lineMost ≤ length room * 2) where
   count-is : n ≡ length (pairs l)
   count-is =
       let e : n ≡ 0 + length (pairs l) =
@@ -57,38 +62,50 @@ formed-is {x = x} {u = u} {y = y} {v = v} {r = r} {q = q} dir m a e f g =
 
 -- ---- the columns, from the left
 
-module _ (o p f d a s : List ℕ) where
-  pub bad-origin : isDirection o ≡ false → columnsText o p f d a s ≡ text "bad"
-  unfolding columnsText areColumns
-  bad-origin e = rw e
+module _ {o p d : List ℕ} {fits asked r : Bool} (e : Formed o p fits d asked r) where
+  -- what the code tests, where it holds
+  module _ (y : r ≡ true) where
+    behind-origin : (isHex p && (fits && (isHex d && asked))) ≡ true
+    behind-origin = both-right (isDirection o) (isHex p && (fits && (isHex d && asked))) (sym (e .is) ∙ y)
 
-  module _ (e1 : isDirection o ≡ true) where
-    pub bad-packet : isHex p ≡ false → columnsText o p f d a s ≡ text "bad"
-    unfolding columnsText areColumns
-    bad-packet e = rw (e1, e)
+    behind-packet : (fits && (isHex d && asked)) ≡ true
+    behind-packet = both-right (isHex p) (fits && (isHex d && asked)) behind-origin
 
-    module _ (e2 : isHex p ≡ true) where
-      pub bad-fields : isMap f ≡ false → columnsText o p f d a s ≡ text "bad"
-      unfolding columnsText areColumns
-      bad-fields e = rw (e1, e2, e)
+    behind-map : (isHex d && asked) ≡ true
+    behind-map = both-right fits (isHex d && asked) behind-packet
 
-      module _ (e3 : isMap f ≡ true) where
-        pub bad-decoded : isHex d ≡ false → columnsText o p f d a s ≡ text "bad"
-        unfolding columnsText areColumns
-        bad-decoded e = rw (e1, e2, e3, e)
+    pub hex-packet : isHex p ≡ true
+    hex-packet = both-left (isHex p) (fits && (isHex d && asked)) behind-origin
 
-        module _ (e4 : isHex d ≡ true) where
-          pub bad-ask : isAsk a ≡ false → columnsText o p f d a s ≡ text "bad"
-          unfolding columnsText areColumns
-          bad-ask e = rw (e1, e2, e3, e4, e)
+    pub hex-decoded : isHex d ≡ true
+    hex-decoded = both-left (isHex d) asked behind-map
 
-          pub good-columns : isAsk a ≡ true → (dir : Direction) (m : FieldMap) (k : Ask) → dir ≡ directionOf o → m ≡ mapOf f → k ≡ askOf a → columnsText o p f d a s ≡ readingText (pairs p) (pairs d) dir m (read limits01 s) k
-          unfolding columnsText areColumns
-          good-columns e5 dir m k g h i =
-              rw (e1, e2, e3, e4, e5)
-              (ap (λ (x : Direction). readingText (pairs p) (pairs d) x (mapOf f) (read limits01 s) (askOf a)) (sym g)
-              ∙ ap (λ (x : FieldMap). readingText (pairs p) (pairs d) dir x (read limits01 s) (askOf a)) (sym h)
-              ∙ ap (λ (x : Ask). readingText (pairs p) (pairs d) dir m (read limits01 s) x) (sym i))
+    pub is-mapped : fits ≡ true
+    is-mapped = both-left fits (isHex d && asked) behind-packet
+
+    pub is-asked : asked ≡ true
+    is-asked = both-right (isHex d) asked behind-map
+
+  -- is whether the columns are of their form
+  module _ (f a s : List ℕ) (mapped : fits ≡ isMap f) (told : asked ≡ isAsk a) where
+    are-columns : r ≡ areColumns o p f d a s
+    unfolding areColumns
+    are-columns =
+        e .is
+        ∙ ap (λ (x : Bool). isDirection o && (isHex p && (x && (isHex d && asked)))) mapped
+        ∙ ap (λ (x : Bool). isDirection o && (isHex p && (isMap f && (isHex d && x)))) told
+
+    pub bad-columns : r ≡ false → columnsText o p f d a s ≡ text "bad"
+    unfolding columnsText
+    bad-columns n = rw (sym are-columns ∙ n)
+
+    pub good-columns : r ≡ true → (dir : Direction) (m : FieldMap) (k : Ask) → dir ≡ directionOf o → m ≡ mapOf f → k ≡ askOf a → columnsText o p f d a s ≡ readingText (pairs p) (pairs d) dir m (read limits01 s) k
+    unfolding columnsText
+    good-columns y dir m k g h i =
+        rw (sym are-columns ∙ y)
+        (ap (λ (x : Direction). readingText (pairs p) (pairs d) x (mapOf f) (read limits01 s) (askOf a)) (sym g)
+        ∙ ap (λ (x : FieldMap). readingText (pairs p) (pairs d) dir x (read limits01 s) (askOf a)) (sym h)
+        ∙ ap (λ (x : Ask). readingText (pairs p) (pairs d) dir m (read limits01 s) x) (sym i))
 
 -- ---- the line
 
@@ -114,10 +131,10 @@ module _ (l r1 r2 r3 r4 : List ℕ) (h : length l ≤ lineMost) (q1 : r1 ≡ rea
   unfolding caseAnswer isCase behindTabs
   few-tabs e = rw (le-leb (length l) lineMost h, ap (marked 9) (sym four) ∙ e)
 
-  pub packet-le : (x : List ℕ) → x ≡ front 9 r1 → length x ≤ 16384
+  pub packet-le : (x : List ℕ) → x ≡ front 9 r1 → length x ≤ lineMost
   packet-le x e = omega (arith, ap length e, front-le 9 r1, ap length q1, rear-le 9 l, h)
 
-  pub decoded-le : (x : List ℕ) → x ≡ front 9 r3 → length x ≤ 16384
+  pub decoded-le : (x : List ℕ) → x ≡ front 9 r3 → length x ≤ lineMost
   decoded-le x e = omega (arith, ap length e, front-le 9 r3, ap length q3, rear-le 9 r2, ap length q2, rear-le 9 r1, ap length q1, rear-le 9 l, h)
 
   pub as-columns : marked 9 r4 ≡ true → (o p f d a s : List ℕ) → o ≡ front 9 l → p ≡ front 9 r1 → f ≡ front 9 r2 → d ≡ front 9 r3 → a ≡ front 9 r4 → s ≡ rear 9 r4 → caseAnswer l ≡ columnsText o p f d a s

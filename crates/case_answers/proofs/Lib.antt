@@ -1,3 +1,2 @@
--- How the parts of an answer go together.
-pub mod Listing
+-- How the columns of a line go together.
 pub mod Columns

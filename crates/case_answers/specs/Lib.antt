@@ -1,4 +1,3 @@
 -- What the contracts of `case_answers` cite.
 pub mod CaseAnswers
-pub mod Following
 pub mod Columns

@@ -1,8 +1,4 @@
 // The answer to a line of cases, put into a lent buffer.
-mod answers;
-mod lists;
-mod placements;
-
 ghost use mathlib.Core.Path.{_≡_};
 ghost use mathlib.Core.Bool.{true};
 ghost use Prim.Native.Nat.{_≤_};
@@ -11,12 +7,12 @@ ghost use Rattle.definitions.specs.Cases.{pairs};
 ghost use Rattle.definitions.specs.Limits.{limits01};
 ghost use Rattle.definitions.specs.Reading.{read as readText};
 ghost use Rattle.output.specs.Puts.{Puts};
-ghost use Rattle.cases.specs.CaseLines.{isHex};
+ghost use Rattle.cases.specs.CaseLines.{lineMost, isHex};
 ghost use Rattle.cases.specs.Parsing.{isKind, askBy};
 ghost use Rattle.case_answers.specs.CaseAnswers.{askText, readingText, caseAnswer};
-ghost use Rattle.case_answers.specs.Columns.{columnsText};
-use crate::answers::put_answer;
-use crate::lists::put_list;
+ghost use Rattle.case_answers.specs.Columns.{columnsText, Formed};
+use case_lists::answers::put_answer;
+use case_lists::lists::put_list;
 use cases::asks::Kind;
 use cases::asks::ask_column;
 use cases::directions::direction_of;
@@ -42,7 +38,7 @@ use output::put_word;
 pub const LINE_BYTES: usize = 16384;
 
 // Bytes that the pairs of a column write at most.
-pub const PAIRS: usize = 8192;
+pub const PAIRS: usize = LINE_BYTES / 2;
 
 fn put_ask<'a>(
     out: &mut [u8],
@@ -102,21 +98,23 @@ fn put_formed(
     kind: Kind,
     held: Placement,
     text: &[u8],
-    room: &mut [u8],
-    more: &mut [u8],
+    room: &mut [u8; PAIRS],
+    more: &mut [u8; PAIRS],
 ) -> usize
-    requires { ⌜ (isHex (now packet) ≡ true) × (isHex (now decoded) ≡ true) × (length (now packet) ≤ 16384) × (length (now decoded) ≤ 16384) × (8192 ≤ length (now room)) × (8192 ≤ length (now more)) ⌝ }
+    requires { ⌜ (isHex (now packet) ≡ true) × (isHex (now decoded) ≡ true) × (length (now packet) ≤ lineMost) × (length (now decoded) ≤ lineMost) ⌝ }
     ensures { λ r. ⌜ Puts (now (out .entry)) at (readingText (pairs (now (packet .entry))) (pairs (now (decoded .entry))) dir m (readText limits01 (now (text .entry))) (askBy kind held)) (now (out .exit)) r ⌝ }
 {
     let n = put_pairs(room, 0, packet);
     let d = put_pairs(more, 0, decoded);
     let reading = reader::read(text);
+    let packet_bytes = &room[..];
+    let decoded_bytes = &more[..];
     put_reading(
         out,
         at,
         reading,
-        &room[0..n],
-        &more[0..d],
+        &packet_bytes[0..n],
+        &decoded_bytes[0..d],
         dir,
         m,
         kind,
@@ -135,6 +133,25 @@ fn is_ask(kind: Kind) -> bool
     }
 }
 
+// Whether each column is of its form, where it is told already of the map and of the ask.
+fn are_formed(origin: &[u8], packet: &[u8], mapped: bool, decoded: &[u8], asked: bool) -> bool
+    ensures { λ r. ⌜ Formed (now (origin .entry)) (now (packet .entry)) mapped (now (decoded .entry)) asked r ⌝ }
+{
+    if !is_direction(origin) {
+        return false;
+    }
+    if !is_hex_column(packet) {
+        return false;
+    }
+    if !mapped {
+        return false;
+    }
+    if !is_hex_column(decoded) {
+        return false;
+    }
+    asked
+}
+
 // The six columns of a line; `bad` where one is of another form.
 fn put_columns(
     out: &mut [u8],
@@ -145,28 +162,16 @@ fn put_columns(
     decoded: &[u8],
     ask: &[u8],
     text: &[u8],
-    room: &mut [u8],
-    more: &mut [u8],
+    room: &mut [u8; PAIRS],
+    more: &mut [u8; PAIRS],
 ) -> usize
-    requires { ⌜ (length (now packet) ≤ 16384) × (length (now decoded) ≤ 16384) × (8192 ≤ length (now room)) × (8192 ≤ length (now more)) ⌝ }
+    requires { ⌜ (length (now packet) ≤ lineMost) × (length (now decoded) ≤ lineMost) ⌝ }
     ensures { λ r. ⌜ Puts (now (out .entry)) at (columnsText (now (origin .entry)) (now (packet .entry)) (now (fields .entry)) (now (decoded .entry)) (now (ask .entry)) (now (text .entry))) (now (out .exit)) r ⌝ }
 {
-    if !is_direction(origin) {
-        return put_word(out, at, b"bad");
-    }
-    if !is_hex_column(packet) {
-        return put_word(out, at, b"bad");
-    }
     let mapped = map_column(fields);
-    if !mapped.fits {
-        return put_word(out, at, b"bad");
-    }
-    if !is_hex_column(decoded) {
-        return put_word(out, at, b"bad");
-    }
     let asked = ask_column(ask);
     let kind = asked.kind;
-    if !is_ask(kind) {
+    if !are_formed(origin, packet, mapped.fits, decoded, is_ask(kind)) {
         return put_word(out, at, b"bad");
     }
     let map = mapped.map;
@@ -186,15 +191,14 @@ fn put_columns(
     )
 }
 
-// THE ANSWER to a line. The caller lends room for the bytes of packet and decoded buffer.
+// THE ANSWER to a line, without its number and the LF. The caller lends room for the bytes of packet and decoded buffer.
 pub fn answer_case(
     out: &mut [u8],
     at: usize,
     line: &[u8],
-    room: &mut [u8],
-    more: &mut [u8],
+    room: &mut [u8; PAIRS],
+    more: &mut [u8; PAIRS],
 ) -> usize
-    requires { ⌜ (8192 ≤ length (now room)) × (8192 ≤ length (now more)) ⌝ }
     ensures { λ r. ⌜ Puts (now (out .entry)) at (caseAnswer (now (line .entry))) (now (out .exit)) r ⌝ }
 {
     if LINE_BYTES < line.len() {

@@ -1,6 +1,6 @@
 -- Pairs of hex digits: when a column is such, and the byte that each pair writes.
 use mathlib.Core.Path.{_≡_, refl, sym, ap, _∙_}
-use mathlib.Core.Bool.{Bool, true, false, not, _&&_, false≢true}
+use mathlib.Core.Bool.{Bool, true, false, not, _&&_, and-false, false≢true}
 use mathlib.Core.List.{List, [], _∷_}
 use Prim.Native.Nat.{ℕ, zero, suc, _+_, _-_, _*_, _%_, _≤_, _<_}
 use native.Mathlib.Omega.{arith}
@@ -19,10 +19,6 @@ use Rattle.output.specs.Puts.{puts, Puts}
 use Rattle.cases.specs.CaseLines.{isHex}
 
 -- ---- the form
-
-and-false : (x : Bool) → (x && false) ≡ false
-and-false true = refl
-and-false false = refl
 
 suc-eqb : (a b : ℕ) → eqb a b ≡ eqb (suc a) (suc b)
 suc-eqb a b =

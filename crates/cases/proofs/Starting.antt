@@ -1,6 +1,6 @@
 -- The starts of an earlier placement, one after the other.
 use mathlib.Core.Path.{_≡_, refl, sym, ap, _∙_}
-use mathlib.Core.Bool.{Bool, true, false, _&&_}
+use mathlib.Core.Bool.{Bool, true, false, _&&_, and-false}
 use mathlib.Core.List.{List, [], _∷_, _++_, map, append-nil}
 use Prim.Native.Nat.{ℕ, _+_, _-_, _≤_, _<_}
 use native.Mathlib.Omega.{arith}
@@ -51,10 +51,6 @@ starting s n =
       left = omega (arith, ap length (from-start 44 s));
       says = ap (map (valueOf 10 0)) (from-start 44 s);
     }
-
-and-false : (x : Bool) → (x && false) ≡ false
-and-false true = refl
-and-false false = refl
 
 module _ (s held starts : List ℕ) (count at : ℕ) (k : Starting s held starts count at) (h : at ≤ length s) (e : List ℕ) (q : e ≡ front 44 (take (length s - at) (drop at s))) where
   this : e ≡ front 44 (drop at s)

@@ -1,94 +1,62 @@
-// Reads cases from standard input, one a line, and writes for each its line number, a tab and its answer. What is answered is `case_answers::answer_case`;
-// here bytes are only moved.
+// Answers cases, one a line: moves bytes between standard input, the work on lines (crate case_lines) and standard output.
+use blocks::Step;
+use blocks::go_on;
+use blocks::no_room;
+use blocks::stop;
+use blocks::unread;
+use blocks::write_first;
+use blocks::write_last;
+use case_answers::LINE_BYTES;
+use case_lines::feed;
+use case_lines::finish;
+use libc::STDIN_FILENO;
+use line_stream::Begun;
 
-// One byte more than a line may have.
-const ROOM: usize = 16385;
-
-// More than any answer takes: 1,000 placements of eight starts below 10,000, each with a byte behind it, and two brackets.
-const WRITTEN: usize = 65536;
-
-// A line so far; a byte past the room is not kept, since one over the limit is enough for `bad`.
-struct Line {
-    bytes: [u8; ROOM],
-    len: usize,
-    number: u64,
-    ended: bool,
-}
-
-fn write_line(number: u64, line: &[u8]) {
-    let mut out = [0u8; WRITTEN];
-    let mut room = [0u8; case_answers::PAIRS];
-    let mut more = [0u8; case_answers::PAIRS];
-    let a1 = output::put_decimal(&mut out, 0, number);
-    let a2 = output::put(&mut out, a1, 9);
-    let a3 = case_answers::answer_case(&mut out, a2, line, &mut room, &mut more);
-    let end = output::put(&mut out, a3, 10);
-    let n = output::limits::at_most(end, WRITTEN);
-    io::write_all(1, &out[0..n]);
-}
-
-fn finish(l: Line) {
-    let bytes = l.bytes;
-    let len = l.len;
-    let all = &bytes[..];
-    if len <= all.len() {
-        write_line(l.number, &all[0..len]);
+// Feeds a block and writes its answers, in turns where the output has no room for all of them.
+fn answer_block(block: &[u8], line: &mut [u8], out: &mut [u8], begun: Begun) -> Step {
+    let mut now = begun;
+    let mut from = 0;
+    while from < block.len() {
+        let fed = feed(&block[from..], line, out, now);
+        let taken = fed.taken;
+        now = fed.begun;
+        if !write_first(out, fed.put) {
+            return stop(now);
+        }
+        if taken == 0 {
+            return no_room(now);
+        }
+        from += taken;
     }
+    go_on(now)
 }
 
-fn take(l: Line, b: u8) -> Line {
-    let len = l.len;
-    let mut next = l;
-    if b == 10 {
-        finish(l);
-        next.len = 0;
-        next.number = std::num::wrapping_add_u64(l.number, 1);
-        return next;
+// Reads once and answers what came; at the end of the input, a last line that lacks its LF.
+fn answer_some(line: &mut [u8], out: &mut [u8], begun: Begun) -> Step {
+    let mut block = io::large_buffer();
+    let got = libc::read(STDIN_FILENO, &mut block);
+    if got < 0 {
+        return unread(begun);
     }
-    if len < ROOM {
-        next.bytes[len] = b;
-        next.len = len + 1;
-    }
-    next
-}
-
-fn take_all(l: Line, buf: &[u8]) -> Line {
-    let mut next = l;
-    let mut i = 0;
-    while i < buf.len() {
-        next = take(next, buf[i]);
-        i += 1;
-    }
-    next
-}
-
-fn read_some(l: Line) -> Line {
-    let mut buffer = [0u8; 4096];
-    let got = libc::read(0, &mut buffer);
-    let n = io::count(got, &buffer);
+    let n = io::count(got, &block);
     if n == 0 {
-        let mut last = l;
-        last.ended = true;
-        return last;
+        let put = finish(line, out, begun);
+        return write_last(out, put, begun);
     }
-    take_all(l, &buffer[..n])
+    answer_block(&block[..n], line, out, begun)
 }
 
+// A proved loop has to end, and nothing says that the input does: it counts its turns down from a number that no run uses up.
 fn main() {
-    let mut l = Line {
-        bytes: [0u8; ROOM],
-        len: 0,
-        number: 1,
-        ended: false,
-    };
-    let mut turns: u64 = 18446744073709551615;
+    let mut line = [0u8; LINE_BYTES + 1];
+    let mut out = io::large_buffer();
+    let begun = Begun { number: 1, len: 0 };
+    let mut step = Step { begun, going: true };
+    let mut turns = u64::MAX;
     while turns > 0 {
-        l = read_some(l);
-        let ended = l.ended;
-        if ended {
-            if 0 < l.len {
-                finish(l);
-            }
+        let now = step.begun;
+        step = answer_some(&mut line, &mut out, now);
+        if !step.going {
             return;
         }
         turns -= 1;

@@ -1,7 +1,8 @@
 use mathlib.Core.Path.{_≡_, sym, ap, _∙_}
 use Rattle.output.proofs.Putting.{told, same-length as same}
 use Rattle.cases.specs.Parsing.{askBy}
-use Rattle.case_answers.specs.CaseAnswers.{askText, answerText}
+use Rattle.case_lists.specs.AnswerTexts.{answerText}
+use Rattle.case_answers.specs.CaseAnswers.{askText}
 use borrow.Author.Needs.{needs}
 use Rattle.case_answers.proofs.put_ask.Statement.{statement}
 use Rattle.case_answers.proofs.put_ask.Tie as tie

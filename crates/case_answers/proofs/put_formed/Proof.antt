@@ -1,16 +1,15 @@
-use mathlib.Core.Path.{_≡_, _∙_}
 use native.Mathlib.Omega.{arith}
 use Rattle.output.proofs.Putting.{told, same-length as same}
-use Rattle.case_answers.proofs.Columns.{pairs-in, pairs-are, formed-is}
+use Rattle.case_answers.proofs.Columns.{room-is, pairs-in, pairs-are, formed-is}
 use borrow.Author.Needs.{needs}
 use Rattle.case_answers.proofs.put_formed.Statement.{statement}
 use Rattle.case_answers.proofs.put_formed.Tie as tie
 
 put-pairs-requires : tie.Need-put-pairs-requires
-put-pairs-requires c κs = c .before .before .before .before .before .before .before .pre .0
+put-pairs-requires c κs = c .before .before .before .before .before .pre .0
 
 put-pairs-requires-2 : tie.Need-put-pairs-requires-2
-put-pairs-requires-2 c κs = c .before .before .before .before .before .before .before .before .before .before .before .pre .1
+put-pairs-requires-2 c κs = c .before .before .before .before .before .before .before .pre .1
 
 read-requires : tie.Need-read-requires
 read-requires c κs = tt
@@ -22,7 +21,7 @@ part-put-reading-start : tie.Need-part-put-reading-start
 part-put-reading-start c = search needs
 
 part-put-reading-end : tie.Need-part-put-reading-end
-part-put-reading-end c = omega (arith, pairs-in _ _ _ _ (c .before .before .before .before .before .before .before .before .before .put-pairs .ensures) (c .before .before .before .before .before .before .before .before .before .before .before .before .before .before .before .before .before .pre .2) (c .before .before .before .before .before .before .before .before .before .before .before .before .before .before .before .before .before .pre .4))
+part-put-reading-end c = omega (arith, pairs-in _ _ _ _ (c .before .before .before .before .before .before .before .before .put-pairs .ensures) (c .before .before .before .before .before .before .before .before .before .before .before .before .before .before .pre .2) (room-is (c .before .before .before .before .before .before .before .before .before .put-pairs-arg .given .0 .1)))
 
 sub-put-reading-2 : tie.Need-sub-put-reading-2
 sub-put-reading-2 c = search needs
@@ -31,22 +30,19 @@ part-put-reading-start-2 : tie.Need-part-put-reading-start-2
 part-put-reading-start-2 c = search needs
 
 part-put-reading-end-2 : tie.Need-part-put-reading-end-2
-part-put-reading-end-2 c = omega (arith, pairs-in _ _ _ _ (c .before .before .before .before .before .before .before .put-pairs2 .ensures) (c .before .before .before .before .before .before .before .before .before .before .before .before .before .before .before .before .before .before .before .pre .3) (c .before .before .before .before .before .before .before .before .before .before .before .before .before .before .before .before .before .before .before .pre .5))
+part-put-reading-end-2 c = omega (arith, pairs-in _ _ _ _ (c .before .before .before .before .before .before .before .put-pairs2 .ensures) (c .before .before .before .before .before .before .before .before .before .before .before .before .before .before .before .pre .3) (room-is (c .before .before .before .before .before .before .before .before .put-pairs-arg2 .given .0 .1)))
 
 put-reading-requires : tie.Need-put-reading-requires
 put-reading-requires c κs = tt
 
 returns : tie.Need-returns
-returns c = told (formed-is _ _ _ (pairs-are _ _ _ _ (c .before .before .before .before .before .before .before .before .before .before .before .before .before .before .before .put-pairs .ensures) (c .before .before .before .before .before .before .before .before .before .before .before .before .before .before .before .before .before .before .before .before .before .before .before .pre .2) (c .before .before .before .before .before .before .before .before .before .before .before .before .before .before .before .before .before .before .before .before .before .before .before .pre .4)) (pairs-are _ _ _ _ (c .before .before .before .before .before .before .before .before .before .before .before .put-pairs2 .ensures) (c .before .before .before .before .before .before .before .before .before .before .before .before .before .before .before .before .before .before .before .before .before .before .before .pre .3) (c .before .before .before .before .before .before .before .before .before .before .before .before .before .before .before .before .before .before .before .before .before .before .before .pre .5)) (c .before .before .before .before .before .before .before .before .read .ensures)) (c .before .before .put-reading .ensures)
+returns c =
+    told
+    (formed-is _ _ _ (pairs-are _ _ _ _ (c .before .before .before .before .before .before .before .before .before .before .before .before .before .put-pairs .ensures) (c .before .before .before .before .before .before .before .before .before .before .before .before .before .before .before .before .before .before .before .pre .2) (room-is (c .before .before .before .before .before .before .before .before .before .before .before .before .before .before .put-pairs-arg .given .0 .1))) (pairs-are _ _ _ _ (c .before .before .before .before .before .before .before .before .before .before .before .put-pairs2 .ensures) (c .before .before .before .before .before .before .before .before .before .before .before .before .before .before .before .before .before .before .before .pre .3) (room-is (c .before .before .before .before .before .before .before .before .before .before .before .before .put-pairs-arg2 .given .0 .1))) (c .before .before .before .before .before .before .before .before .before .before .read .ensures))
+    (c .before .before .put-reading .ensures)
 
 same-length : tie.Need-same-length
 same-length c = same (returns c)
-
-same-length-2 : tie.Need-same-length-2
-same-length-2 c = same (c .before .before .before .before .before .before .before .before .before .before .before .before .before .before .before .put-pairs .ensures)
-
-same-length-3 : tie.Need-same-length-3
-same-length-3 c = same (c .before .before .before .before .before .before .before .before .before .before .before .put-pairs2 .ensures)
 
 pub put-formed-spec : {M : Type 1} → statement M
 put-formed-spec =
@@ -63,6 +59,4 @@ put-formed-spec =
     part-put-reading-end-2
     put-reading-requires
     same-length
-    same-length-2
-    same-length-3
     returns)

@@ -1,28 +1,34 @@
 -- `main` only counts its turns down: nothing is claimed of what is read or written.
+use mathlib.Core.Path.{_≡_, refl}
 use native.Mathlib.Omega.{arith}
+use lib.ListN.{length}
+use borrow.Author.Needs.{needs}
 use Rattle.placements.proofs.main.Statement.{statement}
 use Rattle.placements.proofs.main.Tie as tie
 
 abbrev Inv-loop : tie.InvT-loop
-Inv-loop l₀ turns₀ l turns = Unit {0}
+Inv-loop line₀ out₀ step₀ turns₀ line out step turns = (length line ≡ 16385) × (length out ≡ 65536)
 
 abbrev μ-loop : tie.MeasureT-loop
-μ-loop l₀ turns₀ l turns = turns
+μ-loop line₀ out₀ step₀ turns₀ line out step turns = turns
+
+large-buffer-requires : tie.Need-large-buffer-requires Inv-loop μ-loop
+large-buffer-requires c κs = tt
 
 loop-holds : tie.Need-loop-holds Inv-loop μ-loop
-loop-holds c = tt
+loop-holds c = (refl, search needs)
 
-read-some-requires : tie.Need-read-some-requires Inv-loop μ-loop
-read-some-requires c κs = tt
+slice-aggregate-answer-some : tie.Need-slice-aggregate-answer-some Inv-loop μ-loop
+slice-aggregate-answer-some c = search needs
 
-finish-requires : tie.Need-finish-requires Inv-loop μ-loop
-finish-requires c κs = tt
+slice-aggregate-answer-some-2 : tie.Need-slice-aggregate-answer-some-2 Inv-loop μ-loop
+slice-aggregate-answer-some-2 c = search needs
+
+answer-some-requires : tie.Need-answer-some-requires Inv-loop μ-loop
+answer-some-requires c κs = tt
 
 returns : tie.Need-returns Inv-loop μ-loop
 returns c = tt
-
-returns-2 : tie.Need-returns-2 Inv-loop μ-loop
-returns-2 c = tt
 
 sub-turns : tie.Need-sub-turns Inv-loop μ-loop
 sub-turns c = omega arith
@@ -31,10 +37,10 @@ loop-less : tie.Need-loop-less Inv-loop μ-loop
 loop-less c = omega arith
 
 loop-again : tie.Need-loop-again Inv-loop μ-loop
-loop-again c = tt
+loop-again c = (search needs, search needs)
 
-returns-3 : tie.Need-returns-3 Inv-loop μ-loop
-returns-3 c = tt
+returns-2 : tie.Need-returns-2 Inv-loop μ-loop
+returns-2 c = tt
 
 pub main-spec : {M : Type 1} → statement M
 main-spec =
@@ -42,12 +48,13 @@ main-spec =
     (tie.spec
     Inv-loop
     μ-loop
+    large-buffer-requires
     loop-holds
-    read-some-requires
-    finish-requires
+    slice-aggregate-answer-some
+    slice-aggregate-answer-some-2
+    answer-some-requires
     returns
-    returns-2
     sub-turns
     loop-less
     loop-again
-    returns-3)
+    returns-2)

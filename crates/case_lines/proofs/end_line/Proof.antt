@@ -1,0 +1,47 @@
+use native.Mathlib.Omega.{arith}
+use lib.ListN.{length}
+use Rattle.output.proofs.Clipping.{at-most-le}
+use Rattle.cases.specs.CaseLines.{lineMost}
+use Rattle.case_answers.specs.CaseAnswers.{caseAnswer}
+use Rattle.case_lines.proofs.Kept.{kept-case}
+use Rattle.line_stream.proofs.Closing.{ends}
+use borrow.Author.Needs.{needs}
+use Rattle.case_lines.proofs.end_line.Statement.{statement}
+use Rattle.case_lines.proofs.end_line.Tie as tie
+
+at-most-requires : tie.Need-at-most-requires
+at-most-requires c κs = tt
+
+sub-put-line : tie.Need-sub-put-line
+sub-put-line c = search needs
+
+part-put-line-start : tie.Need-part-put-line-start
+part-put-line-start c = search needs
+
+part-put-line-end : tie.Need-part-put-line-end
+part-put-line-end c = omega (arith, c .before .at-most .ensures, at-most-le (c .before .before .before .before .args .g .len) (length (c .before .before .before .before .args .line .now)))
+
+put-line-requires : tie.Need-put-line-requires
+put-line-requires c κs = tt
+
+close-line-requires : tie.Need-close-line-requires
+close-line-requires c κs = tt
+
+same-length : tie.Need-same-length
+same-length c = search needs
+
+returns : tie.Need-returns
+returns c = ends caseAnswer lineMost kept-case (c .before .before .before .before .before .before .before .before .before .args .line .now) (c .before .before .before .before .before .before .before .before .before .args .out .now) (c .before .before .before .put-line .last .0) (c .before .before .before .before .before .before .before .before .before .args .g) _ _ (c .before .before .before .before .before .before .at-most .ensures) (c .before .before .before .put-line .ensures) (c .close-line .ensures)
+
+pub end-line-spec : {M : Type 1} → statement M
+end-line-spec =
+    tie.close
+    (tie.spec
+    at-most-requires
+    sub-put-line
+    part-put-line-start
+    part-put-line-end
+    put-line-requires
+    close-line-requires
+    same-length
+    returns)

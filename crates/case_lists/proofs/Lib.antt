@@ -1,0 +1,2 @@
+-- How the list of placements follows from "first" and "next".
+pub mod Listing

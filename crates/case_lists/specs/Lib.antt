@@ -1,0 +1,3 @@
+-- What the contracts of `case_lists` cite.
+pub mod AnswerTexts
+pub mod Following
