@@ -6,6 +6,7 @@ use Rattle.forms.specs.Bytes.{if_then_else_, text}
 use Rattle.definitions.specs.declared.table.Table.{Table}
 use Rattle.definitions.specs.declared.packet.Direction.{Direction}
 use Rattle.definitions.specs.declared.packet.FieldMap.{FieldMap}
+use Rattle.definitions.specs.declared.answers.Refusal.{Refusal}
 use Rattle.definitions.specs.declared.answers.ReadOutcome.{ReadOutcome}
 use Rattle.definitions.specs.declared.answers.ReadOutcome.the-variants as outcome
 use Rattle.definitions.specs.declared.answers.Reading.{Reading}
@@ -17,16 +18,20 @@ use Rattle.definitions.specs.Answers.{verdictDue, placementsOf, firstAnswer, ne
 use Rattle.cases.specs.CaseLines.{Ask, all, first, next, isCase, Case, caseOf}
 use Rattle.case_lists.specs.AnswerTexts.{listText, dueText, answerText}
 
+-- a text's refusal with its place
+abbrev pub unreadText : Refusal → ℕ → List ℕ
+unreadText r place = text "text " ++ (decimal (numberOf r) ++ (text " " ++ decimal place))
+
 module _ (p decoded : List ℕ) (dir : Direction) (m : FieldMap) where
   unfoldable pub askText : Table → Ask → List ℕ
   askText t all = dueText (verdictDue t p decoded dir m) (listText (placementsOf t p decoded dir m))
   askText t first = answerText (firstAnswer t p decoded dir m)
   askText t (next h) = answerText (nextAnswer t p decoded dir m h)
 
-  -- a text's refusal with its place, or the answer for its table
+  -- the answer for a text's table, or its refusal
   abbrev pub outcomeText : ReadOutcome → Table → Ask → List ℕ
   outcomeText outcome.Accepted t a = askText t a
-  outcomeText (outcome.Refused r place) t a = text "text " ++ (decimal (numberOf r) ++ (text " " ++ decimal place))
+  outcomeText (outcome.Refused r place) t a = unreadText r place
 
   abbrev pub readingText : Reading → Ask → List ℕ
   readingText r a = outcomeText (r .outcome) (r .table) a

@@ -9,7 +9,7 @@ ghost use Rattle.definitions.specs.Reading.{read as readText};
 ghost use Rattle.output.specs.Puts.{Puts};
 ghost use Rattle.cases.specs.CaseLines.{lineMost, isHex};
 ghost use Rattle.cases.specs.Parsing.{isKind, askBy};
-ghost use Rattle.case_answers.specs.CaseAnswers.{askText, readingText, caseAnswer};
+ghost use Rattle.case_answers.specs.CaseAnswers.{askText, unreadText, readingText, caseAnswer};
 ghost use Rattle.case_answers.specs.Columns.{columnsText, Formed};
 use case_lists::answers::put_answer;
 use case_lists::lists::put_list;
@@ -26,6 +26,7 @@ use cases::parts::rear;
 use codes::number_of;
 use definitions::answers::ReadOutcome;
 use definitions::answers::Reading;
+use definitions::answers::Refusal;
 use definitions::packet::Direction;
 use definitions::packet::FieldMap;
 use definitions::packet::Placement;
@@ -61,6 +62,16 @@ fn put_ask<'a>(
     }
 }
 
+// A text's refusal with its place.
+fn put_unread(out: &mut [u8], at: usize, r: Refusal, place: usize) -> usize
+    ensures { λ n. ⌜ Puts (now (out .entry)) at (unreadText r place) (now (out .exit)) n ⌝ }
+{
+    let a1 = put_word(out, at, b"text ");
+    let a2 = put_decimal(out, a1, number_of(r));
+    let a3 = put(out, a2, 32);
+    put_decimal(out, a3, place as u64)
+}
+
 fn put_reading<'a>(
     out: &mut [u8],
     at: usize,
@@ -78,12 +89,7 @@ fn put_reading<'a>(
     let table = reading.table;
     match outcome {
         ReadOutcome::Accepted => put_ask(out, at, table, p, decoded, dir, m, kind, held),
-        ReadOutcome::Refused(r, place) => {
-            let a1 = put_word(out, at, b"text ");
-            let a2 = put_decimal(out, a1, number_of(r));
-            let a3 = put(out, a2, 32);
-            put_decimal(out, a3, place as u64)
-        }
+        ReadOutcome::Refused(r, place) => put_unread(out, at, r, place),
     }
 }
 

@@ -1,0 +1,48 @@
+use mathlib.Core.Path.{refl, sym, ap}
+use mathlib.Core.List.{_++_}
+use Prim.Native.Nat.{ℕ}
+use Rattle.forms.specs.Bytes.{text}
+use Rattle.definitions.specs.House.{decimal}
+use Rattle.output.proofs.Putting.{then, told, same-length as same}
+use Rattle.case_answers.proofs.put_unread.Statement.{statement}
+use Rattle.case_answers.proofs.put_unread.Tie as tie
+
+slice-aggregate-put-word : tie.Need-slice-aggregate-put-word
+slice-aggregate-put-word c = refl
+
+put-word-requires : tie.Need-put-word-requires
+put-word-requires c κs = tt
+
+number-of-requires : tie.Need-number-of-requires
+number-of-requires c κs = tt
+
+put-decimal-requires : tie.Need-put-decimal-requires
+put-decimal-requires c κs = tt
+
+put-requires : tie.Need-put-requires
+put-requires c κs = tt
+
+put-decimal-requires-2 : tie.Need-put-decimal-requires-2
+put-decimal-requires-2 c κs = tt
+
+returns : tie.Need-returns
+returns c =
+    told
+    (ap (λ (n : ℕ). text "text " ++ (decimal n ++ (text " " ++ decimal (c .before .before .before .before .before .before .before .before .before .before .before .before .before .before .before .before .before .before .before .args .place)))) (sym (c .before .before .before .before .before .before .before .before .before .before .before .number-of .ensures)))
+    (then (c .before .before .before .before .before .before .before .before .before .before .before .before .before .before .before .put-word .ensures) (then (c .before .before .before .before .before .before .before .before .before .before .put-decimal .ensures) (then (c .before .before .before .before .before .before .put .ensures) (c .before .before .put-decimal2 .ensures))))
+
+same-length : tie.Need-same-length
+same-length c = same (returns c)
+
+pub put-unread-spec : {M : Type 1} → statement M
+put-unread-spec =
+    tie.close
+    (tie.spec
+    slice-aggregate-put-word
+    put-word-requires
+    number-of-requires
+    put-decimal-requires
+    put-requires
+    put-decimal-requires-2
+    same-length
+    returns)
