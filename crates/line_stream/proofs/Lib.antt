@@ -3,3 +3,4 @@ pub mod Closing
 pub mod Keeping
 pub mod Feeding
 pub mod Output
+pub mod Room

@@ -25,3 +25,5 @@ pub mod Told
 pub mod Printed
 pub mod House
 pub mod Buffer
+pub mod Places
+pub mod Digits
