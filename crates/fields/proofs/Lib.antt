@@ -1,4 +1,3 @@
--- Spans within a buffer, the buffer of a field, and the fields of a map.
-pub mod Spans
+-- The buffer of a field, and the fields of a map.
 pub mod Buffers
 pub mod Mapped

@@ -1,3 +1,2 @@
--- What the contracts of `fields` cite besides the definitions: parts of a caller's buffer, and the buffer of a field.
-pub mod Parts
-pub mod Places
+-- What is seen of a packet: for the crates that ask about its fields.
+pub mod Seen

@@ -1,22 +1,17 @@
 // The fields of a packet: whether one is there, its bytes as the caller's own part of a lent buffer, and refusal 35.
 ghost use mathlib.Core.Path.{_≡_};
-ghost use Rattle.definitions.specs.Fields.{present, fieldOf, fieldSpan, fieldsDue, fieldPasses, passes, shown};
-ghost use Rattle.fields.specs.Parts.{PartOf};
-ghost use Rattle.fields.specs.Places.{chosen, lentOf};
+ghost use Rattle.definitions.specs.Fields.{present, fieldOf, fieldSpan, fieldsDue, fieldPasses};
+ghost use Rattle.parts.specs.Parts.{PartOf};
+ghost use Rattle.places.specs.Places.{lentOf};
 
-pub mod parts;
-mod places;
-
-use crate::parts::is_at;
-use crate::parts::part_of;
-use crate::parts::passes_end;
-use crate::places::Buffer;
-use crate::places::place_of;
 use definitions::answers::Due;
 use definitions::answers::Refusal;
 use definitions::packet::FieldMap;
-use definitions::packet::FieldSpan;
 use definitions::table::Context;
+use parts::is_at;
+use places::part_of_one;
+use places::passes_one;
+use places::place_of;
 
 // Whether the field is present.
 pub fn is_present(m: FieldMap, c: Context) -> bool
@@ -25,16 +20,6 @@ pub fn is_present(m: FieldMap, c: Context) -> bool
     let place = place_of(0, m, c);
     let span = place.span;
     is_at(span)
-}
-
-// The part of the payload or of the decoded buffer that a field's span shows.
-fn part_of_one<'a>(payload: &'a [u8], decoded: &'a [u8], b: Buffer, f: FieldSpan) -> &'a [u8]
-    ensures { λ r. ⌜ PartOf (chosen (payload .entry) (decoded .entry) b) (shown f (now (chosen (payload .entry) (decoded .entry) b))) r ⌝ }
-{
-    match b {
-        Buffer::Payload => part_of(payload, f),
-        Buffer::Decoded => part_of(decoded, f),
-    }
 }
 
 // THE FIELD ENTRY: the field's bytes, at their own place in the caller's buffer. An absent field, and one past its buffer, is the empty part at
@@ -50,15 +35,6 @@ pub fn field_of<'a>(payload: &'a [u8], decoded: &'a [u8], m: FieldMap, c: Contex
 }
 
 // Whether a field is present and its span passes its buffer.
-fn passes_one(payload: &[u8], decoded: &[u8], b: Buffer, f: FieldSpan) -> bool
-    ensures { λ r. ⌜ r ≡ passes f (chosen (now (payload .entry)) (now (decoded .entry)) b) ⌝ }
-{
-    match b {
-        Buffer::Payload => passes_end(payload, f),
-        Buffer::Decoded => passes_end(decoded, f),
-    }
-}
-
 fn field_passes(payload: &[u8], decoded: &[u8], m: FieldMap, c: Context) -> bool
     ensures { λ r. ⌜ r ≡ fieldPasses (now (payload .entry)) (now (decoded .entry)) m c ⌝ }
 {

@@ -26,7 +26,7 @@ use Rattle.definitions.specs.Placements.{listed}
 use Rattle.definitions.specs.Answers.{verdictDue, placementsOf}
 use Rattle.packet.specs.Datagram.{payloadPart}
 use Rattle.packet.proofs.Payloads.{payload-part}
-use Rattle.meaning.specs.Seen.{seen}
+use Rattle.fields.specs.Seen.{seen}
 use Rattle.search.specs.Searching.{Searchable}
 use Rattle.matcher.specs.Entering.{clearance, Cleared}
 

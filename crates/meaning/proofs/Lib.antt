@@ -1,5 +1,2 @@
--- Addresses among some, bytes behind a start, and what is seen of a field.
-pub mod Among
-pub mod Behind
-pub mod Presence
+-- A negated pattern, and what is seen of its field.
 pub mod Placing

@@ -1,2 +1,2 @@
--- What the meaning of items sees, and what it rests on.
-pub mod Seen
+-- What the contracts of `meaning` cite besides the definitions.
+pub mod Bounds

@@ -1,20 +1,17 @@
 // When an item holds: every test by one function, a negated pattern, and a table's protocol and flow.
-mod addresses;
 pub mod heads;
-mod lengths;
 pub mod negated;
-mod numbers;
 
 ghost use mathlib.Core.Path.{_≡_};
 ghost use Rattle.definitions.specs.Tests.{testHolds};
-ghost use Rattle.meaning.specs.Seen.{seen};
-use crate::addresses::address_holds;
-use crate::addresses::same_ip;
-use crate::lengths::at_holds;
-use crate::lengths::size_holds;
-use crate::numbers::field_holds;
-use crate::numbers::number_holds;
-use crate::numbers::ttl_holds;
+ghost use Rattle.fields.specs.Seen.{seen};
+use address_tests::address_holds;
+use address_tests::same_ip;
+use length_tests::at_holds;
+use length_tests::size_holds;
+use number_tests::field_holds;
+use number_tests::number_holds;
+use number_tests::ttl_holds;
 use definitions::limits::ADDRESSES;
 use definitions::packet::Facts;
 use definitions::packet::FieldMap;

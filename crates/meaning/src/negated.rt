@@ -2,7 +2,8 @@
 ghost use mathlib.Core.Path.{_≡_};
 ghost use Rattle.definitions.specs.Placements.{nowhereHolds};
 ghost use Rattle.definitions.specs.declared.packet.Facts.{Facts};
-ghost use Rattle.meaning.specs.Seen.{seen, Bounded};
+ghost use Rattle.fields.specs.Seen.{seen};
+ghost use Rattle.meaning.specs.Bounds.{Bounded};
 use definitions::packet::FieldMap;
 use definitions::packet::Last;
 use definitions::table::Pattern;

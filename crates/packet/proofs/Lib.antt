@@ -1,4 +1,3 @@
--- Header fields over their width, what the refusals leave, and the payload's place.
-pub mod Widths
+-- What the refusals leave, and the payload's place.
 pub mod Passed
 pub mod Payloads

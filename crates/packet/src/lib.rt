@@ -2,32 +2,29 @@
 ghost use mathlib.Core.Path.{_≡_};
 ghost use Rattle.definitions.specs.Packet.{factsOf, packetAnswer};
 ghost use Rattle.definitions.specs.Fields.{shown};
-ghost use Rattle.fields.specs.Parts.{PartOf};
+ghost use Rattle.parts.specs.Parts.{PartOf};
 ghost use Rattle.packet.specs.Datagram.{datagramAnswer, spanBetween, payloadSpan, payloadPart};
 
-mod header;
-mod reading;
-mod transport;
 
-use crate::header::header_length;
-use crate::header::is_fragment;
-use crate::header::lent_too_long;
-use crate::header::not_ipv4;
-use crate::header::total_length;
-use crate::header::wrong_lengths;
-use crate::reading::wide8;
-use crate::reading::wide16;
-use crate::reading::wide32;
-use crate::transport::port_at;
-use crate::transport::protocol_of;
-use crate::transport::transport_length;
-use crate::transport::transport_short;
+use headers::header_length;
+use headers::is_fragment;
+use headers::lent_too_long;
+use headers::not_ipv4;
+use headers::total_length;
+use headers::wrong_lengths;
+use wide::wide8;
+use wide::wide16;
+use wide::wide32;
+use transport::port_at;
+use transport::protocol_of;
+use transport::transport_length;
+use transport::transport_short;
 use definitions::answers::PacketAnswer;
 use definitions::answers::Refusal;
 use definitions::packet::Facts;
 use definitions::packet::FieldSpan;
 use definitions::packet::Span;
-use fields::parts::part_of;
+use parts::part_of;
 
 // The facts of a datagram.
 fn facts_of(d: &[u8]) -> Facts

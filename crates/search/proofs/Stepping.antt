@@ -28,7 +28,7 @@ use Rattle.definitions.proofs.table.Item as item-type
 use Rattle.references.proofs.OtherItems.{other-kind}
 use Rattle.references.proofs.Firsts.{first-here, first-out}
 use Rattle.windows.specs.Spans.{sizeBound}
-use Rattle.meaning.specs.Seen.{Bounded}
+use Rattle.meaning.specs.Bounds.{Bounded}
 use Rattle.search.specs.declared.items.Question.{Question}
 use Rattle.search.specs.Outcomes.{nothing}
 use Rattle.search.specs.Searching.{push, answer, itemsLeft, Small, Ready, Trying}

@@ -19,7 +19,7 @@ use Rattle.formed.proofs.Passing.{drop-here}
 use Rattle.windows.specs.declared.Window.{Window}
 use Rattle.windows.specs.Spans.{Spans, placesOf}
 use Rattle.windows.proofs.Listing.{from, standing, passed, places-window}
-use Rattle.meaning.specs.Seen.{seen}
+use Rattle.fields.specs.Seen.{seen}
 use Rattle.meaning.proofs.Placing.{starts-present}
 use Rattle.search.specs.declared.outcomes.Outcome.{Outcome}
 use Rattle.search.specs.Outcomes.{nothing}

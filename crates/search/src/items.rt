@@ -5,7 +5,7 @@ ghost use Prim.Native.Nat.{_+_, _≤_, _<_};
 ghost use lib.ListN.{drop};
 ghost use Rattle.definitions.specs.Limits.{itemsMost};
 ghost use Rattle.definitions.specs.Placements.{placed, wanted, placements};
-ghost use Rattle.meaning.specs.Seen.{seen};
+ghost use Rattle.fields.specs.Seen.{seen};
 ghost use Rattle.search.specs.Searching.{answer, itemsLeft, Ready, Trying};
 use crate::outcomes::Outcome;
 use crate::outcomes::at_end;

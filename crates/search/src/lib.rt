@@ -5,7 +5,7 @@ pub mod outcomes;
 ghost use mathlib.Core.Path.{_≡_};
 ghost use Rattle.definitions.specs.Lists.{keep};
 ghost use Rattle.definitions.specs.Placements.{listed};
-ghost use Rattle.meaning.specs.Seen.{seen};
+ghost use Rattle.fields.specs.Seen.{seen};
 ghost use Rattle.search.specs.Outcomes.{outcomeOf, behindIf};
 ghost use Rattle.search.specs.Searching.{Searchable};
 use crate::items::Question;

@@ -5,15 +5,14 @@ use mathlib.Core.List.{List}
 use mathlib.Core.Path.{refl, ap, _∙_}
 use denote.Ref.{now}
 use Rattle.fields.proofs.Buffers.{lent-buffer}
-use borrow.Author.Needs.{needs}
 use Rattle.fields.proofs.field_passes.Statement.{statement}
 use Rattle.fields.proofs.field_passes.Tie as tie
 
 place-of-requires : tie.Need-place-of-requires
-place-of-requires c κs = search needs
+place-of-requires c κs = tt
 
 passes-one-requires : tie.Need-passes-one-requires
-passes-one-requires c κs = search needs
+passes-one-requires c κs = tt
 
 returns : tie.Need-returns
 returns c =

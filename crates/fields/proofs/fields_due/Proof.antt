@@ -1,26 +1,25 @@
 -- The six tests in a row are the definitions' test of any of them.
 use Rattle.fields.proofs.Mapped.{due-of-six}
-use borrow.Author.Needs.{needs}
 use Rattle.fields.proofs.fields_due.Statement.{statement}
 use Rattle.fields.proofs.fields_due.Tie as tie
 
 field-passes-requires : tie.Need-field-passes-requires
-field-passes-requires c κs = search needs
+field-passes-requires c κs = tt
 
 field-passes-requires-2 : tie.Need-field-passes-requires-2
-field-passes-requires-2 c κs = search needs
+field-passes-requires-2 c κs = tt
 
 field-passes-requires-3 : tie.Need-field-passes-requires-3
-field-passes-requires-3 c κs = search needs
+field-passes-requires-3 c κs = tt
 
 field-passes-requires-4 : tie.Need-field-passes-requires-4
-field-passes-requires-4 c κs = search needs
+field-passes-requires-4 c κs = tt
 
 field-passes-requires-5 : tie.Need-field-passes-requires-5
-field-passes-requires-5 c κs = search needs
+field-passes-requires-5 c κs = tt
 
 field-passes-requires-6 : tie.Need-field-passes-requires-6
-field-passes-requires-6 c κs = search needs
+field-passes-requires-6 c κs = tt
 
 returns : tie.Need-returns
 returns c = due-of-six _ _ _ _ _ _ _ _ _ _ (c .before .before .before .before .before .before .field-passes .ensures) (c .before .before .before .before .before .field-passes2 .ensures) (c .before .before .before .before .field-passes3 .ensures) (c .before .before .before .field-passes4 .ensures) (c .before .before .field-passes5 .ensures) (c .before .field-passes6 .ensures) (c .if1 .taken)

@@ -2,15 +2,14 @@
 use Rattle.definitions.specs.Fields.{present}
 use mathlib.Core.List.{[]}
 use mathlib.Core.Path.{refl}
-use borrow.Author.Needs.{needs}
 use Rattle.fields.proofs.is_present.Statement.{statement}
 use Rattle.fields.proofs.is_present.Tie as tie
 
 place-of-requires : tie.Need-place-of-requires
-place-of-requires c κs = search needs
+place-of-requires c κs = tt
 
 is-at-requires : tie.Need-is-at-requires
-is-at-requires c κs = search needs
+is-at-requires c κs = tt
 
 returns : tie.Need-returns
 unfolding present

@@ -1,56 +1,55 @@
 -- Each arm rewrites with the constructor matched and with what its callee ensures.
 use Rattle.definitions.specs.Tests.{testHolds}
-use borrow.Author.Needs.{needs}
 use Rattle.meaning.proofs.test_holds.Statement.{statement}
 use Rattle.meaning.proofs.test_holds.Tie as tie
 
 enum-told : tie.Need-enum-told
-enum-told c = search needs
+enum-told c = c .match .keys1
 
 enum-known-item : tie.Need-enum-known-item
-enum-known-item c = search needs
+enum-known-item c = c .match .keys2
 
 address-holds-requires : tie.Need-address-holds-requires
-address-holds-requires c κs = search needs
+address-holds-requires c κs = tt
 
 enum-told-2 : tie.Need-enum-told-2
-enum-told-2 c = search needs
+enum-told-2 c = c .match .keys3
 
 same-ip-requires : tie.Need-same-ip-requires
-same-ip-requires c κs = search needs
+same-ip-requires c κs = tt
 
 enum-known-item-2 : tie.Need-enum-known-item-2
-enum-known-item-2 c = search needs
+enum-known-item-2 c = c .match .keys4
 
 number-holds-requires : tie.Need-number-holds-requires
-number-holds-requires c κs = search needs
+number-holds-requires c κs = tt
 
 enum-known-item-3 : tie.Need-enum-known-item-3
-enum-known-item-3 c = search needs
+enum-known-item-3 c = c .match .keys5
 
 ttl-holds-requires : tie.Need-ttl-holds-requires
-ttl-holds-requires c κs = search needs
+ttl-holds-requires c κs = tt
 
 enum-known-item-4 : tie.Need-enum-known-item-4
-enum-known-item-4 c = search needs
+enum-known-item-4 c = c .match .keys6
 
 field-holds-requires : tie.Need-field-holds-requires
-field-holds-requires c κs = search needs
+field-holds-requires c κs = tt
 
 enum-known-item-5 : tie.Need-enum-known-item-5
-enum-known-item-5 c = search needs
+enum-known-item-5 c = c .match .keys7
 
 size-holds-requires : tie.Need-size-holds-requires
-size-holds-requires c κs = search needs
+size-holds-requires c κs = tt
 
 enum-known-item-6 : tie.Need-enum-known-item-6
-enum-known-item-6 c = search needs
+enum-known-item-6 c = c .match .keys8
 
 at-holds-requires : tie.Need-at-holds-requires
-at-holds-requires c κs = search needs
+at-holds-requires c κs = tt
 
 enum-told-3 : tie.Need-enum-told-3
-enum-told-3 c = search needs
+enum-told-3 c = c .match .keys9
 
 returns : tie.Need-returns
 unfolding testHolds

@@ -1,26 +1,25 @@
 -- Each return rewrites with what the callees ensure of the tests that led there.
 use Rattle.packet.specs.Datagram.{datagramAnswer}
 use mathlib.Core.Path.{sym, _∙_}
-use borrow.Author.Needs.{needs}
 use Rattle.packet.proofs.datagram_facts.Statement.{statement}
 use Rattle.packet.proofs.datagram_facts.Tie as tie
 
 is-fragment-requires : tie.Need-is-fragment-requires
-is-fragment-requires c κs = search needs
+is-fragment-requires c κs = tt
 
 returns : tie.Need-returns
 unfolding datagramAnswer
 returns c = rw (sym (c .before .is-fragment .ensures) ∙ c .if1 .taken)
 
 transport-short-requires : tie.Need-transport-short-requires
-transport-short-requires c κs = search needs
+transport-short-requires c κs = tt
 
 returns-2 : tie.Need-returns-2
 unfolding datagramAnswer
 returns-2 c = rw (sym (c .before .before .before .is-fragment .ensures) ∙ c .before .before .if1 .left, sym (c .before .transport-short .ensures) ∙ c .if2 .taken)
 
 facts-of-requires : tie.Need-facts-of-requires
-facts-of-requires c κs = search needs
+facts-of-requires c κs = tt
 
 returns-3 : tie.Need-returns-3
 unfolding datagramAnswer

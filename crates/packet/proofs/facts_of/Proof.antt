@@ -1,47 +1,48 @@
 -- Each fact rewrites with what its callee ensures.
+use native.Mathlib.Omega.{arith}
 use Rattle.definitions.specs.Packet.{factsOf}
 use borrow.Author.Needs.{needs}
 use Rattle.packet.proofs.facts_of.Statement.{statement}
 use Rattle.packet.proofs.facts_of.Tie as tie
 
 total-length-requires : tie.Need-total-length-requires
-total-length-requires c κs = search needs
+total-length-requires c κs = tt
 
 header-length-requires : tie.Need-header-length-requires
-header-length-requires c κs = search needs
+header-length-requires c κs = tt
 
 transport-length-requires : tie.Need-transport-length-requires
-transport-length-requires c κs = search needs
+transport-length-requires c κs = tt
 
 add-payload : tie.Need-add-payload
 add-payload c = search needs
 
 protocol-of-requires : tie.Need-protocol-of-requires
-protocol-of-requires c κs = search needs
+protocol-of-requires c κs = tt
 
 wide8-requires : tie.Need-wide8-requires
-wide8-requires c κs = search needs
+wide8-requires c κs = omega arith
 
 wide16-requires : tie.Need-wide16-requires
-wide16-requires c κs = search needs
+wide16-requires c κs = omega arith
 
 wide8-requires-2 : tie.Need-wide8-requires-2
-wide8-requires-2 c κs = search needs
+wide8-requires-2 c κs = omega arith
 
 wide16-requires-2 : tie.Need-wide16-requires-2
-wide16-requires-2 c κs = search needs
+wide16-requires-2 c κs = omega arith
 
 wide32-requires : tie.Need-wide32-requires
-wide32-requires c κs = search needs
+wide32-requires c κs = omega arith
 
 wide32-requires-2 : tie.Need-wide32-requires-2
-wide32-requires-2 c κs = search needs
+wide32-requires-2 c κs = omega arith
 
 port-at-requires : tie.Need-port-at-requires
-port-at-requires c κs = search needs
+port-at-requires c κs = omega arith
 
 port-at-requires-2 : tie.Need-port-at-requires-2
-port-at-requires-2 c κs = search needs
+port-at-requires-2 c κs = omega arith
 
 returns : tie.Need-returns
 unfolding factsOf

@@ -9,28 +9,28 @@ use Rattle.packet.proofs.packet_facts.Statement.{statement}
 use Rattle.packet.proofs.packet_facts.Tie as tie
 
 lent-too-long-requires : tie.Need-lent-too-long-requires
-lent-too-long-requires c κs = search needs
+lent-too-long-requires c κs = tt
 
 returns : tie.Need-returns
 unfolding packetAnswer packetDue
 returns c = rw (sym (c .before .lent-too-long .ensures) ∙ c .if1 .taken)
 
 not-ipv4-requires : tie.Need-not-ipv4-requires
-not-ipv4-requires c κs = search needs
+not-ipv4-requires c κs = tt
 
 returns-2 : tie.Need-returns-2
 unfolding packetAnswer packetDue
 returns-2 c = rw (sym (c .before .before .before .lent-too-long .ensures) ∙ c .before .before .if1 .left, sym (c .before .not-ipv4 .ensures) ∙ c .if2 .taken)
 
 wrong-lengths-requires : tie.Need-wrong-lengths-requires
-wrong-lengths-requires c κs = search needs
+wrong-lengths-requires c κs = tt
 
 returns-3 : tie.Need-returns-3
 unfolding packetAnswer packetDue
 returns-3 c = rw (sym (c .before .before .before .before .before .lent-too-long .ensures) ∙ c .before .before .before .before .if1 .left, sym (c .before .before .before .not-ipv4 .ensures) ∙ c .before .before .if2 .left, sym (c .before .wrong-lengths .ensures) ∙ c .if3 .taken)
 
 total-length-requires : tie.Need-total-length-requires
-total-length-requires c κs = search needs
+total-length-requires c κs = tt
 
 sub-datagram-facts : tie.Need-sub-datagram-facts
 sub-datagram-facts c = search needs
@@ -42,7 +42,7 @@ part-datagram-facts-end : tie.Need-part-datagram-facts-end
 part-datagram-facts-end c = omega (arith, c .total-length .ensures, lengths (c .before .before .before .before .before .before .before .before .before .args .p .now) (sym (c .before .before .wrong-lengths .ensures) ∙ c .before .if3 .left) .total)
 
 datagram-facts-requires : tie.Need-datagram-facts-requires
-datagram-facts-requires c κs = search needs
+datagram-facts-requires c κs = tt
 
 returns-4 : tie.Need-returns-4
 unfolding packetAnswer packetDue datagramAnswer

@@ -1,14 +1,13 @@
 -- The part of the span from the payload's start up to the total length.
 use Rattle.packet.specs.Datagram.{payloadPart}
-use borrow.Author.Needs.{needs}
 use Rattle.packet.proofs.payload_of.Statement.{statement}
 use Rattle.packet.proofs.payload_of.Tie as tie
 
 span-between-requires : tie.Need-span-between-requires
-span-between-requires c κs = search needs
+span-between-requires c κs = tt
 
 part-of-requires : tie.Need-part-of-requires
-part-of-requires c κs = search needs
+part-of-requires c κs = tt
 
 returns : tie.Need-returns
 unfolding payloadPart

@@ -5,7 +5,7 @@ use borrow.Author.Needs.{needs, length-unmapped}
 use borrow.Author.Tests.{not-true, not-false}
 use lib.ListN.{length}
 use Rattle.definitions.specs.Limits.{limits01}
-use Rattle.meaning.specs.Seen.{seen}
+use Rattle.fields.specs.Seen.{seen}
 use Rattle.search.proofs.Formed.{few-items, ready-first, found-first, found-none}
 use Rattle.search.proofs.find.Statement.{statement}
 use Rattle.search.proofs.find.Tie as tie

@@ -1,11 +1,10 @@
 -- Each return rewrites with the comparison of the protocols.
 use borrow.Author.Tests.{eq-eqb, ne-eqb}
-use borrow.Author.Needs.{needs}
 use Rattle.meaning.proofs.heads.head_holds.Statement.{statement}
 use Rattle.meaning.proofs.heads.head_holds.Tie as tie
 
 flow-holds-requires : tie.Need-flow-holds-requires
-flow-holds-requires c κs = search needs
+flow-holds-requires c κs = tt
 
 returns : tie.Need-returns
 returns c = rw (eq-eqb _ _ (c .before .if1 .taken)) (c .flow-holds .ensures)

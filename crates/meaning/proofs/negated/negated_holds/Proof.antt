@@ -2,12 +2,11 @@
 use mathlib.Core.Path.{sym, _∙_}
 use borrow.Author.Tests.{not-true, not-false}
 use Rattle.meaning.proofs.Placing.{measured, nowhere-absent, nowhere-present}
-use borrow.Author.Needs.{needs}
 use Rattle.meaning.proofs.negated.negated_holds.Statement.{statement}
 use Rattle.meaning.proofs.negated.negated_holds.Tie as tie
 
 is-present-requires : tie.Need-is-present-requires
-is-present-requires c κs = search needs
+is-present-requires c κs = tt
 
 returns : tie.Need-returns
 returns c = λ f.
@@ -15,7 +14,7 @@ returns c = λ f.
     nowhere-absent f (a .payload .now) (a .decoded .now) (a .m) (a .p) (a .b .now) (a .last) (sym (c .before .is-present .ensures) ∙ not-true _ (c .if1 .taken))
 
 field-of-requires : tie.Need-field-of-requires
-field-of-requires c κs = search needs
+field-of-requires c κs = tt
 
 lies-nowhere-requires : tie.Need-lies-nowhere-requires
 lies-nowhere-requires c κs =

@@ -14,7 +14,7 @@ use Rattle.definitions.specs.References.{lastAfter}
 use Rattle.definitions.specs.Placements.{Wanted, placed, wanted, spread, placements}
 use Rattle.windows.specs.Spans.{sizeBound}
 use Rattle.windows.proofs.Listing.{from, standing}
-use Rattle.meaning.specs.Seen.{seen}
+use Rattle.fields.specs.Seen.{seen}
 use Rattle.meaning.proofs.Placing.{measured}
 use Rattle.search.specs.Searching.{answer, itemsLeft}
 use Rattle.search.proofs.Stepping.{length-mapped, ownOf, restOf, slot0, left-here, left-out, wanted-test, wanted-nowhere, wanted-placed, ready-test, pattern-stored, pattern-bounded, ready-nowhere, ready-placed, trying-bounded, ready-next, test-yes, test-no, nowhere-yes, nowhere-no, behind-last}

@@ -1,0 +1,2 @@
+-- Addresses among some.
+pub mod Among

@@ -1,0 +1,2 @@
+-- Spans within a buffer.
+pub mod Spans

@@ -1,0 +1,2 @@
+-- What the contracts of `parts` cite besides the definitions: parts of a caller's buffer.
+pub mod Parts

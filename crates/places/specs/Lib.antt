@@ -1,0 +1,2 @@
+-- What the contracts of `places` cite besides the definitions: the buffer of a field.
+pub mod Places

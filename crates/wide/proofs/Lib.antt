@@ -1,0 +1,2 @@
+-- Header fields over their width.
+pub mod Widths
