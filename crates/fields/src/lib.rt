@@ -3,7 +3,6 @@ ghost use mathlib.Core.Path.{_≡_};
 ghost use Rattle.definitions.specs.Fields.{present, fieldOf, fieldSpan, fieldsDue, fieldPasses};
 ghost use Rattle.parts.specs.Parts.{PartOf};
 ghost use Rattle.places.specs.Places.{lentOf};
-
 use definitions::answers::Due;
 use definitions::answers::Refusal;
 use definitions::packet::FieldMap;

@@ -5,8 +5,6 @@ ghost use Rattle.definitions.specs.Fields.{fieldOf, sizeContext};
 ghost use Rattle.definitions.specs.Tests.{atContext, atStart, atExists, sizeHolds, atHolds};
 ghost use Rattle.fields.specs.Seen.{seen};
 ghost use Rattle.definitions.specs.declared.packet.Facts.{Facts};
-use number_tests::of_word;
-use number_tests::order_holds;
 use definitions::packet::FieldMap;
 use definitions::packet::Last;
 use definitions::table::AtTest;
@@ -15,6 +13,8 @@ use definitions::table::SizeField;
 use definitions::table::SizeTest;
 use fields::field_of;
 use fields::is_present;
+use number_tests::of_word;
+use number_tests::order_holds;
 
 fn field_length<'a>(payload: &'a [u8], decoded: &'a [u8], m: FieldMap, c: Context) -> usize
     ensures { λ r. ⌜ r ≡ length (fieldOf (now (payload .entry)) (now (decoded .entry)) m c) ⌝ }

@@ -7,17 +7,17 @@ ghost use Rattle.definitions.specs.Tests.{testHolds};
 ghost use Rattle.fields.specs.Seen.{seen};
 use address_tests::address_holds;
 use address_tests::same_ip;
-use length_tests::at_holds;
-use length_tests::size_holds;
-use number_tests::field_holds;
-use number_tests::number_holds;
-use number_tests::ttl_holds;
 use definitions::limits::ADDRESSES;
 use definitions::packet::Facts;
 use definitions::packet::FieldMap;
 use definitions::packet::Last;
 use definitions::table::Address;
 use definitions::table::Item;
+use length_tests::at_holds;
+use length_tests::size_holds;
+use number_tests::field_holds;
+use number_tests::number_holds;
+use number_tests::ttl_holds;
 
 // Whether a test holds behind the last positive pattern. A slot that is not in use, and a pattern, are no tests.
 pub fn test_holds<'a>(

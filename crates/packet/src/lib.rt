@@ -4,27 +4,25 @@ ghost use Rattle.definitions.specs.Packet.{factsOf, packetAnswer};
 ghost use Rattle.definitions.specs.Fields.{shown};
 ghost use Rattle.parts.specs.Parts.{PartOf};
 ghost use Rattle.packet.specs.Datagram.{datagramAnswer, spanBetween, payloadSpan, payloadPart};
-
-
+use definitions::answers::PacketAnswer;
+use definitions::answers::Refusal;
+use definitions::packet::Facts;
+use definitions::packet::FieldSpan;
+use definitions::packet::Span;
 use headers::header_length;
 use headers::is_fragment;
 use headers::lent_too_long;
 use headers::not_ipv4;
 use headers::total_length;
 use headers::wrong_lengths;
-use wide::wide8;
-use wide::wide16;
-use wide::wide32;
+use parts::part_of;
 use transport::port_at;
 use transport::protocol_of;
 use transport::transport_length;
 use transport::transport_short;
-use definitions::answers::PacketAnswer;
-use definitions::answers::Refusal;
-use definitions::packet::Facts;
-use definitions::packet::FieldSpan;
-use definitions::packet::Span;
-use parts::part_of;
+use wide::wide8;
+use wide::wide16;
+use wide::wide32;
 
 // The facts of a datagram.
 fn facts_of(d: &[u8]) -> Facts
@@ -99,8 +97,8 @@ fn span_between(start: usize, end: usize) -> FieldSpan
     })
 }
 
-// The payload, at its own place in the packet. Padding is not payload. The empty part at the packet's start, where the facts are not this packet's
-// and their numbers don't lie in it.
+// The payload: the bytes from its start up to the total length, at their own place in the packet; padding is not payload. For facts that are not
+// this packet's: the same numbers' bytes where they lie in the packet, else the empty part at its start.
 pub fn payload_of<'a>(p: &'a [u8], f: Facts) -> &'a [u8]
     ensures bytes { λ r. ⌜ now r ≡ payloadPart (now (p .entry)) f ⌝ }
     ensures part { λ r. ⌜ PartOf (p .entry) (shown (payloadSpan f) (now (p .entry))) r ⌝ }

@@ -17,7 +17,7 @@ pub fn is_at(f: FieldSpan) -> bool
     }
 }
 
-// Whether so many bytes pass a length; no two numbers' sum wraps here.
+// Whether `len` bytes from `start` on end behind `n`. The sum is not formed, so it can't wrap.
 fn beyond(n: usize, start: usize, len: usize) -> bool
     ensures { λ r. ⌜ r ≡ ltb n (start + len) ⌝ }
 {

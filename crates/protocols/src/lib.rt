@@ -3,7 +3,9 @@ ghost use mathlib.Core.Path.{_≡_};
 ghost use Rattle.definitions.specs.Packet.{hasPorts};
 
 pub const ICMP: u8 = 1;
+
 pub const TCP: u8 = 6;
+
 pub const UDP: u8 = 17;
 
 // TCP and UDP have ports.

@@ -1,13 +1,13 @@
 -- What a well-formed table gives the search: no more items than there is room for, each pattern's bytes among the table's, a start for each positive
 -- pattern; and each placement listed has as many starts.
-use mathlib.Core.Path.{_≡_, _∙_}
-use mathlib.Core.Bool.{Bool, true, false}
+use mathlib.Core.Path.{_≡_, sym, _∙_}
+use mathlib.Core.Bool.{Bool, true, false, not}
 use mathlib.Core.List.{List, [], _∷_, List·Memᴰ as Mem}
 use Prim.Native.Nat.{ℕ, _+_, _≤_, _<_}
 use native.Mathlib.Omega.{arith}
 use lib.ListN.{length}
 use lib.Dec.{eqb, leb}
-use borrow.Author.Tests.{eqb-true, leb-true}
+use borrow.Author.Tests.{eqb-true, leb-true, not-true, not-false}
 use Rattle.forms.proofs.Bools.{by-cases, both-left, both-right}
 use Rattle.definitions.specs.declared.table.Pattern.{Pattern}
 use Rattle.definitions.specs.declared.table.Item.{Item}
@@ -25,11 +25,12 @@ use Rattle.definitions.specs.Placements.{wantedBy, wanted, itemsOf, positiveIn,
 use Rattle.definitions.specs.Answers.{placementOf}
 use Rattle.laws.proofs.Listing.{keep-in, placements-meet, meets-length}
 use Rattle.formed.proofs.Forming as forming
-use Rattle.windows.specs.Spans.{sizeBound}
-use Rattle.search.specs.declared.outcomes.Outcome.{Outcome}
-use Rattle.search.specs.Outcomes.{nothing, outcomeOf, behindIf}
-use Rattle.search.specs.Searching.{answer, Ready}
-use Rattle.search.proofs.Extending.{first-outcome}
+use Rattle.spans.specs.Spans.{sizeBound}
+use Rattle.outcomes.specs.declared.Outcome.{Outcome}
+use Rattle.outcomes.specs.Outcomes.{nothing, outcomeOf}
+use Rattle.chosen.specs.Choosing.{answer, behindIf}
+use Rattle.chosen.proofs.Extending.{first-outcome}
+use Rattle.items.specs.Items.{Ready}
 
 -- ---- no more positive patterns than patterns
 
@@ -95,13 +96,14 @@ module _ (t : Table) (formed : wellFormed t ≡ true) where
     short q m = let e = meets-length v (itemsOf t) Nothing q (placements-meet v (itemsOf t) Nothing q m) in omega (arith, few-positives)
 
     module _ (dir : Direction) (tight : Bool) (p : List ℕ) where
-      pub found-first : headHolds t v dir ≡ true → (x : Outcome) → x ≡ answer (placementOf []) tight p (placements v (wanted (slotsOf t) (t .bytes)) Nothing)
+      pub found-first : (h : Bool) → h ≡ headHolds t v dir → not h ≡ false → (x : Outcome) → x ≡ answer (placementOf []) tight p (placements v (wanted (slotsOf t) (t .bytes)) Nothing)
           → x ≡ outcomeOf (keep (behindIf tight p) (listed t v dir))
       unfolding answer listed itemsOf
-      found-first e x h =
+      found-first b e n x h =
           h ∙ first-outcome (keep (behindIf tight p) (placements v (itemsOf t) Nothing)) (λ q m. short q (keep-in (behindIf tight p) q (placements v (itemsOf t) Nothing) m .0))
-          ∙ rw e
+          ∙ rw (sym e ∙ not-false b n)
 
-pub found-none : (t : Table) (v : View) (dir : Direction) (tight : Bool) (p : List ℕ) → headHolds t v dir ≡ false → nothing ≡ outcomeOf (keep (behindIf tight p) (listed t v dir))
+pub found-none : (t : Table) (v : View) (dir : Direction) (tight : Bool) (p : List ℕ) (h : Bool) → h ≡ headHolds t v dir → not h ≡ true → (x : Outcome) → x ≡ nothing
+    → x ≡ outcomeOf (keep (behindIf tight p) (listed t v dir))
 unfolding listed keep
-found-none t v dir tight p e = rw e
+found-none t v dir tight p h e n x i = rw (sym e ∙ not-true h n) i

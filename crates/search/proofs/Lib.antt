@@ -1,6 +1,2 @@
--- Laws that the proofs of several functions use.
-pub mod Answering
-pub mod Trials
-pub mod Stepping
-pub mod Extending
+-- What a well-formed table gives the search.
 pub mod Formed

@@ -1,3 +1,2 @@
--- What the contracts of `search` cite besides the definitions: its outcome, and how it goes about the items.
-pub mod Outcomes
+-- What the contract of `search` cites besides the definitions.
 pub mod Searching

@@ -1,25 +1,23 @@
 // The search for placements: the first that meets a table, or the first behind another one.
-mod items;
-pub mod outcomes;
-
 ghost use mathlib.Core.Path.{_≡_};
 ghost use Rattle.definitions.specs.Lists.{keep};
 ghost use Rattle.definitions.specs.Placements.{listed};
 ghost use Rattle.fields.specs.Seen.{seen};
-ghost use Rattle.search.specs.Outcomes.{outcomeOf, behindIf};
+ghost use Rattle.outcomes.specs.Outcomes.{outcomeOf};
+ghost use Rattle.chosen.specs.Choosing.{behindIf};
 ghost use Rattle.search.specs.Searching.{Searchable};
-use crate::items::Question;
-use crate::items::from_item;
-use crate::outcomes::Outcome;
-use crate::outcomes::no_match;
 use definitions::limits::PATTERNS;
 use definitions::packet::Direction;
 use definitions::packet::Facts;
 use definitions::packet::FieldMap;
 use definitions::packet::Last;
-use definitions::packet::Placement;
 use definitions::table::Table;
+use items::Question;
+use items::from_item;
 use meaning::heads::head_holds;
+use outcomes::Outcome;
+use outcomes::empty;
+use outcomes::no_match;
 
 // THE SEARCH: the first of the list of placements; where `tight`, the first behind the one with the starts in `bound`.
 pub fn find<'a>(
@@ -42,10 +40,6 @@ pub fn find<'a>(
     let items = t.items;
     let bytes = t.bytes;
     let all = &bytes[..];
-    let none = Placement {
-        count: 0,
-        starts: [0; PATTERNS],
-    };
     let q = Question {
         items,
         count: t.count,
@@ -53,5 +47,5 @@ pub fn find<'a>(
         map: m,
         bound,
     };
-    from_item(q, 0, all, payload, decoded, Last::Nothing, none, tight)
+    from_item(q, 0, all, payload, decoded, Last::Nothing, empty(), tight)
 }

@@ -1,7 +1,3 @@
--- Signed numbers as starts, and the places of a list of starts.
-pub mod Bases
-pub mod Sums
-pub mod Clips
-pub mod Exact
+-- Bytes at a place, and the places of a list of starts.
 pub mod Standing
 pub mod Listing

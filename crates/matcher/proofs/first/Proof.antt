@@ -1,43 +1,41 @@
 -- A refusal is the first due; else the search has the first of the list.
-use mathlib.Core.Path.{sym, _∙_}
 use lib.ListN.{replicate}
 use Rattle.definitions.specs.Limits.{patternsMost}
-use Rattle.matcher.proofs.Clearance.{seen-cleared, refused-due}
+use Rattle.clearing.proofs.Clearance.{seen-cleared}
 use Rattle.matcher.proofs.Answering.{first-refused, first-found}
-use borrow.Author.Needs.{needs}
 use Rattle.matcher.proofs.first.Statement.{statement}
 use Rattle.matcher.proofs.first.Tie as tie
 
 cleared-requires : tie.Need-cleared-requires
-cleared-requires c κs = search needs
+cleared-requires c κs = tt
 
 enum-known-seen : tie.Need-enum-known-seen
-enum-known-seen c = search needs
+enum-known-seen c = c .match .keys1
 
 refused-requires : tie.Need-refused-requires
-refused-requires c κs = search needs
+refused-requires c κs = tt
 
 enum-known-seen-2 : tie.Need-enum-known-seen-2
-enum-known-seen-2 c = search needs
+enum-known-seen-2 c = c .match .keys2
 
 searched-requires : tie.Need-searched-requires
 searched-requires c κs =
     let x = c .before .before .before .before .before .before .args in
-    seen-cleared (x .t) (x .p .now) (x .decoded .now) (x .dir) (x .m) _ (sym (c .before .before .before .cleared .ensures (x .dir)) ∙ c .before .seen2 .given .1)
+    seen-cleared (x .t) (x .p .now) (x .decoded .now) (x .dir) (x .m) (c .before .before .before .cleared .result) (c .before .before .before .cleared .ensures (x .dir)) _ (c .before .seen2 .given .1)
 
 answered-requires : tie.Need-answered-requires
-answered-requires c κs = search needs
+answered-requires c κs = tt
 
 returns : tie.Need-returns
 returns c =
     let x = c .before .before .before .before .before .before .before .args in
-    c .refused .ensures ∙ first-refused (x .t) (x .p .now) (x .decoded .now) (x .dir) (x .m) _ (refused-due (x .t) (x .p .now) (x .decoded .now) (x .dir) (x .m) _ (sym (c .before .before .before .before .cleared .ensures (x .dir)) ∙ c .before .before .seen .given .1))
+    first-refused (x .t) (x .p .now) (x .decoded .now) (x .dir) (x .m) (c .before .before .before .before .cleared .result) (c .before .before .before .before .cleared .ensures (x .dir)) _ (c .before .before .seen .given .1) (c .refused .result) (c .refused .ensures)
 
 returns-2 : tie.Need-returns-2
 returns-2 c =
     let x = c .before .before .before .before .before .before .before .before .args in
-    let ok = seen-cleared (x .t) (x .p .now) (x .decoded .now) (x .dir) (x .m) _ (sym (c .before .before .before .before .before .cleared .ensures (x .dir)) ∙ c .before .before .before .seen2 .given .1) in
-    c .answered .ensures ∙ first-found (x .t) (x .p .now) (x .decoded .now) (x .dir) (x .m) (ok .due) (c .before .searched .result) (replicate patternsMost 0) (c .before .searched .ensures)
+    let ok = seen-cleared (x .t) (x .p .now) (x .decoded .now) (x .dir) (x .m) (c .before .before .before .before .before .cleared .result) (c .before .before .before .before .before .cleared .ensures (x .dir)) _ (c .before .before .before .seen2 .given .1) in
+    first-found (x .t) (x .p .now) (x .decoded .now) (x .dir) (x .m) (ok .due) (c .before .searched .result) (replicate patternsMost 0) (c .before .searched .ensures) (c .answered .result) (c .answered .ensures)
 
 pub first-spec : {M : Type 1} → statement M
 first-spec =

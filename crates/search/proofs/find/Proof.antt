@@ -1,8 +1,7 @@
 -- Where protocol or flow do not hold nothing is listed; else the items' answer over nothing chosen is the outcome.
-use mathlib.Core.Path.{_≡_, sym, _∙_}
+use mathlib.Core.Path.{_≡_}
 use native.Mathlib.Omega.{arith}
 use borrow.Author.Needs.{needs, length-unmapped}
-use borrow.Author.Tests.{not-true, not-false}
 use lib.ListN.{length}
 use Rattle.definitions.specs.Limits.{limits01}
 use Rattle.fields.specs.Seen.{seen}
@@ -11,35 +10,38 @@ use Rattle.search.proofs.find.Statement.{statement}
 use Rattle.search.proofs.find.Tie as tie
 
 head-holds-requires : tie.Need-head-holds-requires
-head-holds-requires c κs = search needs
+head-holds-requires c κs = tt
 
 no-match-requires : tie.Need-no-match-requires
-no-match-requires c κs = search needs
+no-match-requires c κs = tt
 
 returns : tie.Need-returns
 returns c =
     let x = c .before .before .before .before .before .args in
-    c .no-match .ensures
-    ∙ found-none (x .t) (seen (x .facts) (x .payload .now) (x .decoded .now) (x .m)) (x .dir) (x .tight) (x .bound)
-    (sym (c .before .before .head-holds .ensures) ∙ not-true _ (c .before .if1 .taken))
+    found-none (x .t) (seen (x .facts) (x .payload .now) (x .decoded .now) (x .m)) (x .dir) (x .tight) (x .bound)
+    (c .before .before .head-holds .result) (c .before .before .head-holds .ensures) (c .before .if1 .taken) (c .no-match .result) (c .no-match .ensures)
 
 slice-aggregate-all : tie.Need-slice-aggregate-all
 slice-aggregate-all c = search needs
 
+empty-requires : tie.Need-empty-requires
+empty-requires c κs = tt
+
 from-item-requires : tie.Need-from-item-requires
 from-item-requires c κs =
-    let a = c .before .before .before .before .before .before .before in
+    let a = c .before .before .before .before .before .before .before .before in
     let x = a .args in
     let room : length (x .t .bytes) ≡ limits01 .room = length-unmapped _ (x .t .bytes) (limits01 .room) (a .good .0 .1 .1 .1 .1 .1 .1 .0 .1 .0 .1) in
+    rw (c .empty .ensures)
     (few-items (x .t) (a .pre .formed), ready-first (x .t) (a .pre .formed) (x .payload .now) (x .decoded .now) (omega arith) (a .pre .payload) (a .pre .decoded))
 
 returns-2 : tie.Need-returns-2
 returns-2 c =
-    let a = c .before .before .before .before .before .before .before .before in
+    let a = c .before .before .before .before .before .before .before .before .before in
     let x = a .args in
     found-first (x .t) (a .pre .formed) (seen (x .facts) (x .payload .now) (x .decoded .now) (x .m)) (x .dir) (x .tight) (x .bound)
-    (sym (c .before .before .before .before .before .head-holds .ensures) ∙ not-false _ (c .before .before .before .before .if1 .left))
-    (c .from-item .result) (c .from-item .ensures)
+    (c .before .before .before .before .before .before .head-holds .result) (c .before .before .before .before .before .before .head-holds .ensures) (c .before .before .before .before .before .if1 .left)
+    (c .from-item .result) (rw (c .before .empty .ensures) at (c .from-item .ensures))
 
 pub find-spec : {M : Type 1} → statement M
 find-spec =
@@ -49,5 +51,6 @@ find-spec =
     no-match-requires
     returns
     slice-aggregate-all
+    empty-requires
     from-item-requires
     returns-2)

@@ -1,0 +1,2 @@
+-- What the contracts of `chosen` cite besides the definitions.
+pub mod Choosing

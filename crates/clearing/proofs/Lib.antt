@@ -1,0 +1,2 @@
+-- What is due, test by test.
+pub mod Clearance

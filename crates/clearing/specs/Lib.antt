@@ -1,0 +1,2 @@
+-- What the contracts of `clearing` cite besides the definitions.
+pub mod Clearing

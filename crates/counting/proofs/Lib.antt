@@ -1,0 +1,2 @@
+-- The number of positive patterns, slot by slot.
+pub mod Counts

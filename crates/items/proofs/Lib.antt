@@ -1,0 +1,3 @@
+-- One item more, and the trial of its starts.
+pub mod Trials
+pub mod Stepping

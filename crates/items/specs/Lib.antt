@@ -1,0 +1,2 @@
+-- What the contracts of `items` cite besides the definitions.
+pub mod Items

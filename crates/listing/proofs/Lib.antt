@@ -1,0 +1,3 @@
+-- What a cleared packet gives the search, and the answers of "next".
+pub mod Cleared
+pub mod Answering

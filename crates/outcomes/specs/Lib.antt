@@ -1,0 +1,2 @@
+-- What the contracts of `outcomes` cite besides the definitions.
+pub mod Outcomes
