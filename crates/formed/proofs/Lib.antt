@@ -1,7 +1,3 @@
--- Laws that belong to no one function: a test of every element, numbers, what types rule out, an item by its kind, and what the patterns come to.
-pub mod Passing
-pub mod Numbers
-pub mod Typed
-pub mod ByKind
-pub mod Adding
+-- How many items and patterns a table has.
 pub mod Forming
+pub mod Passing

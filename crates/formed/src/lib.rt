@@ -1,24 +1,18 @@
 // Whether a table is one that some text reads as: what refusal 20 goes by. Any numbers may stand in the table.
-mod addresses;
-mod bytes;
-pub mod items;
-mod patterns;
-mod slots;
-
 ghost use mathlib.Core.Path.{_≡_};
 ghost use Prim.Native.Nat.{_≤_};
 ghost use Rattle.definitions.specs.Limits.{itemsMost};
 ghost use Rattle.definitions.specs.WellFormed.{itemsFit, bytesFit, wellFormed};
-use crate::bytes::name_fits;
-use crate::bytes::room_fits;
-use crate::patterns::bytes_are;
-use crate::patterns::pattern_count;
-use crate::slots::slots_fit;
-use crate::slots::slots_unused;
 use definitions::limits::ITEMS;
 use definitions::limits::PATTERNS;
 use definitions::limits::TESTS;
 use definitions::table::Table;
+use formed_bytes::name_fits;
+use formed_bytes::room_fits;
+use formed_slots::patterns::bytes_are;
+use formed_slots::patterns::pattern_count;
+use formed_slots::slots_fit;
+use formed_slots::slots_unused;
 use references::counting::usable_count;
 
 // The slots hold what they may, and no more than 8 patterns and 16 tests.

@@ -1,4 +1,4 @@
--- What house text leaves out, and lists of addresses.
+-- Lists of addresses, as a loop puts them.
 use mathlib.Core.Path.{_≡_, refl, sym, ap, _∙_}
 use mathlib.Core.Bool.{Bool}
 use mathlib.Core.List.{List, [], _∷_, _++_, append-nil}
@@ -8,30 +8,16 @@ use native.Mathlib.Numerals.{add-one}
 use lib.ListN.{length, take, drop, getD, length-take}
 use lib.Seq.{length-take-le}
 use lib.Dec.{ltb}
-use borrow.Author.Tests.{eq-eqb, ne-eqb, lt-ltb, le-ltb}
+use borrow.Author.Tests.{lt-ltb, le-ltb}
 use Rattle.forms.specs.Bytes.{text}
 use Rattle.references.proofs.Firsts.{first-here, first-out}
 use Rattle.definitions.specs.declared.table.Address.{Address}
-use Rattle.definitions.specs.declared.table.FieldTest.{FieldTest}
-use Rattle.definitions.specs.Forms.{fieldMost}
-use Rattle.definitions.specs.House.{decimal, textIf, octets, addressText, addressesText, bracketed}
-use Rattle.test_text.specs.Parts.{maskText, listFrom}
+use Rattle.definitions.specs.House.{textIf, addressText, addressesText, bracketed}
 
--- ---- what is left out
-
-pub prefix-full : (a : Address) → a .prefix ≡ 32 → addressText a ≡ octets (a .number)
-prefix-full a e = rw (eq-eqb (a .prefix) 32 e) (append-nil (octets (a .number)))
-
-pub prefix-given : (a : Address) → (a .prefix ≡ 32 → ⊥) → addressText a ≡ octets (a .number) ++ (text "/" ++ decimal (a .prefix))
-prefix-given a n = rw (ne-eqb (a .prefix) 32 n)
-
-pub mask-full : (f : FieldTest) (m : ℕ) → m ≡ fieldMost (f .field) → f .mask ≡ m → maskText f ≡ []
-mask-full f m e d = rw (eq-eqb (f .mask) (fieldMost (f .field)) (d ∙ e))
-
-pub mask-given : (f : FieldTest) (m : ℕ) → m ≡ fieldMost (f .field) → (f .mask ≡ m → ⊥) → maskText f ≡ text "& " ++ (decimal (f .mask) ++ text " ")
-mask-given f m e n = rw (ne-eqb (f .mask) (fieldMost (f .field)) (λ d. n (d ∙ sym e)))
-
--- ---- addresses
+-- addresses from the one at place i of a list on: a comma before each but the first
+unfoldable pub listFrom : ℕ → List Address → List ℕ
+listFrom i [] = []
+listFrom i (a ∷ l) = textIf (ltb 0 i) (text ",") ++ (addressText a ++ listFrom (suc i) l)
 
 list-later : (i : ℕ) (a : Address) (l : List Address) → textIf (ltb 0 (suc i)) (text ",") ++ addressesText (a ∷ l) ≡ listFrom (suc i) (a ∷ l)
 unfolding addressesText listFrom

@@ -5,7 +5,6 @@ ghost use mathlib.Core.List.{[]};
 ghost use lib.ListN.{take};
 ghost use Rattle.definitions.specs.declared.table.Item.the-variants as item;
 ghost use Rattle.definitions.specs.House.{testText};
-ghost use Rattle.test_text.specs.Parts.{maskText};
 ghost use Rattle.output.specs.Puts.{Puts};
 use crate::addresses::put_bracketed;
 use definitions::limits::ADDRESSES;
@@ -16,7 +15,6 @@ use definitions::table::FieldTest;
 use definitions::table::NumberTest;
 use definitions::table::SizeTest;
 use definitions::table::TtlTest;
-use formed::items::field_most;
 use keywords::put_header_field;
 use keywords::put_if;
 use keywords::put_number_field;
@@ -27,6 +25,7 @@ use keywords::put_size_field;
 use output::put;
 use output::put_decimal;
 use output::put_word;
+use value_text::put_mask;
 
 pub fn put_address_test(
     out: &mut [u8],
@@ -64,19 +63,6 @@ pub fn put_ttl_test(out: &mut [u8], at: usize, t: TtlTest) -> usize
     let a2 = put_order(out, a1, order);
     let a3 = put_decimal(out, a2, t.number as u64);
     put(out, a3, 59)
-}
-
-// A full mask is left out.
-fn put_mask(out: &mut [u8], at: usize, t: FieldTest) -> usize
-    ensures { λ r. ⌜ Puts (now (out .entry)) at (maskText t) (now (out .exit)) r ⌝ }
-{
-    let field = t.field;
-    if t.mask == field_most(field) {
-        return at;
-    }
-    let a1 = put_word(out, at, b"& ");
-    let a2 = put_decimal(out, a1, t.mask as u64);
-    put(out, a2, 32)
 }
 
 pub fn put_field_test(out: &mut [u8], at: usize, t: FieldTest) -> usize

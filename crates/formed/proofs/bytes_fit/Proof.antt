@@ -17,7 +17,7 @@ slice-aggregate-all : tie.Need-slice-aggregate-all
 slice-aggregate-all c = search needs
 
 room-fits-requires : tie.Need-room-fits-requires
-room-fits-requires c κs = search needs
+room-fits-requires c κs = tt
 
 returns-2 : tie.Need-returns-2
 unfolding bytesFit

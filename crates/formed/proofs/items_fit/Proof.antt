@@ -22,7 +22,7 @@ returns-2 c =
     rw (few, sym (c .before .slots-fit .ensures) ∙ not-true _ (c .if2 .taken))
 
 slots-unused-requires : tie.Need-slots-unused-requires
-slots-unused-requires c κs = search needs
+slots-unused-requires c κs = tt
 
 returns-3 : tie.Need-returns-3
 unfolding itemsFit

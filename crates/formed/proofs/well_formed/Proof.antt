@@ -10,14 +10,14 @@ use Rattle.formed.proofs.well_formed.Statement.{statement}
 use Rattle.formed.proofs.well_formed.Tie as tie
 
 name-fits-requires : tie.Need-name-fits-requires
-name-fits-requires c κs = search needs
+name-fits-requires c κs = tt
 
 returns : tie.Need-returns
 unfolding wellFormed
 returns c = rw (sym (c .before .name-fits .ensures) ∙ not-true _ (c .if1 .taken))
 
 items-fit-requires : tie.Need-items-fit-requires
-items-fit-requires c κs = search needs
+items-fit-requires c κs = tt
 
 returns-2 : tie.Need-returns-2
 unfolding wellFormed

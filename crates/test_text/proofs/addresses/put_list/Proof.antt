@@ -7,8 +7,7 @@ use lib.ListN.{length, take, drop, getD}
 use Rattle.definitions.specs.House.{addressText, addressesText}
 use Rattle.output.specs.Puts.{puts}
 use Rattle.output.proofs.Putting.{onward, same-length as same}
-use Rattle.test_text.specs.Parts.{listFrom}
-use Rattle.test_text.proofs.Texts.{list-is, list-on, list-end}
+use Rattle.test_text.proofs.Texts.{listFrom, list-is, list-on, list-end}
 use Rattle.test_text.proofs.addresses.put_list.Statement.{statement}
 use Rattle.test_text.proofs.addresses.put_list.Tie as tie
 

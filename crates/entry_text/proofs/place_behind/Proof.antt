@@ -1,0 +1,32 @@
+use mathlib.Core.Path.{_≡_, refl, ap}
+use Prim.Native.Nat.{_-_}
+use native.Mathlib.Omega.{arith}
+use Rattle.definitions.specs.Tables.{Kind, kindOf}
+use Rattle.references.proofs.OtherItems.{other-kind}
+use Rattle.entry_text.specs.Parts.{placeBehind}
+use Rattle.output.proofs.Clipping.{at-most-le}
+use borrow.Author.Needs.{needs}
+use Rattle.entry_text.proofs.place_behind.Statement.{statement}
+use Rattle.entry_text.proofs.place_behind.Tie as tie
+
+enum-known-item : tie.Need-enum-known-item
+enum-known-item c = search needs
+
+returns : tie.Need-returns
+returns c = other-kind (λ (k : Kind). c .before .args .from ≡ placeBehind k (c .before .args .from) (c .before .args .len)) refl (λ a. refl) refl (c .before .args .slot .item) (c .match .keys2)
+
+sub-at-most : tie.Need-sub-at-most
+sub-at-most c = search needs
+
+at-most-requires : tie.Need-at-most-requires
+at-most-requires c κs = tt
+
+add-result : tie.Need-add-result
+add-result c = omega (arith, c .at-most .ensures, at-most-le (c .before .before .item .given .0 .0 .len) (c .before .before .before .before .args .len - c .before .before .before .before .args .from))
+
+returns-2 : tie.Need-returns-2
+returns-2 c = rw (ap kindOf (c .before .before .item .given .1), c .at-most .ensures)
+
+pub place-behind-spec : {M : Type 1} → statement M
+place-behind-spec =
+    tie.close (tie.spec enum-known-item returns sub-at-most at-most-requires add-result returns-2)

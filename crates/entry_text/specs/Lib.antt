@@ -1,0 +1,2 @@
+-- What the contracts of `entry_text` cite.
+pub mod Parts

@@ -1,0 +1,2 @@
+-- What the loops over bytes keep.
+pub mod Bits

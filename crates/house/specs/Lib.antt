@@ -1,2 +1,0 @@
--- What the contracts of `house` cite.
-pub mod Parts

@@ -1,0 +1,3 @@
+-- What a number's type rules out, and a signed number's size.
+pub mod Typed
+pub mod Offsets

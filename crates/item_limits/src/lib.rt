@@ -1,0 +1,123 @@
+// The numbers of items and addresses, each within its limit. What a number's type rules out needs no test.
+ghost use mathlib.Core.Path.{_≡_};
+ghost use lib.Dec.{leb};
+ghost use lib.IntN.{natAbs};
+ghost use Rattle.forms.specs.Bytes.{between};
+ghost use Rattle.definitions.specs.Limits.{wordMost, addressesMost};
+ghost use Rattle.definitions.specs.Forms.{numberMost, fieldMost};
+ghost use Rattle.definitions.specs.WellFormed.{addressFits, addressUnused, distanceFits, itemFits};
+use definitions::limits::ADDRESSES;
+use definitions::limits::BYTE_MOST;
+use definitions::limits::OFFSET_MOST;
+use definitions::limits::PREFIX_MOST;
+use definitions::limits::WORD_MOST;
+use definitions::table::Address;
+use definitions::table::Distance;
+use definitions::table::FieldTest;
+use definitions::table::HeaderField;
+use definitions::table::Item;
+use definitions::table::NumberField;
+use definitions::table::NumberTest;
+use definitions::table::Pattern;
+
+// An address test has 1 to 8 addresses.
+pub fn count_fits(count: usize) -> bool
+    ensures { λ r. ⌜ r ≡ between 1 addressesMost count ⌝ }
+{
+    if 1 <= count {
+        count <= ADDRESSES
+    } else {
+        false
+    }
+}
+
+// The largest number of each option, and of each header field.
+pub fn number_most(field: NumberField) -> u64
+    ensures { λ r. ⌜ r ≡ numberMost field ⌝ }
+{
+    match field {
+        NumberField::IpId => WORD_MOST,
+        NumberField::SourcePort => WORD_MOST,
+        NumberField::DestinationPort => WORD_MOST,
+        NumberField::Tos => BYTE_MOST,
+    }
+}
+
+pub fn number_fits(a: NumberTest) -> bool
+    ensures { λ r. ⌜ r ≡ leb (a .number) (numberMost (a .field)) ⌝ }
+{
+    let field = a.field;
+    let most = number_most(field);
+    a.number as u64 <= most
+}
+
+// The most that stands in a header field, which is its full mask.
+pub fn field_most(field: HeaderField) -> u64
+    ensures { λ r. ⌜ r ≡ fieldMost field ⌝ }
+{
+    match field {
+        HeaderField::TotalLength => WORD_MOST,
+        HeaderField::Id => WORD_MOST,
+        HeaderField::Checksum => WORD_MOST,
+        HeaderField::Ttl => BYTE_MOST,
+    }
+}
+
+pub fn field_fits(a: FieldTest) -> bool
+    ensures { λ r. ⌜ r ≡ itemFits (Item.Field a) ⌝ }
+{
+    let field = a.field;
+    let most = field_most(field);
+    if a.mask as u64 <= most {
+        a.number as u64 <= most
+    } else {
+        false
+    }
+}
+
+const OFFSET_LEAST: i32 = -OFFSET_MOST;
+
+// A distance lies between -65535 and 65535.
+fn offset_fits(offset: i32) -> bool
+    ensures { λ r. ⌜ r ≡ leb (natAbs offset) wordMost ⌝ }
+{
+    if OFFSET_LEAST <= offset {
+        offset <= OFFSET_MOST
+    } else {
+        false
+    }
+}
+
+fn distance_fits(distance: Distance) -> bool
+    ensures { λ r. ⌜ r ≡ distanceFits distance ⌝ }
+{
+    match distance {
+        Distance::Free => true,
+        Distance::By(d) => offset_fits(d.offset),
+    }
+}
+
+// A pattern has a byte at least, and its distance fits; a within does by its type.
+pub fn pattern_fits(p: Pattern) -> bool
+    ensures { λ r. ⌜ r ≡ itemFits (Item.Pattern p) ⌝ }
+{
+    if p.len == 0 {
+        return false;
+    }
+    let distance = p.distance;
+    distance_fits(distance)
+}
+
+// The number of an address is within its limit by its type.
+pub fn address_fits(a: Address) -> bool
+    ensures { λ r. ⌜ r ≡ addressFits a ⌝ }
+{
+    a.prefix <= PREFIX_MOST
+}
+
+// An address that is not in use is zero.
+pub fn address_unused(a: Address) -> bool
+    ensures { λ r. ⌜ r ≡ addressUnused a ⌝ }
+{
+    if a.number == 0 { a.prefix == 0 } else { false }
+}

@@ -1,0 +1,2 @@
+-- Laws for loops that test element by element.
+pub mod Passing

@@ -1,2 +1,0 @@
--- What the contracts of `test_text` cite.
-pub mod Parts

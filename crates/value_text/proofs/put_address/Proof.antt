@@ -1,0 +1,42 @@
+use Rattle.value_text.proofs.Left.{prefix-full, prefix-given}
+use Rattle.output.proofs.Putting.{then, told, same-length as same}
+use borrow.Author.Needs.{needs}
+use Rattle.value_text.proofs.put_address.Statement.{statement}
+use Rattle.value_text.proofs.put_address.Tie as tie
+
+put-octets-requires : tie.Need-put-octets-requires
+put-octets-requires c κs = tt
+
+returns : tie.Need-returns
+returns c = told (prefix-full (c .before .before .before .before .before .before .before .args .a) (c .if1 .taken)) (c .before .before .before .before .put-octets .ensures)
+
+same-length : tie.Need-same-length
+same-length c = same (returns c)
+
+put-requires : tie.Need-put-requires
+put-requires c κs = tt
+
+cast-put-decimal : tie.Need-cast-put-decimal
+cast-put-decimal c = search needs
+
+put-decimal-requires : tie.Need-put-decimal-requires
+put-decimal-requires c κs = tt
+
+returns-2 : tie.Need-returns-2
+returns-2 c = told (prefix-given (c .before .before .before .before .before .before .before .before .before .before .before .before .before .before .before .before .args .a) (c .before .before .before .before .before .before .before .before .before .if1 .left)) (then (c .before .before .before .before .before .before .before .before .before .before .before .before .before .put-octets .ensures) (then (c .before .before .before .before .before .before .before .put .ensures) (c .before .before .put-decimal .ensures)))
+
+same-length-2 : tie.Need-same-length-2
+same-length-2 c = same (returns-2 c)
+
+pub put-address-spec : {M : Type 1} → statement M
+put-address-spec =
+    tie.close
+    (tie.spec
+    put-octets-requires
+    same-length
+    returns
+    put-requires
+    cast-put-decimal
+    put-decimal-requires
+    same-length-2
+    returns-2)

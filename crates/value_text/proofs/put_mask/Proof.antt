@@ -1,0 +1,51 @@
+use mathlib.Core.Path.{refl}
+use Rattle.value_text.proofs.Left.{mask-full, mask-given}
+use Rattle.output.proofs.Putting.{none-put, then, told, same-length as same}
+use borrow.Author.Needs.{needs}
+use Rattle.value_text.proofs.put_mask.Statement.{statement}
+use Rattle.value_text.proofs.put_mask.Tie as tie
+
+cast-if1 : tie.Need-cast-if1
+cast-if1 c = search needs
+
+field-most-requires : tie.Need-field-most-requires
+field-most-requires c κs = tt
+
+returns : tie.Need-returns
+returns c = told (mask-full (c .before .before .before .before .args .t) (c .before .field-most .result) (c .before .field-most .ensures) (c .if1 .taken)) none-put
+
+slice-aggregate-put-word : tie.Need-slice-aggregate-put-word
+slice-aggregate-put-word c = refl
+
+put-word-requires : tie.Need-put-word-requires
+put-word-requires c κs = tt
+
+cast-put-decimal : tie.Need-cast-put-decimal
+cast-put-decimal c = search needs
+
+put-decimal-requires : tie.Need-put-decimal-requires
+put-decimal-requires c κs = tt
+
+put-requires : tie.Need-put-requires
+put-requires c κs = tt
+
+returns-2 : tie.Need-returns-2
+returns-2 c = told (mask-given (c .before .before .before .before .before .before .before .before .before .before .before .before .before .before .before .before .before .before .args .t) (c .before .before .before .before .before .before .before .before .before .before .before .before .before .before .before .field-most .result) (c .before .before .before .before .before .before .before .before .before .before .before .before .before .before .before .field-most .ensures) (c .before .before .before .before .before .before .before .before .before .before .before .before .before .before .if1 .left)) (then (c .before .before .before .before .before .before .before .before .before .before .before .put-word .ensures) (then (c .before .before .before .before .before .before .put-decimal .ensures) (c .before .before .put .ensures)))
+
+same-length : tie.Need-same-length
+same-length c = same (returns-2 c)
+
+pub put-mask-spec : {M : Type 1} → statement M
+put-mask-spec =
+    tie.close
+    (tie.spec
+    cast-if1
+    field-most-requires
+    returns
+    slice-aggregate-put-word
+    put-word-requires
+    cast-put-decimal
+    put-decimal-requires
+    put-requires
+    same-length
+    returns-2)

@@ -1,0 +1,61 @@
+use Rattle.output.proofs.Putting.{then, same-length as same}
+use borrow.Author.Needs.{needs}
+use Rattle.value_text.proofs.put_octets.Statement.{statement}
+use Rattle.value_text.proofs.put_octets.Tie as tie
+
+cast-put-decimal : tie.Need-cast-put-decimal
+cast-put-decimal c = search needs
+
+put-decimal-requires : tie.Need-put-decimal-requires
+put-decimal-requires c κs = tt
+
+put-requires : tie.Need-put-requires
+put-requires c κs = tt
+
+cast-put-decimal-2 : tie.Need-cast-put-decimal-2
+cast-put-decimal-2 c = search needs
+
+put-decimal-requires-2 : tie.Need-put-decimal-requires-2
+put-decimal-requires-2 c κs = tt
+
+put-requires-2 : tie.Need-put-requires-2
+put-requires-2 c κs = tt
+
+cast-put-decimal-3 : tie.Need-cast-put-decimal-3
+cast-put-decimal-3 c = search needs
+
+put-decimal-requires-3 : tie.Need-put-decimal-requires-3
+put-decimal-requires-3 c κs = tt
+
+put-requires-3 : tie.Need-put-requires-3
+put-requires-3 c κs = tt
+
+cast-put-decimal-4 : tie.Need-cast-put-decimal-4
+cast-put-decimal-4 c = search needs
+
+put-decimal-requires-4 : tie.Need-put-decimal-requires-4
+put-decimal-requires-4 c κs = tt
+
+returns : tie.Need-returns
+returns c = then (c .before .before .before .before .before .before .before .before .before .before .before .before .before .before .before .before .before .before .before .before .before .before .before .before .before .before .put-decimal .ensures) (then (c .before .before .before .before .before .before .before .before .before .before .before .before .before .before .before .before .before .before .before .before .before .before .put .ensures) (then (c .before .before .before .before .before .before .before .before .before .before .before .before .before .before .before .before .before .before .put-decimal2 .ensures) (then (c .before .before .before .before .before .before .before .before .before .before .before .before .before .before .put2 .ensures) (then (c .before .before .before .before .before .before .before .before .before .before .put-decimal3 .ensures) (then (c .before .before .before .before .before .before .put3 .ensures) (c .before .before .put-decimal4 .ensures))))))
+
+same-length : tie.Need-same-length
+same-length c = same (returns c)
+
+pub put-octets-spec : {M : Type 1} → statement M
+put-octets-spec =
+    tie.close
+    (tie.spec
+    cast-put-decimal
+    put-decimal-requires
+    put-requires
+    cast-put-decimal-2
+    put-decimal-requires-2
+    put-requires-2
+    cast-put-decimal-3
+    put-decimal-requires-3
+    put-requires-3
+    cast-put-decimal-4
+    put-decimal-requires-4
+    same-length
+    returns)

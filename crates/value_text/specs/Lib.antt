@@ -1,0 +1,2 @@
+-- What the contracts of `value_text` cite.
+pub mod Parts

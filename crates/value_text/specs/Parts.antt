@@ -1,0 +1,13 @@
+-- A part of a test's text, as the code goes about it. Section "House text".
+use Prim.Native.Nat.{ℕ}
+use mathlib.Core.Bool.{not}
+use mathlib.Core.List.{List, _++_}
+use lib.Dec.{eqb}
+use Rattle.forms.specs.Bytes.{text}
+use Rattle.definitions.specs.declared.table.FieldTest.{FieldTest}
+use Rattle.definitions.specs.Forms.{fieldMost}
+use Rattle.definitions.specs.House.{decimal, textIf}
+
+-- the mask of a field test; a full one is left out
+abbrev pub maskText : FieldTest → List ℕ
+maskText f = textIf (not (eqb (f .mask) (fieldMost (f .field)))) (text "& " ++ (decimal (f .mask) ++ text " "))
