@@ -1,7 +1,6 @@
-// Document 01's numbers: of a refusal, and number and place of what the reader answers.
+// Document 01's number of a refusal.
 ghost use mathlib.Core.Path.{_≡_};
-ghost use Rattle.definitions.specs.Refusals.{numberOf, readNumber, readPlace};
-use definitions::answers::ReadOutcome;
+ghost use Rattle.definitions.specs.Refusals.{numberOf};
 use definitions::answers::Refusal;
 
 // The number of a refusal.
@@ -31,25 +30,5 @@ pub fn number_of(r: Refusal) -> u64
         Refusal::Transport => 34,
         Refusal::FieldSpan => 35,
         Refusal::EarlierCount => 36,
-    }
-}
-
-// 0 for a text that reads.
-pub fn read_number(o: ReadOutcome) -> u64
-    ensures { λ n. ⌜ n ≡ readNumber o ⌝ }
-{
-    match o {
-        ReadOutcome::Accepted => 0,
-        ReadOutcome::Refused(r, _) => number_of(r),
-    }
-}
-
-// 0 for a text that reads.
-pub fn read_place(o: ReadOutcome) -> usize
-    ensures { λ p. ⌜ p ≡ readPlace o ⌝ }
-{
-    match o {
-        ReadOutcome::Accepted => 0,
-        ReadOutcome::Refused(_, p) => p,
     }
 }

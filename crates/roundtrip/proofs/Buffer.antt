@@ -1,14 +1,14 @@
 -- WHAT IS WRITTEN into a buffer reads as the table that was written: a text is written only if the table is well formed and its house text is short
--- enough, and the front of the buffer is then the house text.
-use mathlib.Core.Path.{_≡_, refl}
+-- enough, and the front of the buffer is then the house text. And a writer that writes nothing is ruled out (`house-written`).
+use mathlib.Core.Path.{_≡_, refl, ap}
 use mathlib.Core.Bool.{Bool, true, false, not}
-use mathlib.Core.List.{List}
+use mathlib.Core.List.{List, _++_}
 use Prim.Native.Nat.{ℕ, _≤_}
 use native.Mathlib.Omega.{arith}
 use lib.ListN.{length, take, drop}
 use lib.Seq.{take-at}
 use lib.Dec.{ltb}
-use borrow.Author.Tests.{ltb-false, not-false}
+use borrow.Author.Tests.{ltb-false, le-ltb, not-false}
 use Rattle.forms.proofs.Sound.{never}
 use Rattle.definitions.specs.declared.answers.Refusal.{Refusal}
 use Rattle.definitions.specs.declared.answers.Refusal.the-variants as refusal
@@ -46,3 +46,15 @@ written-reads lim t out n h g e =
     let l = ltb-false (lim .house) (length (houseText t)) (k .1) in
     rw (due-buffer (writingDue lim t (length out)) (houseText t) out n (d .0) (d .1))
     (read-exactly lim (houseText t) t .1 (house-derives (lim .room) t h (not-false (wellFormed t) (k .0)), omega (arith, l, g)))
+
+nothing-due : (lim : Limits) (t : Table) (n : ℕ) → wellFormed t ≡ true → length (houseText t) ≤ lim .house → length (houseText t) ≤ n → writingDue lim t n ≡ Fine
+unfolding writingDue
+nothing-due lim t n w h g = rw (w, le-ltb (lim .house) (length (houseText t)) h, le-ltb n (length (houseText t)) g)
+
+-- every well-formed table whose house text is short enough is written into every buffer that has room for it
+pub house-written : (lim : Limits) (t : Table) (out : List ℕ) → wellFormed t ≡ true → length (houseText t) ≤ lim .house → length (houseText t) ≤ length out
+    → (writes lim t out ≡ Written (length (houseText t))) × (bufferAfter lim t out ≡ houseText t ++ drop (length (houseText t)) out)
+unfolding writes bufferAfter
+house-written lim t out w h g =
+    let d = nothing-due lim t (length out) w h g in
+    (ap (λ (x : Due). writtenIf x (length (houseText t))) d, ap (λ (x : Due). bufferIf x (houseText t) out) d)
