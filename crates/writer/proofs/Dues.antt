@@ -21,7 +21,10 @@ use Rattle.definitions.specs.Writing.{writingDue, writtenIf, bufferIf, writes, 
 use Rattle.output.specs.Puts.{countedMost, Puts}
 use Rattle.output.specs.Clipped.{atMost}
 use Rattle.output.proofs.Whole.{most-of, most-full, puts-count, puts-buffer}
-use Rattle.writer.specs.Measured.{Measures}
+
+-- a house text is measured: its length, or the most that is counted
+abbrev Measures : Table → ℕ → Type 0
+Measures t n = n ≡ atMost (length (houseText t)) countedMost
 
 -- put from the start on, a house text is counted, whatever the buffer holds
 pub measures : (t : Table) {out after : List ℕ} {n : ℕ} → Puts out 0 (houseText t) after n → Measures t n

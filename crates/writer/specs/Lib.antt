@@ -1,2 +1,0 @@
--- What the contracts of `writer` cite.
-pub mod Measured
