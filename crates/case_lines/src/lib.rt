@@ -1,6 +1,5 @@
 // The placements program's work on slices: cases one a line in, answers out, in parts of any length.
 ghost use lib.ListN.{take};
-ghost use Rattle.cases.specs.CaseLines.{lineMost};
 ghost use Rattle.case_answers.specs.CaseAnswers.{caseAnswer};
 ghost use Rattle.output.specs.Puts.{Puts};
 ghost use Rattle.line_stream.specs.Stream.{answerTo, lastLine, Feeds};
@@ -30,7 +29,7 @@ fn put_line(out: &mut [u8], at: usize, number: u64, s: &[u8]) -> usize
 
 // The line begun is ended.
 fn end_line(line: &[u8], out: &mut [u8], g: Going) -> Going
-    ensures { λ r. ⌜ Ends caseAnswer lineMost (now (line .entry)) (now (out .entry)) (now (out .exit)) g r ⌝ }
+    ensures { λ r. ⌜ Ends caseAnswer (now (line .entry)) (now (out .entry)) (now (out .exit)) g r ⌝ }
 {
     let len = at_most(g.len, line.len());
     let place = put_line(out, g.put, g.number, &line[0..len]);
@@ -38,7 +37,7 @@ fn end_line(line: &[u8], out: &mut [u8], g: Going) -> Going
 }
 
 fn take_byte(line: &mut [u8], out: &mut [u8], g: Going, b: u8) -> Going
-    ensures { λ r. ⌜ Takes caseAnswer lineMost (now (line .entry)) (now (out .entry)) (now (line .exit)) (now (out .exit)) g b r ⌝ }
+    ensures { λ r. ⌜ Takes caseAnswer (now (line .entry)) (now (out .entry)) (now (line .exit)) (now (out .exit)) g b r ⌝ }
 {
     if b == 10 {
         return end_line(line, out, g);
@@ -48,7 +47,7 @@ fn take_byte(line: &mut [u8], out: &mut [u8], g: Going, b: u8) -> Going
 
 // Takes bytes of the input until all are taken, or an answer has no room in the output.
 pub fn feed(input: &[u8], line: &mut [u8], out: &mut [u8], begun: Begun) -> Fed
-    ensures { λ r. ⌜ Feeds caseAnswer lineMost (now (input .entry)) (now (line .entry)) (now (out .entry)) (now (line .exit)) (now (out .exit)) begun r ⌝ }
+    ensures { λ r. ⌜ Feeds caseAnswer (now (input .entry)) (now (line .entry)) (now (out .entry)) (now (line .exit)) (now (out .exit)) begun r ⌝ }
 {
     let mut g = Going {
         number: begun.number,

@@ -1,4 +1,4 @@
--- A refused reading has a place at most the text's length (`place-within`) and a number from 1 to 12. The options are read left to right, each
+-- A refused reading has a place at most the text's length (`place-within`), and never beyond the limit of a text (`place-most`), and a number from 1 to 12. The options are read left to right, each
 -- place is where the reading stands or an option's first dash before it, and it never stands behind the text.
 use mathlib.Core.Path.{_≡_, refl, ap, subst}
 use mathlib.Core.Bool.{Bool, true, false, not, _&&_, _||_, false≢true}
@@ -7,9 +7,10 @@ use Prim.Native.Nat.{ℕ, zero, suc, _+_, _-_, _≤_}
 use native.Mathlib.Omega.{arith}
 use lib.ListN.{length, getD, take, drop, length-take, length-drop}
 use lib.Dec.{eqb, ltb, leb}
-use borrow.Author.Tests.{ltb-true, not-false}
+use borrow.Author.Tests.{ltb-true, ltb-false, not-false}
 use Rattle.forms.specs.Bytes.{if_then_else_, run}
 use Rattle.forms.specs.Place.{Is, Far, No}
+use Rattle.forms.proofs.Bools.{by-cases}
 use Rattle.definitions.specs.declared.answers.Refusal.{Refusal}
 use Rattle.definitions.specs.declared.answers.Refusal.the-variants as refusal
 use Rattle.definitions.specs.declared.answers.Due.{Due}
@@ -19,7 +20,7 @@ use Rattle.definitions.specs.declared.answers.ReadOutcome.the-variants as outco
 use Rattle.definitions.specs.declared.answers.Reading.{Reading}
 use Rattle.definitions.specs.Limits.{Limits, testsMost, patternsMost, addressesMost}
 use Rattle.definitions.specs.Lists.{any?, none?, keep, keepOne, count, sameBytes}
-use Rattle.definitions.specs.Refusals.{numberOf}
+use Rattle.definitions.specs.Refusals.{numberOf, readPlace}
 use Rattle.definitions.specs.Entries.{Entry, Name, Protocol, Flow, Test, Pattern, Modified}
 use Rattle.definitions.specs.Options.{Parsed, unlisted, listed, optionAt}
 use Rattle.definitions.specs.Standing.{isTest, isPattern, sameKind, sameModifier, latest, dueFor, missing}
@@ -158,3 +159,19 @@ read-fits lim s = reading-if (length s) (ltb (lim .text) (length s)) _ _ (λ e. 
 
 pub place-within : (lim : Limits) (s : List ℕ) (r : Refusal) (p : ℕ) → read lim s .outcome ≡ outcome.Refused r p → p ≤ length s
 place-within lim s r p e = subst (OutcomeFits (length s)) e (read-fits lim s) .1
+
+-- a text beyond the limit has place 0
+long-place : (lim : Limits) (s : List ℕ) → ltb (lim .text) (length s) ≡ true → readPlace (read lim s .outcome) ≤ lim .text
+unfolding read
+long-place lim s t = rw t (omega arith)
+
+-- nor does a place lie beyond the limit of a text
+outcome-place : (n : ℕ) (o : ReadOutcome) → OutcomeFits n o → readPlace o ≤ n
+outcome-place n outcome.Accepted h = omega arith
+outcome-place n (outcome.Refused r p) h = h .1
+
+pub place-most : (lim : Limits) (s : List ℕ) → readPlace (read lim s .outcome) ≤ lim .text
+place-most lim s =
+    by-cases (ltb (lim .text) (length s))
+    (λ t. long-place lim s t)
+    (λ f. let h = outcome-place (length s) (read lim s .outcome) (read-fits lim s) in omega (arith, h, ltb-false (lim .text) (length s) f))

@@ -1,35 +1,28 @@
 -- The end of a line: its answer has room and the next line is begun, or the code stands where it stood.
 use mathlib.Core.Path.{_≡_, refl, sym, ap, subst, _∙_}
-use mathlib.Core.Bool.{Bool, true, false, true≢false, false≢true}
-use mathlib.Core.List.{List, [], _∷_, _++_, append-assoc}
-use Prim.Native.Nat.{ℕ, suc, _+_, _-_, _≤_, _<_, _^_}
+use mathlib.Core.Bool.{true, false, true≢false, false≢true}
+use mathlib.Core.List.{List, [], _++_, append-assoc}
+use Prim.Native.Nat.{ℕ, _+_, _-_, _≤_, _<_}
 use native.Mathlib.Omega.{arith}
-use native.Mathlib.Nat.{sub-zero}
-use native.Mathlib.Numerals.{add-one}
 use lib.Dec.{ltb, leb}
 use lib.ListN.{length, take, drop}
-use lib.Seq.{take-nil}
-use borrow.Author.Tests.{lt-ltb, ltb-true, leb-true}
-use Rattle.forms.specs.Bytes.{if_then_else_, text}
+use borrow.Author.Tests.{ltb-true, leb-true}
+use Rattle.forms.specs.Bytes.{text}
 use Rattle.forms.proofs.Bools.{by-cases, both-left, both-right}
 use Rattle.definitions.specs.House.{decimal}
 use Rattle.output.specs.Puts.{countedMost, Puts}
 use Rattle.output.specs.Clipped.{atMost}
 use Rattle.output.proofs.Putting.{then as joined, told, same-length}
-use Rattle.output.proofs.Clipping.{taken-most}
+use Rattle.output.proofs.Clipping.{part-most}
 use Rattle.output.proofs.Whole.{most-of, puts-count, placed-front, placed-whole}
 use Rattle.line_stream.specs.declared.Going.{Going}
-use Rattle.line_stream.specs.Stream.{numberMost, answerTo, Standing, ended, Holds, Roomy, hasRoom, answerFits}
+use Rattle.line_stream.specs.Stream.{answerTo, Standing, standing, ended, hasRoom, answerFits}
 use Rattle.line_stream.specs.Steps.{begunOf, closed, Ends}
 
 -- number and tab, the answer, LF
 pub line-put : (answer : List ℕ → List ℕ) (n : ℕ) (s : List ℕ) {out o o' o'' : List ℕ} {at i j k : ℕ}
     → Puts out at (decimal n ++ text "\t") o i → Puts o i (answer s) o' j → Puts o' j (text "\n") o'' k → Puts out at (answerTo answer n s) o'' k
 line-put answer n s a b c = told (sym (append-assoc (decimal n) (text "\t") (answer s ++ text "\n"))) (joined a (joined b c))
-
--- the next line's number
-next-is : (n : ℕ) → n + 1 < 2 ^ 64 → (if ltb n numberMost then n + 1 else n) ≡ n + 1
-next-is n h = rw (lt-ltb n numberMost (omega (arith, h)))
 
 -- what has no room where it was counted has none by its length
 no-room : (out : List ℕ) (at len : ℕ) {l after : List ℕ} {n : ℕ} → Puts out at l after n → hasRoom n len ≡ false → hasRoom (at + length l) len ≡ false
@@ -41,62 +34,59 @@ no-room out at len {l = l} {n = n} p h =
     subst (λ (k : ℕ). hasRoom k len ≡ false) is h)
     (λ f. rw f)
 
-module _ (answer : List ℕ → List ℕ) (most : ℕ) (kept : (m : ℕ) (s : List ℕ) → most < m → answer (take m s) ≡ answer s) where
-  module _ (line out out' : List ℕ) (g : Going) (len place : ℕ) where
-    -- what the code answers to
-    abbrev held : List ℕ
-    held = answerTo answer (g .number) (take (len - 0) (drop 0 line))
+-- what has room is counted, and within the buffer
+pub room-counted : (n len : ℕ) → hasRoom n len ≡ true → n < countedMost
+room-counted n len t = ltb-true n countedMost (both-left (ltb n countedMost) (leb n len) t)
 
-    -- is what the program answers to
-    same-answer : (st : Standing) → Roomy most line → Holds st line (begunOf g) → len ≡ atMost (g .len) (length line) → held ≡ answerTo answer (st .number) (st .begun)
-    same-answer st roomy h e =
-        ap (λ (n : ℕ). answerTo answer n (take (len - 0) (drop 0 line))) (h .number)
-        ∙ ap (λ (l : List ℕ). answerTo answer (st .number) l)
-        (ap (λ (k : ℕ). take k line) (sub-zero len) ∙ sym (taken-most (g .len) line refl e) ∙ h .kept)
-        ∙ ap (λ (l : List ℕ). decimal (st .number) ++ (9 ∷ (l ++ (10 ∷ [])))) (kept (length line) (st .begun) roomy)
+pub room-within : (n len : ℕ) → hasRoom n len ≡ true → n ≤ len
+room-within n len t = leb-true n len (both-right (ltb n countedMost) (leb n len) t)
 
-    module _ (e : len ≡ atMost (g .len) (length line)) (p : Puts out (g .put) held out' place) where
-      ends-room : (n : ℕ) → (g .number + 1 < 2 ^ 64 → n ≡ g .number + 1) → place < countedMost → place ≤ length out'
-          → Ends answer most line out out' g (record { number = n; len = 0; put = place; full = false })
-      ends-room n more few room w st roomy fits s = (λ t. absurd (false≢true t), λ f. record { holds = holds; put = room; written = all })
-        where
-          holds : Holds (ended answer st) line (record { number = n; len = 0 })
-          holds = record {
-            number = more (subst (λ (k : ℕ). k + 1 < 2 ^ 64) (sym (s .holds .number)) fits) ∙ ap (λ (k : ℕ). k + 1) (s .holds .number) ∙ add-one (st .number);
-            len = omega arith;
-            kept = sym (take-nil (length line));
-          }
+-- where the code stands, what it has put being what the program has written
+abbrev pub stood : List ℕ → List ℕ → Going → Standing
+stood line out g = standing (begunOf g) line (take (g .put) out)
 
-          fit : place ≤ length out
-          fit = subst (λ (k : ℕ). place ≤ k) (same-length p) room
+module _ (answer : List ℕ → List ℕ) where
+  -- from one place to the next; or it is full and stands where it stood, since the answer to the line begun has no room
+  pub record Goes (st st' : Standing) (line out : List ℕ) (r : Going) : Type 0 where
+    pub put : r .put ≤ length out
+    pub stopped : r .full ≡ true → (stood line out r ≡ st) × (answerFits answer st (r .put) out ≡ false)
+    pub went : r .full ≡ false → stood line out r ≡ st'
 
-          all : w ++ take place out' ≡ st .written ++ answerTo answer (st .number) (st .begun)
-          all =
-              ap (λ (l : List ℕ). w ++ l) (placed-whole out (g .put) p few fit)
-              ∙ sym (append-assoc w (take (g .put) out) held)
-              ∙ ap (λ (l : List ℕ). l ++ held) (s .written)
-              ∙ ap (λ (l : List ℕ). st .written ++ l) (same-answer st roomy (s .holds) e)
+  module _ (line out out' : List ℕ) (g : Going) where
+    abbrev Ended : Going → Type 0
+    Ended r = Goes (stood line out g) (ended answer (stood line out g)) line out' r
 
-      ends-full : hasRoom place (length out') ≡ false → Ends answer most line out out' g (record { number = g .number; len = g .len; put = g .put; full = true })
-      ends-full full w st roomy fits s = (λ t. (record { holds = s .holds; put = fit; written = ap (λ (l : List ℕ). w ++ l) (placed-front out (g .put) p) ∙ s .written }, crowded), λ f. absurd (true≢false f))
-        where
-          crowded : answerFits answer st (g .put) out' ≡ false
-          crowded = subst (λ (l : List ℕ). hasRoom (g .put + length l) (length out') ≡ false) (same-answer st roomy (s .holds) e) (no-room out (g .put) (length out') p full)
+    abbrev toPut : List ℕ
+    toPut = answerTo answer (g .number) (take (g .len) line)
 
-          fit : g .put ≤ length out'
-          fit = subst (λ (k : ℕ). g .put ≤ k) (sym (same-length p)) (s .put)
+    ends-room : (place : ℕ) → Puts out (g .put) toPut out' place → hasRoom place (length out') ≡ true → Ended (closed g place (length out'))
+    ends-room place p t = rw t (record { put = fits; stopped = λ f. absurd (false≢true f); went = λ _. ap next (placed-whole out (g .put) p (room-counted place (length out') t) within) })
+      where
+        next : List ℕ → Standing
+        next w = record { number = ended answer (stood line out g) .number; begun = []; written = w }
 
-      pub ends : {r : Going} → r ≡ closed g place (length out') → Ends answer most line out out' g r
-      ends is = subst (λ (x : Going). Ends answer most line out out' g x) (sym is) (by-cases (hasRoom place (length out')) roomy crowded)
-        where
-          counts : hasRoom place (length out') ≡ true → place < countedMost
-          counts t = ltb-true place countedMost (both-left (ltb place countedMost) (leb place (length out')) t)
+        fits : place ≤ length out'
+        fits = room-within place (length out') t
 
-          fits : hasRoom place (length out') ≡ true → place ≤ length out'
-          fits t = leb-true place (length out') (both-right (ltb place countedMost) (leb place (length out')) t)
+        within : place ≤ length out
+        within = subst (λ (k : ℕ). place ≤ k) (same-length p) fits
 
-          roomy : hasRoom place (length out') ≡ true → Ends answer most line out out' g (closed g place (length out'))
-          roomy t = rw t (ends-room (if ltb (g .number) numberMost then g .number + 1 else g .number) (next-is (g .number)) (counts t) (fits t))
+    ends-full : (place : ℕ) → Puts out (g .put) toPut out' place → g .put ≤ length out → hasRoom place (length out') ≡ false → Ended (closed g place (length out'))
+    ends-full place p h f = rw f (record {
+      put = subst (λ (k : ℕ). g .put ≤ k) (sym (same-length p)) h;
+      stopped = λ _. (ap (λ (w : List ℕ). standing (begunOf g) line w) (placed-front out (g .put) p), no-room out (g .put) (length out') p f);
+      went = λ e. absurd (true≢false e);
+    })
 
-          crowded : hasRoom place (length out') ≡ false → Ends answer most line out out' g (closed g place (length out'))
-          crowded f = rw f (ends-full f)
+    pub ends-goes : {r : Going} → g .put ≤ length out → Ends answer line out out' g r → Ended r
+    ends-goes h e =
+        subst Ended (sym (e .going)) (by-cases (hasRoom (e .place) (length out')) (ends-room (e .place) (e .answered)) (ends-full (e .place) (e .answered) h))
+
+  -- the code answers to as much of the buffer as there is
+  pub ends : {line out out' : List ℕ} {g r : Going} {len place : ℕ} → len ≡ atMost (g .len) (length line)
+      → Puts out (g .put) (answerTo answer (g .number) (take (len - 0) (drop 0 line))) out' place → r ≡ closed g place (length out') → Ends answer line out out' g r
+  ends {line = line} {g = g} {place = place} e p is = record {
+    place = place;
+    answered = told (ap (λ (l : List ℕ). answerTo answer (g .number) l) (part-most (g .len) line refl e)) p;
+    going = is;
+  }

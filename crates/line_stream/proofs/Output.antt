@@ -1,59 +1,34 @@
--- A PROGRAM'S OUTPUT is what it has written behind all its input and the last line's answer, in whatever parts the input came.
+-- A PROGRAM'S OUTPUT is what it has written behind all its input and the last line's answer.
 use mathlib.Core.Path.{_≡_, refl, sym, ap, _∙_}
-use mathlib.Core.Bool.{Bool, true, false}
+use mathlib.Core.Bool.{true, false}
 use mathlib.Core.List.{List, [], _∷_, _++_, append-assoc}
-use Prim.Native.Nat.{ℕ, zero, suc, _-_, _≤_, _<_}
+use Prim.Native.Nat.{ℕ, zero, suc, _+_, _-_, _≤_, _<_, _^_}
 use native.Mathlib.Omega.{arith}
 use native.Mathlib.Nat.{sub-zero, not-suc-le-zero}
+use native.Mathlib.Numerals.{add-one}
 use lib.Dec.{eqb}
 use lib.ListN.{length, take, drop}
 use lib.Seq.{take-nil, length-take-le}
+use borrow.Author.Tests.{lt-ltb}
 use Rattle.forms.specs.Bytes.{if_then_else_, text}
 use Rattle.forms.proofs.Bools.{by-cases}
 use Rattle.definitions.specs.House.{decimal}
 use Rattle.definitions.specs.Lines.{lineTexts, linesFrom, outputOver}
 use Rattle.output.specs.Clipped.{atMost}
 use Rattle.output.proofs.Clipping.{at-most-le, taken-most}
-use Rattle.line_stream.specs.declared.Begun.{Begun}
-use Rattle.line_stream.specs.Stream.{answerTo, Standing, byteRead, behind, lastLine, start, outputOf, Holds, Roomy}
+use Rattle.line_stream.specs.Stream.{numberMost, nextNumber, answerTo, Standing, byteRead, behind, lastLine, start, outputOf}
+use Rattle.line_stream.proofs.Keeping.{first-more}
 
 texts-on : (line : List ℕ) (b : ℕ) (l : List ℕ) → lineTexts line (b ∷ l) ≡ (if eqb b 10 then line ∷ lineTexts [] l else lineTexts (line ++ (b ∷ [])) l)
 unfolding lineTexts
 texts-on [] b l = refl
 texts-on (x ∷ line) b l = refl
 
+-- the next line's number, where 64 bits hold it
+next-is : (n k : ℕ) → n + suc k < 2 ^ 64 → nextNumber n ≡ suc n
+next-is n k h = rw (lt-ltb n numberMost (omega (arith, h))) (add-one n)
+
 module _ (answer : List ℕ → List ℕ) where
-  -- one line more
-  lines-on : (n : ℕ) (s : List ℕ) (ss : List (List ℕ)) → linesFrom answer n (s ∷ ss) ≡ answerTo answer n s ++ linesFrom answer (suc n) ss
-  unfolding linesFrom
-  lines-on n s ss =
-      ap (λ (l : List ℕ). decimal n ++ (9 ∷ l)) (sym (append-assoc (answer s) (text "\n") (linesFrom answer (suc n) ss)))
-      ∙ sym (append-assoc (decimal n) (9 ∷ (answer s ++ text "\n")) (linesFrom answer (suc n) ss))
-
-  texts-end : (n : ℕ) (line : List ℕ) → linesFrom answer n (lineTexts line []) ≡ lastLine answer n line
-  unfolding lineTexts linesFrom
-  texts-end n [] = refl
-  texts-end n (b ∷ line) = refl
-
-  module _ (st : Standing) (b : ℕ) (l : List ℕ) where
-    abbrev Comes : Standing → Type 0
-    Comes x = st .written ++ linesFrom answer (st .number) (lineTexts (st .begun) (b ∷ l)) ≡ x .written ++ linesFrom answer (x .number) (lineTexts (x .begun) l)
-
-    byte-on : Comes (byteRead answer st b)
-    byte-on =
-        by-cases (eqb b 10)
-        (λ t. rw (texts-on (st .begun) b l, t) (ap (λ (x : List ℕ). st .written ++ x) (lines-on (st .number) (st .begun) (lineTexts [] l)) ∙ sym (append-assoc (st .written) (answerTo answer (st .number) (st .begun)) (linesFrom answer (suc (st .number)) (lineTexts [] l)))))
-        (λ f. rw (texts-on (st .begun) b l, f))
-
-  to-come : (st : Standing) (input : List ℕ) → st .written ++ linesFrom answer (st .number) (lineTexts (st .begun) input) ≡ outputOf answer (behind answer st input)
-  unfolding behind
-  to-come st [] = ap (λ (l : List ℕ). st .written ++ l) (texts-end (st .number) (st .begun))
-  to-come st (b ∷ l) = byte-on st b l ∙ to-come (byteRead answer st b) l
-
-  pub whole-output : (input : List ℕ) → outputOver answer input ≡ outputOf answer (behind answer start input)
-  unfolding outputOver
-  whole-output input = to-come start input
-
   -- ---- the last line, where it lacks its LF: none, or one that is answered as any other
 
   module _ (n : ℕ) (line : List ℕ) (len : ℕ) where
@@ -70,13 +45,71 @@ module _ (answer : List ℕ → List ℕ) where
         let some : 1 ≤ length (take r line) = omega (arith, z, length-take-le r line few) in
         ap (lastLine answer n) (taken-most len line refl e) ∙ some-line (take r line) some ∙ ap (λ (k : ℕ). answerTo answer n (take k line)) (sym (sub-zero r))
 
-  -- what the code holds of the last line is enough for its answer
-  module _ (most : ℕ) (kept : (m : ℕ) (s : List ℕ) → most < m → answer (take m s) ≡ answer s) where
+  -- ---- line by line
+
+  lines-on : (n : ℕ) (s : List ℕ) (ss : List (List ℕ)) → linesFrom answer n (s ∷ ss) ≡ answerTo answer n s ++ linesFrom answer (suc n) ss
+  unfolding linesFrom
+  lines-on n s ss =
+      ap (λ (l : List ℕ). decimal n ++ (9 ∷ l)) (sym (append-assoc (answer s) (text "\n") (linesFrom answer (suc n) ss)))
+      ∙ sym (append-assoc (decimal n) (9 ∷ (answer s ++ text "\n")) (linesFrom answer (suc n) ss))
+
+  texts-end : (n : ℕ) (line : List ℕ) → linesFrom answer n (lineTexts line []) ≡ lastLine answer n line
+  unfolding lineTexts linesFrom
+  texts-end n [] = refl
+  texts-end n (b ∷ line) = refl
+
+  -- ---- where more than `most` bytes of a line change no answer, and more are kept
+  module _ (most room : ℕ) (kept : (m : ℕ) (s : List ℕ) → most < m → answer (take m s) ≡ answer s) (roomy : most < room) where
     clipped : (n m : ℕ) (s : List ℕ) → most < m → lastLine answer n (take m s) ≡ lastLine answer n s
     clipped n m [] g = ap (lastLine answer n) (take-nil m)
     clipped n zero (x ∷ s) g = absurd (let z : ⊥ = omega (arith, g) in z)
     clipped n (suc m) (x ∷ s) g = ap (λ (l : List ℕ). decimal n ++ (9 ∷ (l ++ (10 ∷ [])))) (kept (suc m) (x ∷ s) g)
 
-    pub last-held : (st : Standing) (line : List ℕ) (b : Begun) → Roomy most line → Holds st line b → lastLine answer (b .number) (take (b .len) line) ≡ lastLine answer (st .number) (st .begun)
-    last-held st line b roomy h =
-        ap (λ (n : ℕ). lastLine answer n (take (b .len) line)) (h .number) ∙ ap (lastLine answer (st .number)) (h .kept) ∙ clipped (st .number) (length line) (st .begun) roomy
+    abbrev at : ℕ → List ℕ → List ℕ → Standing
+    at n s w = record { number = n; begun = s; written = w }
+
+    -- where the program stands that has read so much of the line begun
+    abbrev reading : ℕ → List ℕ → List ℕ → Standing
+    reading n s w = at n (take room s) w
+
+    read-end : (n : ℕ) (s w : List ℕ) (b k : ℕ) → n + suc k < 2 ^ 64 → eqb b 10 ≡ true → byteRead answer room (reading n s w) b ≡ reading (suc n) [] (w ++ answerTo answer n s)
+    read-end n s w b k few t =
+        rw t
+        (ap (λ (m : ℕ). at m [] (w ++ answerTo answer n (take room s))) (next-is n k few)
+        ∙ ap (λ (l : List ℕ). at (suc n) l (w ++ answerTo answer n (take room s))) (sym (take-nil room))
+        ∙ ap (λ (l : List ℕ). reading (suc n) [] (w ++ (decimal n ++ (9 ∷ (l ++ (10 ∷ [])))))) (kept room s roomy))
+
+    read-on : (n : ℕ) (s w : List ℕ) (b : ℕ) → eqb b 10 ≡ false → byteRead answer room (reading n s w) b ≡ reading n (s ++ (b ∷ [])) w
+    read-on n s w b f = rw f (ap (λ (l : List ℕ). at n l w) (first-more room s b))
+
+    abbrev Comes : ℕ → List ℕ → List ℕ → List ℕ → Type 0
+    Comes n s w input = w ++ linesFrom answer n (lineTexts s input) ≡ outputOf answer (behind answer room (reading n s w) input)
+
+    module _ (n : ℕ) (s w : List ℕ) (b : ℕ) (l : List ℕ) where
+      comes-end : n + suc (length l) < 2 ^ 64 → eqb b 10 ≡ true → Comes (suc n) [] (w ++ answerTo answer n s) l → Comes n s w (b ∷ l)
+      unfolding behind
+      comes-end few t next =
+          ap (λ (x : List (List ℕ)). w ++ linesFrom answer n x) (texts-on s b l ∙ rw t)
+          ∙ ap (λ (x : List ℕ). w ++ x) (lines-on n s (lineTexts [] l))
+          ∙ sym (append-assoc w (answerTo answer n s) (linesFrom answer (suc n) (lineTexts [] l)))
+          ∙ next
+          ∙ ap (λ (x : Standing). outputOf answer (behind answer room x l)) (sym (read-end n s w b (length l) few t))
+
+      comes-on : eqb b 10 ≡ false → Comes n (s ++ (b ∷ [])) w l → Comes n s w (b ∷ l)
+      unfolding behind
+      comes-on f next =
+          ap (λ (x : List (List ℕ)). w ++ linesFrom answer n x) (texts-on s b l ∙ rw f)
+          ∙ next
+          ∙ ap (λ (x : Standing). outputOf answer (behind answer room x l)) (sym (read-on n s w b f))
+
+    to-come : (n : ℕ) (s w input : List ℕ) → n + length input < 2 ^ 64 → Comes n s w input
+    unfolding behind
+    to-come n s w [] few = ap (λ (l : List ℕ). w ++ l) (texts-end n s ∙ sym (clipped n room s roomy))
+    to-come n s w (b ∷ l) few =
+        by-cases (eqb b 10)
+        (λ t. comes-end n s w b l few t (to-come (suc n) [] (w ++ answerTo answer n s) l (omega (arith, few))))
+        (λ f. comes-on n s w b l f (to-come n (s ++ (b ∷ [])) w l (omega (arith, few))))
+
+    pub whole-output : (input : List ℕ) → length input + 1 < 2 ^ 64 → outputOver answer input ≡ outputOf answer (behind answer room start input)
+    unfolding outputOver
+    whole-output input few = to-come 1 [] [] input (omega (arith, few)) ∙ ap (λ (s : List ℕ). outputOf answer (behind answer room (record { number = 1; begun = s; written = [] }) input)) (take-nil room)

@@ -1,10 +1,10 @@
 -- A program's output as its input comes, part by part, for a program that answers each line. Section "The line program".
 use mathlib.Core.Path.{_≡_}
-use Prim.Native.Nat.{ℕ, suc, _+_, _≤_, _<_, _^_}
+use Prim.Native.Nat.{ℕ, _+_, _≤_, _<_}
 use mathlib.Core.Bool.{Bool, false, _&&_}
 use mathlib.Core.List.{List, [], _∷_, _++_}
 use lib.Dec.{eqb, ltb, leb}
-use lib.ListN.{length, take}
+use lib.ListN.{length, getD, take}
 use Rattle.forms.specs.Bytes.{if_then_else_, text}
 use Rattle.definitions.specs.House.{decimal}
 use Rattle.output.specs.Puts.{countedMost}
@@ -15,7 +15,11 @@ use Rattle.line_stream.specs.declared.Fed.{Fed}
 abbrev pub numberMost : ℕ
 numberMost = 18446744073709551615
 
--- where the program stands behind some input: the number of the line begun, what was read of it, and all that was written
+-- the next line's number; the largest stays
+abbrev pub nextNumber : ℕ → ℕ
+nextNumber n = if ltb n numberMost then n + 1 else n
+
+-- where the program stands behind some input: the number of the line begun, what is kept of that line, and all that was written
 pub record Standing : Type 0 where
   pub number : ℕ
   pub begun : List ℕ
@@ -24,18 +28,17 @@ pub record Standing : Type 0 where
 abbrev pub start : Standing
 start = record { number = 1; begun = []; written = [] }
 
-abbrev pub longer : Standing → ℕ → Standing
-longer st b = record { number = st .number; begun = st .begun ++ (b ∷ []); written = st .written }
+-- what a line buffer and the line begun say, whatever they are, to a program that has written so much
+abbrev pub standing : Begun → List ℕ → List ℕ → Standing
+standing b line written = record { number = b .number; begun = take (b .len) line; written = written }
 
--- what the code holds of the line begun: its first bytes, as many as the buffer has room for
-pub record Holds (st : Standing) (line : List ℕ) (b : Begun) : Type 0 where
-  pub number : b .number ≡ st .number
-  pub len : b .len ≤ length line
-  pub kept : take (b .len) line ≡ take (length line) (st .begun)
-
--- a buffer that tells a line of at most so many bytes from one beyond them; of such a line, any more bytes change no answer
-abbrev pub Roomy : ℕ → List ℕ → Type 0
-Roomy most line = most < length line
+-- one byte more of the line begun; a buffer keeps the first bytes of a line, as many as it has room for
+abbrev pub longer : ℕ → Standing → ℕ → Standing
+longer room st b = record {
+  number = st .number;
+  begun = if ltb (length (st .begun)) room then st .begun ++ (b ∷ []) else st .begun;
+  written = st .written;
+}
 
 -- so many bytes are counted, and a buffer of len bytes has room for them
 abbrev pub hasRoom : ℕ → ℕ → Bool
@@ -48,15 +51,16 @@ module _ (answer : List ℕ → List ℕ) where
 
   -- the line begun is ended by LF
   abbrev pub ended : Standing → Standing
-  ended st = record { number = suc (st .number); begun = []; written = st .written ++ answerTo (st .number) (st .begun) }
+  ended st = record { number = nextNumber (st .number); begun = []; written = st .written ++ answerTo (st .number) (st .begun) }
 
-  abbrev pub byteRead : Standing → ℕ → Standing
-  byteRead st b = if eqb b 10 then ended st else longer st b
+  -- behind one byte more, where `room` bytes of a line are kept
+  abbrev pub byteRead : ℕ → Standing → ℕ → Standing
+  byteRead room st b = if eqb b 10 then ended st else longer room st b
 
   -- behind some more input
-  unfoldable pub behind : Standing → List ℕ → Standing
-  behind st [] = st
-  behind st (b ∷ l) = behind (byteRead st b) l
+  unfoldable pub behind : ℕ → Standing → List ℕ → Standing
+  behind room st [] = st
+  behind room st (b ∷ l) = behind room (byteRead room st b) l
 
   -- at the end of the input: a last line may lack its LF
   abbrev pub lastLine : ℕ → List ℕ → List ℕ
@@ -70,12 +74,15 @@ module _ (answer : List ℕ → List ℕ) where
   abbrev pub answerFits : Standing → ℕ → List ℕ → Bool
   answerFits st put out = hasRoom (put + length (answerTo (st .number) (st .begun))) (length out)
 
-  -- FEEDING: whatever the program stood at, as long as the numbers of lines fit 64 bits: what was taken of the input is answered in the output's first
-  -- bytes, and what the code holds is what the program then stands at. All is taken, unless the answer to the line begun has no room
-  pub record Feeds (most : ℕ) (input line out line' out' : List ℕ) (b : Begun) (r : Fed) : Type 0 where
+  -- FEEDING, whatever is given: the code stands where the program stands behind what was taken of the input, the output's first bytes being what it has
+  -- written. All is taken, unless an LF comes and the answer to its line has no room. Left free are the bytes of both buffers behind those: of the output
+  -- behind what was put, of the line behind what is kept of it
+  pub record Feeds (input line out line' out' : List ℕ) (b : Begun) (r : Fed) : Type 0 where
     pub taken : r .taken ≤ length input
-    pub right : (st : Standing) → Roomy most line → Holds st line b → st .number + length input < 2 ^ 64
-        → Holds (behind st (take (r .taken) input)) line' (r .begun)
-        × (r .put ≤ length out')
-        × (st .written ++ take (r .put) out' ≡ behind st (take (r .taken) input) .written)
-        × (r .taken < length input → answerFits (behind st (take (r .taken) input)) (r .put) out' ≡ false)
+    pub put : r .put ≤ length out'
+    pub same-line : length line' ≡ length line
+    pub same-out : length out' ≡ length out
+    pub stands : standing (r .begun) line' (take (r .put) out') ≡ behind (length line) (standing b line []) (take (r .taken) input)
+    pub stops : r .taken < length input
+        → (getD input (r .taken) 0 ≡ 10)
+        × (answerFits (behind (length line) (standing b line []) (take (r .taken) input)) (r .put) out' ≡ false)

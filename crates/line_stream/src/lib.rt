@@ -1,11 +1,9 @@
 // Lines in, answers out, in parts of any length: what each program does that answers its input line by line, whatever it answers.
 ghost use mathlib.Core.Path.{_≡_};
 ghost use mathlib.Core.List.{_++_};
-ghost use Prim.Native.Nat.{_+_};
-ghost use lib.Dec.{ltb};
-ghost use Rattle.forms.specs.Bytes.{if_then_else_, text};
+ghost use Rattle.forms.specs.Bytes.{text};
 ghost use Rattle.definitions.specs.House.{decimal};
-ghost use Rattle.line_stream.specs.Stream.{hasRoom, numberMost};
+ghost use Rattle.line_stream.specs.Stream.{hasRoom, nextNumber};
 ghost use Rattle.line_stream.specs.Steps.{Keeps, closed, fedOf};
 ghost use Rattle.output.specs.Puts.{Puts};
 use output::COUNTED;
@@ -52,7 +50,7 @@ fn has_room(place: usize, len: usize) -> bool
 }
 
 fn next_number(n: u64) -> u64
-    ensures { λ r. ⌜ r ≡ (if ltb n numberMost then n + 1 else n) ⌝ }
+    ensures { λ r. ⌜ r ≡ nextNumber n ⌝ }
 {
     if n < NUMBER_MOST { n + 1 } else { n }
 }

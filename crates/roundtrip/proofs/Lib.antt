@@ -25,5 +25,3 @@ pub mod Told
 pub mod Printed
 pub mod House
 pub mod Buffer
-pub mod Places
-pub mod Digits

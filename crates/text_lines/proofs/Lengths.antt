@@ -23,12 +23,12 @@ use Rattle.definitions.specs.House.{decimal, houseText}
 use Rattle.definitions.specs.WellFormed.{wellFormed}
 use Rattle.definitions.specs.Writing.{writingDue}
 use Rattle.definitions.specs.Lines.{refusedLine, houseLine, lineBy, lineOf}
-use Rattle.roundtrip.proofs.Places.{place-most}
-use Rattle.roundtrip.proofs.Digits.{decimal-most}
+use Rattle.laws.proofs.Places.{place-most}
+use Rattle.laws.proofs.Digits.{decimal-most}
 use Rattle.line_stream.specs.declared.Begun.{Begun}
 use Rattle.line_stream.specs.declared.Fed.{Fed}
-use Rattle.line_stream.specs.Stream.{answerTo, Standing, Holds, Roomy, Feeds}
-use Rattle.line_stream.proofs.Room as stream
+use Rattle.line_stream.specs.Stream.{numberMost, answerTo, Feeds}
+use Rattle.line_stream.proofs.Running.{goes-on}
 
 -- ---- the answer to a text
 
@@ -90,12 +90,11 @@ line-most s = outcome-most (read limits01 s .outcome) (read limits01 s .table) (
 
 -- ---- with its number, and in a feed
 
-pub answer-most : (n : ℕ) (s : List ℕ) → n < 2 ^ 64 → length (answerTo (lineOf limits01) n s) ≤ 1049
+pub answer-most : (n : ℕ) (s : List ℕ) → n ≤ numberMost → length (answerTo (lineOf limits01) n s) ≤ 1049
 answer-most n s h =
     omega
-    (arith, length-append (decimal n) (9 ∷ (lineOf limits01 s ++ text "\n")), length-append (lineOf limits01 s) (text "\n"), decimal-most n h, line-most s)
+    (arith, length-append (decimal n) (9 ∷ (lineOf limits01 s ++ text "\n")), length-append (lineOf limits01 s) (text "\n"), decimal-most n (omega (arith, h)), line-most s)
 
-pub always-takes : {input line out line' out' : List ℕ} {b : Begun} {r : Fed} → Feeds (lineOf limits01) (limits01 .text) input line out line' out' b r
-    → (st : Standing) → Roomy (limits01 .text) line → Holds st line b → st .number + length input < 2 ^ 64
-    → 1049 ≤ length out' → 1 ≤ length input → 1 ≤ r .taken
-always-takes f = stream.always-takes (lineOf limits01) (limits01 .text) 1049 (omega arith) answer-most f
+pub always-takes : {input line out line' out' : List ℕ} {b : Begun} {r : Fed} → 1049 ≤ length out → b .number ≤ numberMost → 0 < length input
+    → Feeds (lineOf limits01) input line out line' out' b r → 0 < r .taken
+always-takes room counts some f = goes-on (lineOf limits01) 1049 answer-most room (omega arith) counts some f

@@ -27,7 +27,7 @@ fn put_line(out: &mut [u8], at: usize, number: u64, s: &[u8]) -> usize
 
 // The line begun is ended.
 fn end_line(line: &[u8], out: &mut [u8], g: Going) -> Going
-    ensures { λ r. ⌜ Ends (lineOf limits01) (limits01 .text) (now (line .entry)) (now (out .entry)) (now (out .exit)) g r ⌝ }
+    ensures { λ r. ⌜ Ends (lineOf limits01) (now (line .entry)) (now (out .entry)) (now (out .exit)) g r ⌝ }
 {
     let len = at_most(g.len, line.len());
     let place = put_line(out, g.put, g.number, &line[0..len]);
@@ -35,7 +35,7 @@ fn end_line(line: &[u8], out: &mut [u8], g: Going) -> Going
 }
 
 fn take_byte(line: &mut [u8], out: &mut [u8], g: Going, b: u8) -> Going
-    ensures { λ r. ⌜ Takes (lineOf limits01) (limits01 .text) (now (line .entry)) (now (out .entry)) (now (line .exit)) (now (out .exit)) g b r ⌝ }
+    ensures { λ r. ⌜ Takes (lineOf limits01) (now (line .entry)) (now (out .entry)) (now (line .exit)) (now (out .exit)) g b r ⌝ }
 {
     if b == 10 {
         return end_line(line, out, g);
@@ -45,7 +45,7 @@ fn take_byte(line: &mut [u8], out: &mut [u8], g: Going, b: u8) -> Going
 
 // Takes bytes of the input until all are taken, or an answer has no room in the output.
 pub fn feed(input: &[u8], line: &mut [u8], out: &mut [u8], begun: Begun) -> Fed
-    ensures { λ r. ⌜ Feeds (lineOf limits01) (limits01 .text) (now (input .entry)) (now (line .entry)) (now (out .entry)) (now (line .exit)) (now (out .exit)) begun r ⌝ }
+    ensures { λ r. ⌜ Feeds (lineOf limits01) (now (input .entry)) (now (line .entry)) (now (out .entry)) (now (line .exit)) (now (out .exit)) begun r ⌝ }
 {
     let mut g = Going {
         number: begun.number,

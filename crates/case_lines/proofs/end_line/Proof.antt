@@ -1,9 +1,7 @@
 use native.Mathlib.Omega.{arith}
 use lib.ListN.{length}
 use Rattle.output.proofs.Clipping.{at-most-le}
-use Rattle.cases.specs.CaseLines.{lineMost}
 use Rattle.case_answers.specs.CaseAnswers.{caseAnswer}
-use Rattle.case_lines.proofs.Kept.{kept-case}
 use Rattle.line_stream.proofs.Closing.{ends}
 use borrow.Author.Needs.{needs}
 use Rattle.case_lines.proofs.end_line.Statement.{statement}
@@ -31,7 +29,7 @@ same-length : tie.Need-same-length
 same-length c = search needs
 
 returns : tie.Need-returns
-returns c = ends caseAnswer lineMost kept-case (c .before .before .before .before .before .before .before .before .before .args .line .now) (c .before .before .before .before .before .before .before .before .before .args .out .now) (c .before .before .before .put-line .last .0) (c .before .before .before .before .before .before .before .before .before .args .g) _ _ (c .before .before .before .before .before .before .at-most .ensures) (c .before .before .before .put-line .ensures) (c .close-line .ensures)
+returns c = ends caseAnswer (c .before .before .before .before .before .before .at-most .ensures) (c .before .before .before .put-line .ensures) (c .close-line .ensures)
 
 pub end-line-spec : {M : Type 1} → statement M
 end-line-spec =

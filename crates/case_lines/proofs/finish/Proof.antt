@@ -2,7 +2,6 @@ use native.Mathlib.Omega.{arith}
 use lib.ListN.{length}
 use Rattle.output.proofs.Clipping.{at-most-le}
 use Rattle.output.proofs.Putting.{none-put, told}
-use Rattle.cases.specs.CaseLines.{lineMost}
 use Rattle.case_answers.specs.CaseAnswers.{caseAnswer}
 use Rattle.line_stream.proofs.Output.{last-none, last-some}
 use borrow.Author.Needs.{needs}

@@ -3,7 +3,6 @@ use lib.ListN.{length}
 use Rattle.output.proofs.Clipping.{at-most-le}
 use Rattle.definitions.specs.Limits.{limits01}
 use Rattle.definitions.specs.Lines.{lineOf}
-use Rattle.text_lines.proofs.Kept.{kept-line}
 use Rattle.line_stream.proofs.Closing.{ends}
 use borrow.Author.Needs.{needs}
 use Rattle.text_lines.proofs.end_line.Statement.{statement}
@@ -31,7 +30,7 @@ same-length : tie.Need-same-length
 same-length c = search needs
 
 returns : tie.Need-returns
-returns c = ends (lineOf limits01) (limits01 .text) kept-line (c .before .before .before .before .before .before .before .before .before .args .line .now) (c .before .before .before .before .before .before .before .before .before .args .out .now) (c .before .before .before .put-line .last .0) (c .before .before .before .before .before .before .before .before .before .args .g) _ _ (c .before .before .before .before .before .before .at-most .ensures) (c .before .before .before .put-line .ensures) (c .close-line .ensures)
+returns c = ends (lineOf limits01) (c .before .before .before .before .before .before .at-most .ensures) (c .before .before .before .put-line .ensures) (c .close-line .ensures)
 
 pub end-line-spec : {M : Type 1} → statement M
 end-line-spec =

@@ -1,0 +1,105 @@
+-- A RUN WRITES THE PROGRAM'S OUTPUT, in whatever parts the input comes; and no turn of it takes nothing, where every answer has room.
+use mathlib.Core.Path.{_≡_, refl, sym, ap, subst, _∙_}
+use mathlib.Core.Bool.{true, false, true≢false}
+use mathlib.Core.List.{List, [], _∷_, _++_, append-assoc, append-nil}
+use Prim.Native.Nat.{ℕ, _+_, _≤_, _<_, _^_}
+use native.Mathlib.Omega.{arith}
+use lib.Dec.{eqb, ltb}
+use lib.ListN.{length, take, drop, take-append-drop}
+use lib.Seq.{length-take-le}
+use borrow.Author.Tests.{lt-ltb, le-leb, ltb-true, ltb-false}
+use Rattle.forms.proofs.Bools.{by-cases}
+use Rattle.definitions.specs.Lines.{outputOver}
+use Rattle.output.specs.Puts.{countedMost, Puts}
+use Rattle.output.proofs.Putting.{same-length}
+use Rattle.output.proofs.Whole.{placed-whole}
+use Rattle.line_stream.specs.declared.Begun.{Begun}
+use Rattle.line_stream.specs.declared.Fed.{Fed}
+use Rattle.line_stream.specs.Stream.{numberMost, answerTo, Standing, standing, byteRead, behind, lastLine, outputOf, hasRoom, answerFits, Feeds}
+use Rattle.line_stream.specs.Runs.{Runs, last, part}
+use Rattle.line_stream.proofs.Closing.{room-counted, room-within}
+use Rattle.line_stream.proofs.Feeding.{behind-parts}
+use Rattle.line_stream.proofs.Output.{whole-output}
+
+module _ (answer : List ℕ → List ℕ) where
+  -- ---- what was written before stays before
+
+  abbrev after : List ℕ → Standing → Standing
+  after w st = record { number = st .number; begun = st .begun; written = w ++ st .written }
+
+  byte-after : (room : ℕ) (w : List ℕ) (st : Standing) (b : ℕ) → byteRead answer room (after w st) b ≡ after w (byteRead answer room st b)
+  byte-after room w st b =
+      by-cases (eqb b 10)
+      (λ t. rw t (ap (λ (l : List ℕ). record { number = byteRead answer room st 10 .number; begun = []; written = l }) (append-assoc w (st .written) (answerTo answer (st .number) (st .begun)))))
+      (λ f. rw f)
+
+  behind-after : (room : ℕ) (w : List ℕ) (st : Standing) (l : List ℕ) → behind answer room (after w st) l ≡ after w (behind answer room st l)
+  unfolding behind
+  behind-after room w st [] = refl
+  behind-after room w st (b ∷ l) = ap (λ (x : Standing). behind answer room x l) (byte-after room w st b) ∙ behind-after room w (byteRead answer room st b) l
+
+  output-after : (w : List ℕ) (st : Standing) → outputOf answer (after w st) ≡ w ++ outputOf answer st
+  output-after w st = append-assoc w (st .written) (lastLine answer (st .number) (st .begun))
+
+  -- ---- what a run writes from anywhere on
+
+  abbrev comes : List ℕ → List ℕ → Begun → List ℕ
+  comes input line b = outputOf answer (behind answer (length line) (standing b line []) input)
+
+  last-comes : (line : List ℕ) (b : Begun) {out out' : List ℕ} {n : ℕ} → Puts out 0 (lastLine answer (b .number) (take (b .len) line)) out' n → hasRoom n (length out') ≡ true
+      → take n out' ≡ comes [] line b
+  unfolding behind
+  last-comes line b {out = out} {out' = out'} {n = n} p t =
+      placed-whole out 0 p (room-counted n (length out') t) (subst (λ (k : ℕ). n ≤ k) (same-length p) (room-within n (length out') t))
+
+  part-comes : (block rest : List ℕ) {line out line' out' : List ℕ} {b : Begun} {r : Fed} → Feeds answer block line out line' out' b r
+      → take (r .put) out' ++ comes (drop (r .taken) block ++ rest) line' (r .begun) ≡ comes (block ++ rest) line b
+  part-comes block rest {line = line} {line' = line'} {out' = out'} {b = b} {r = r} f =
+      let w = take (r .put) out' in
+      let front = take (r .taken) block in
+      let back = drop (r .taken) block ++ rest in
+      let whole : front ++ back ≡ block ++ rest = sym (append-assoc front (drop (r .taken) block) rest) ∙ ap (λ (l : List ℕ). l ++ rest) (take-append-drop (r .taken) block) in
+      sym (output-after w (behind answer (length line') (standing (r .begun) line' []) back))
+      ∙ ap (outputOf answer) (sym (behind-after (length line') w (standing (r .begun) line' []) back)
+      ∙ ap (λ (l : List ℕ). behind answer (length line') (standing (r .begun) line' l) back) (append-nil w)
+      ∙ ap (λ (n : ℕ). behind answer n (standing (r .begun) line' w) back) (f .same-line)
+      ∙ ap (λ (x : Standing). behind answer (length line) x back) (f .stands)
+      ∙ sym (behind-parts answer (length line) (standing b line []) front back)
+      ∙ ap (behind answer (length line) (standing b line [])) whole)
+
+  pub runs-on : {input line w : List ℕ} {b : Begun} → Runs answer input line b w → w ≡ comes input line b
+  runs-on (last {line = line} {b = b} p t) = last-comes line b p t
+  runs-on (part block rest {out' = out'} {r = r} f u) = ap (λ (l : List ℕ). take (r .put) out' ++ l) (runs-on u) ∙ part-comes block rest f
+
+  -- ---- from the start on it is the program's output
+
+  pub runs-output : (most : ℕ) → ((m : ℕ) (s : List ℕ) → most < m → answer (take m s) ≡ answer s)
+      → {input line w : List ℕ} → most < length line → length input + 1 < 2 ^ 64 → Runs answer input line (record { number = 1; len = 0 }) w → w ≡ outputOver answer input
+  runs-output most kept {input = input} {line = line} roomy few u = runs-on u ∙ sym (whole-output answer most (length line) kept roomy input few)
+
+  -- ---- each turn takes some of its input, where every answer has room
+
+  none-taken : (n : ℕ) (l : List ℕ) → n ≤ length l → take n l ≡ [] → n ≡ 0
+  none-taken n l h e = sym (length-take-le n l h) ∙ ap length e
+
+  has-room : (n len : ℕ) → n < countedMost → n ≤ len → hasRoom n len ≡ true
+  has-room n len few fits = rw (lt-ltb n countedMost few, le-leb n len fits)
+
+  pub goes-on : (k : ℕ) → ((n : ℕ) (s : List ℕ) → n ≤ numberMost → length (answerTo answer n s) ≤ k)
+      → {input line out line' out' : List ℕ} {b : Begun} {r : Fed} → k ≤ length out → k < countedMost → b .number ≤ numberMost → 0 < length input
+      → Feeds answer input line out line' out' b r → 0 < r .taken
+  unfolding behind
+  goes-on k short {input = input} {line = line} {out = out} {out' = out'} {b = b} {r = r} fits few counts some f =
+      by-cases (ltb 0 (r .taken)) (λ t. ltb-true 0 (r .taken) t) (λ e. absurd (stuck (z e)))
+    where
+      z : ltb 0 (r .taken) ≡ false → r .taken ≡ 0
+      z e = let h : r .taken ≤ 0 = ltb-false 0 (r .taken) e in omega (arith, h)
+
+      stuck : r .taken ≡ 0 → ⊥
+      stuck e =
+          let st : behind answer (length line) (standing b line []) (take (r .taken) input) ≡ standing b line [] = ap (λ (n : ℕ). behind answer (length line) (standing b line []) (take n input)) e in
+          let none : r .put ≡ 0 = none-taken (r .put) out' (f .put) (ap (λ (x : Standing). x .written) (f .stands ∙ st)) in
+          let crowded : answerFits answer (standing b line []) (r .put) out' ≡ false = subst (λ (x : Standing). answerFits answer x (r .put) out' ≡ false) st (f .stops (omega (arith, e, some)) .1) in
+          let len : length (answerTo answer (b .number) (take (b .len) line)) ≤ k = short (b .number) (take (b .len) line) counts in
+          let n = r .put + length (answerTo answer (b .number) (take (b .len) line)) in
+          true≢false (sym (has-room n (length out') (omega (arith, none, len, few)) (omega (arith, none, len, fits, f .same-out))) ∙ crowded)
