@@ -1,2 +1,2 @@
 -- Passed on for those above.
-pub use Rattle.passing.proofs.Passing.{drop-here}
+pub use Rattle.list_walks.proofs.Passing.{drop-here}

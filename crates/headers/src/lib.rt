@@ -8,8 +8,8 @@ ghost use Rattle.definitions.specs.Limits.{packetMost, decodedMost};
 ghost use Rattle.definitions.specs.Packet.{versionOf, headerWords, headerLength, totalLength, isFragment};
 use definitions::limits::DECODED_BYTES;
 use definitions::limits::PACKET_BYTES;
-use wide::wide8;
-use wide::wide16;
+use header_numbers::wide8;
+use header_numbers::wide16;
 
 // The length of the IP header, in bytes.
 pub fn header_length(d: &[u8]) -> usize

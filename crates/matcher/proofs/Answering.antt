@@ -16,12 +16,12 @@ use Rattle.definitions.specs.declared.answers.Verdict.the-variants as verdict
 use Rattle.definitions.specs.declared.answers.Answer.{Answer}
 use Rattle.definitions.specs.Lists.{keep}
 use Rattle.definitions.specs.Answers.{refusedAnswer, verdictBy, verdictDue, placementsOf, verdictAnswer, firstAnswer, nextAnswer}
-use Rattle.outcomes.specs.declared.Outcome.{Outcome}
-use Rattle.outcomes.specs.Outcomes.{outcomeOf, answerOf, metBy}
-use Rattle.chosen.specs.Choosing.{behindIf}
-use Rattle.clearing.specs.Clearing.{clearance}
-use Rattle.clearing.proofs.Clearance.{refused-due}
-use Rattle.listing.proofs.Answering.{answer-head}
+use Rattle.search_outcomes.specs.declared.Outcome.{Outcome}
+use Rattle.search_outcomes.specs.Outcomes.{outcomeOf, answerOf, metBy}
+use Rattle.search_chosen.specs.Choosing.{behindIf}
+use Rattle.verdict_due.specs.Clearing.{clearance}
+use Rattle.verdict_due.proofs.Clearance.{refused-due}
+use Rattle.placement_list.proofs.Answering.{answer-head}
 
 met-head : (l : List (List ℕ)) → metBy (outcomeOf l .found) ≡ verdictBy Fine l
 met-head [] = refl

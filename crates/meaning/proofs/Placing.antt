@@ -16,7 +16,7 @@ use Rattle.definitions.specs.Lists.{keep, keepOne, none?}
 use Rattle.definitions.specs.Fields.{present, bufferOf, fieldSpan, fieldOf, cut}
 use Rattle.definitions.specs.Windows.{lies}
 use Rattle.definitions.specs.Placements.{upFrom, liesIn, starts, nowhereHolds}
-use Rattle.spans.specs.Spans.{sizeBound, Measured, placesOf}
+use Rattle.window_spans.specs.Spans.{sizeBound, Measured, placesOf}
 use Rattle.fields.specs.Seen.{seen}
 use Rattle.meaning.specs.Bounds.{Bounded}
 

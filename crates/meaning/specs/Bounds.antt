@@ -5,7 +5,7 @@ use lib.ListN.{length}
 use Rattle.definitions.specs.declared.table.Pattern.{Pattern}
 use Rattle.definitions.specs.declared.packet.Last.{Last}
 use Rattle.definitions.specs.Windows.{lastEnd}
-use Rattle.spans.specs.Spans.{sizeBound}
+use Rattle.window_spans.specs.Spans.{sizeBound}
 
 -- a payload s, a decoded buffer d, the pattern p and the last match before it
 pub record Bounded (s d : List ℕ) (p : Pattern) (l : Last) : Type 0 where

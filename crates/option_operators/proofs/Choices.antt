@@ -10,11 +10,11 @@ use Rattle.forms.specs.Bytes.{between}
 use Rattle.forms.specs.Form.{Class, has, Form}
 use Rattle.forms.specs.Scan.{begins}
 use Rattle.forms.specs.Pieces.{skip, opt, sign}
-use Rattle.cursors.specs.declared.Cursor.{Cursor}
-use Rattle.cursors.specs.declared.Cursor.the-variants.{Going}
-use Rattle.cursors.specs.Reads.{Reads}
-use Rattle.cursors.proofs.Readings.{skip-reads, first-reads, second-reads, tell-reads}
-use Rattle.pieces.proofs.AtPlace.{begins-in, sign-begun}
+use Rattle.scan_cursors.specs.declared.Cursor.{Cursor}
+use Rattle.scan_cursors.specs.declared.Cursor.the-variants.{Going}
+use Rattle.scan_cursors.specs.Reads.{Reads}
+use Rattle.scan_cursors.proofs.Readings.{skip-reads, first-reads, second-reads, tell-reads}
+use Rattle.scan_pieces.proofs.AtPlace.{begins-in, sign-begun}
 
 -- a byte of a class by its spans
 module _ (b : ℕ) (c : Class) where

@@ -12,11 +12,11 @@ use Rattle.definitions.specs.declared.table.Order.the-variants as order
 use Rattle.definitions.specs.declared.table.Operator.{Operator}
 use Rattle.definitions.specs.declared.table.Operator.the-variants as operator
 use Rattle.definitions.specs.Forms.{lessOrGreater, comparison}
-use Rattle.cursors.specs.declared.Cursor.{Cursor}
-use Rattle.cursors.specs.declared.Cursor.the-variants.{Going}
-use Rattle.cursors.specs.Reads.{Reads}
-use Rattle.cursors.proofs.Readings.{skip-reads, made-reads, first-reads, second-reads, tell-reads}
-use Rattle.pieces.proofs.AtPlace.{sign-begun, mark-yes, mark-no}
+use Rattle.scan_cursors.specs.declared.Cursor.{Cursor}
+use Rattle.scan_cursors.specs.declared.Cursor.the-variants.{Going}
+use Rattle.scan_cursors.specs.Reads.{Reads}
+use Rattle.scan_cursors.proofs.Readings.{skip-reads, made-reads, first-reads, second-reads, tell-reads}
+use Rattle.scan_pieces.proofs.AtPlace.{sign-begun, mark-yes, mark-no}
 use Rattle.option_operators.specs.Operators.{sizeOrder, greater}
 use Rattle.option_operators.proofs.Choices.{one-of, another-of, behind-in}
 

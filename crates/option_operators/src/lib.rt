@@ -5,19 +5,19 @@ ghost use Rattle.forms.specs.Pieces.{opt};
 ghost use Rattle.definitions.specs.Forms.{lessOrGreater, comparison};
 ghost use Rattle.definitions.specs.declared.table.Order.the-variants.{Equal};
 ghost use Rattle.scan.specs.Capped.{farAbove};
-ghost use Rattle.cursors.specs.Reads.{Reads};
-ghost use Rattle.cursors.specs.declared.Cursor.the-variants.{Going};
+ghost use Rattle.scan_cursors.specs.Reads.{Reads};
+ghost use Rattle.scan_cursors.specs.declared.Cursor.the-variants.{Going};
 ghost use Rattle.option_operators.specs.Operators.{sizeOrder, greater, masked};
 use definitions::table::Operator;
 use definitions::table::Order;
-use cursors::Cursor;
-use cursors::join;
-use cursors::place;
-use pieces::numbers::Numeric;
-use pieces::numbers::numeral_at;
-use pieces::signs::sign_at;
-use pieces::signs::spaces_at;
-use pieces::signs::stands;
+use scan_cursors::Cursor;
+use scan_cursors::join;
+use scan_cursors::place;
+use scan_pieces::numbers::Numeric;
+use scan_pieces::numbers::numeral_at;
+use scan_pieces::signs::sign_at;
+use scan_pieces::signs::spaces_at;
+use scan_pieces::signs::stands;
 
 pub struct OrderAt {
     pub order: Order,

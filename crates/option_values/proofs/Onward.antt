@@ -12,9 +12,9 @@ use Rattle.forms.proofs.Sound.{sound-loose}
 use Rattle.forms.proofs.Places.{begun}
 use Rattle.entry.specs.declared.Room.{Room}
 use Rattle.entry.specs.Values.{appended}
-use Rattle.cursors.specs.declared.Cursor.{Cursor}
-use Rattle.cursors.specs.declared.Cursor.the-variants.{Going, Over, Stopped}
-use Rattle.cursors.specs.Reads.{readBy, joined, placeOf, Reads}
+use Rattle.scan_cursors.specs.declared.Cursor.{Cursor}
+use Rattle.scan_cursors.specs.declared.Cursor.the-variants.{Going, Over, Stopped}
+use Rattle.scan_cursors.specs.Reads.{readBy, joined, placeOf, Reads}
 
 placeBy : {A : Type 0} → Read A → ℕ
 placeBy (Is v n) = n

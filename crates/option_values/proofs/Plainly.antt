@@ -14,8 +14,8 @@ use Rattle.entry.specs.declared.Value.{Value}
 use Rattle.entry.specs.declared.Value.the-variants as value
 use Rattle.entry.specs.declared.Room.{Room}
 use Rattle.entry.specs.Values.{entryOf, Plain}
-use Rattle.cursors.specs.declared.Cursor.the-variants.{Going}
-use Rattle.cursors.specs.Reads.{Reads}
+use Rattle.scan_cursors.specs.declared.Cursor.the-variants.{Going}
+use Rattle.scan_cursors.specs.Reads.{Reads}
 use Rattle.options.specs.declared.valued.Valued.{Valued}
 use Rattle.reader_state.specs.State.{Apart}
 use Rattle.option_values.specs.declared.parsed.Parsed.{Parsed}

@@ -7,7 +7,7 @@ use entry::Room;
 use entry::Value;
 use entry::no_addresses;
 use options::valued::Valued;
-use cursors::Cursor;
+use scan_cursors::Cursor;
 
 pub struct Parsed {
     pub value: Value,

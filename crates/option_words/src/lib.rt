@@ -1,8 +1,8 @@
 // The words of options' values. The first letter decides which word must stand; where two words begin alike, the letter behind does.
 ghost use Prim.Native.Nat.{_≤_};
 ghost use lib.ListN.{length};
-ghost use Rattle.cursors.specs.Reads.{Reads};
-ghost use Rattle.cursors.specs.declared.Cursor.the-variants.{Going};
+ghost use Rattle.scan_cursors.specs.Reads.{Reads};
+ghost use Rattle.scan_cursors.specs.declared.Cursor.the-variants.{Going};
 ghost use Rattle.definitions.specs.Limits.{byteMost};
 ghost use Rattle.definitions.specs.Forms.{referenceWord};
 ghost use Rattle.option_words.specs.Words.{protocolValue, flowWord, contextWord, hWord, bWord, sizeWord};
@@ -11,13 +11,13 @@ use definitions::table::Context;
 use definitions::table::Flow;
 use definitions::table::Reference;
 use definitions::table::SizeField;
-use cursors::Cursor;
-use cursors::join;
-use cursors::place;
-use pieces::numbers::Numeric;
-use pieces::numbers::number_at;
-use pieces::signs::starts;
-use pieces::words::word_at;
+use scan_cursors::Cursor;
+use scan_cursors::join;
+use scan_cursors::place;
+use scan_pieces::numbers::Numeric;
+use scan_pieces::numbers::number_at;
+use scan_pieces::signs::starts;
+use scan_pieces::words::word_at;
 
 pub struct FlowAt {
     pub flow: Flow,

@@ -7,10 +7,10 @@ use Rattle.forms.specs.Form.{Form, tell}
 use Rattle.forms.specs.Pieces.{skip, sign}
 use Rattle.definitions.specs.Entries.{Entry}
 use Rattle.definitions.specs.Forms.{spaces, gap, closed, valued}
-use Rattle.cursors.specs.declared.Cursor.{Cursor}
-use Rattle.cursors.specs.declared.Cursor.the-variants.{Going}
-use Rattle.cursors.specs.Reads.{joined, placeOf, Reads, Skips}
-use Rattle.cursors.proofs.Readings.{skip-reads, before-reads, tell-reads, joined-reads}
+use Rattle.scan_cursors.specs.declared.Cursor.{Cursor}
+use Rattle.scan_cursors.specs.declared.Cursor.the-variants.{Going}
+use Rattle.scan_cursors.specs.Reads.{joined, placeOf, Reads, Skips}
+use Rattle.scan_cursors.proofs.Readings.{skip-reads, before-reads, tell-reads, joined-reads}
 
 module _ {f : Form Entry} {s : List ℕ} {v : Entry} {b c d e : Cursor} {behind : ℕ} where
   -- from the gap's end b the value is read up to c, and from there the end of the option

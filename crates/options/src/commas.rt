@@ -1,8 +1,8 @@
 // What may follow a number behind a comma.
 ghost use Prim.Native.Nat.{_≤_};
 ghost use lib.ListN.{length};
-ghost use Rattle.cursors.specs.Reads.{Reads};
-ghost use Rattle.cursors.specs.declared.Cursor.the-variants.{Going};
+ghost use Rattle.scan_cursors.specs.Reads.{Reads};
+ghost use Rattle.scan_cursors.specs.declared.Cursor.the-variants.{Going};
 ghost use Rattle.options.specs.Parts.{sizeField, relative, reference, reversed, directed};
 use option_words::ReferenceAt;
 use option_words::SizeFieldAt;
@@ -10,12 +10,12 @@ use option_words::reference_at;
 use option_words::size_word_at;
 use definitions::table::Reference;
 use definitions::table::SizeField;
-use cursors::Cursor;
-use cursors::join;
-use cursors::place;
-use pieces::signs::Mark;
-use pieces::signs::stands;
-use pieces::words::word_at;
+use scan_cursors::Cursor;
+use scan_cursors::join;
+use scan_cursors::place;
+use scan_pieces::signs::Mark;
+use scan_pieces::signs::stands;
+use scan_pieces::words::word_at;
 
 pub struct DirectedAt {
     pub reference: Reference,

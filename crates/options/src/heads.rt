@@ -4,16 +4,16 @@ ghost use Prim.Native.Nat.{_≤_};
 ghost use lib.ListN.{length};
 ghost use Rattle.definitions.specs.Forms.{protocolForm, flowForm};
 ghost use Rattle.entry.specs.Values.{entryOf, Plain};
-ghost use Rattle.cursors.specs.Reads.{Reads};
-ghost use Rattle.cursors.specs.declared.Cursor.the-variants.{Going};
+ghost use Rattle.scan_cursors.specs.Reads.{Reads};
+ghost use Rattle.scan_cursors.specs.declared.Cursor.the-variants.{Going};
 use crate::valued::Valued;
 use option_words::flow_at;
 use option_words::protocol_at;
 use entry::Value;
-use cursors::join;
-use cursors::place;
-use pieces::signs::closing_at;
-use pieces::signs::gap_at;
+use scan_cursors::join;
+use scan_cursors::place;
+use scan_pieces::signs::closing_at;
+use scan_pieces::signs::gap_at;
 
 pub fn protocol_option(s: &[u8], at: usize) -> Valued
     requires { ⌜ at ≤ length (now s) ⌝ }

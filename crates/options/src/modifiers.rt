@@ -6,8 +6,8 @@ ghost use lib.ListN.{length};
 ghost use Rattle.definitions.specs.Limits.{wordMost};
 ghost use Rattle.definitions.specs.Forms.{contextForm, noCaseForm, signed, distanceForm, withinForm};
 ghost use Rattle.entry.specs.Values.{entryOf, Plain};
-ghost use Rattle.cursors.specs.Reads.{Reads};
-ghost use Rattle.cursors.specs.declared.Cursor.the-variants.{Going};
+ghost use Rattle.scan_cursors.specs.Reads.{Reads};
+ghost use Rattle.scan_cursors.specs.declared.Cursor.the-variants.{Going};
 use crate::commas::comma_reference_at;
 use crate::commas::directed_at;
 use crate::valued::Valued;
@@ -16,12 +16,12 @@ use definitions::limits::WORD_MOST;
 use definitions::table::Reach;
 use definitions::table::Shift;
 use entry::Value;
-use cursors::join;
-use cursors::place;
-use pieces::numbers::number_at;
-use pieces::signs::closing_at;
-use pieces::signs::gap_at;
-use pieces::signs::mark_at;
+use scan_cursors::join;
+use scan_cursors::place;
+use scan_pieces::numbers::number_at;
+use scan_pieces::signs::closing_at;
+use scan_pieces::signs::gap_at;
+use scan_pieces::signs::mark_at;
 
 pub fn context_option(s: &[u8], at: usize) -> Valued
     requires { ⌜ at ≤ length (now s) ⌝ }

@@ -6,8 +6,8 @@ ghost use Rattle.definitions.specs.Limits.{wordMost};
 ghost use Rattle.definitions.specs.Forms.{sameIpForm, ttlForm, sizeForm, atForm};
 ghost use Rattle.options.specs.Parts.{numberWithin, fieldWithin};
 ghost use Rattle.entry.specs.Values.{entryOf, Plain};
-ghost use Rattle.cursors.specs.Reads.{Reads};
-ghost use Rattle.cursors.specs.declared.Cursor.the-variants.{Going};
+ghost use Rattle.scan_cursors.specs.Reads.{Reads};
+ghost use Rattle.scan_cursors.specs.declared.Cursor.the-variants.{Going};
 use crate::commas::relative_at;
 use crate::commas::size_field_at;
 use option_operators::comparison_at;
@@ -26,14 +26,14 @@ use definitions::table::NumberTest;
 use definitions::table::SizeTest;
 use definitions::table::TtlTest;
 use entry::Value;
-use cursors::Cursor;
-use cursors::join;
-use cursors::place;
-use pieces::numbers::number_at;
-use pieces::numbers::numeral_at;
-use pieces::signs::closing_at;
-use pieces::signs::gap_at;
-use pieces::signs::spaces_at;
+use scan_cursors::Cursor;
+use scan_cursors::join;
+use scan_cursors::place;
+use scan_pieces::numbers::number_at;
+use scan_pieces::numbers::numeral_at;
+use scan_pieces::signs::closing_at;
+use scan_pieces::signs::gap_at;
+use scan_pieces::signs::spaces_at;
 
 pub fn same_ip_option(s: &[u8], at: usize) -> Valued
     requires { ⌜ at ≤ length (now s) ⌝ }

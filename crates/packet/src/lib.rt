@@ -2,7 +2,7 @@
 ghost use mathlib.Core.Path.{_≡_};
 ghost use Rattle.definitions.specs.Packet.{factsOf, packetAnswer};
 ghost use Rattle.definitions.specs.Fields.{shown};
-ghost use Rattle.parts.specs.Parts.{PartOf};
+ghost use Rattle.field_parts.specs.Parts.{PartOf};
 ghost use Rattle.packet.specs.Datagram.{datagramAnswer, spanBetween, payloadSpan, payloadPart};
 use definitions::answers::PacketAnswer;
 use definitions::answers::Refusal;
@@ -15,14 +15,14 @@ use headers::lent_too_long;
 use headers::not_ipv4;
 use headers::total_length;
 use headers::wrong_lengths;
-use parts::part_of;
+use field_parts::part_of;
 use transport::port_at;
 use transport::protocol_of;
 use transport::transport_length;
 use transport::transport_short;
-use wide::wide8;
-use wide::wide16;
-use wide::wide32;
+use header_numbers::wide8;
+use header_numbers::wide16;
+use header_numbers::wide32;
 
 // The facts of a datagram.
 fn facts_of(d: &[u8]) -> Facts

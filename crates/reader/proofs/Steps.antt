@@ -19,9 +19,9 @@ use Rattle.definitions.specs.Reading.{Said, entriesOf, Options, refused, taken}
 use Rattle.entry.specs.declared.Value.{Value}
 use Rattle.entry.specs.declared.Value.the-variants as value
 use Rattle.entry.specs.Values.{entryOf}
-use Rattle.cursors.specs.declared.Cursor.{Cursor}
-use Rattle.cursors.specs.declared.Cursor.the-variants.{Going, Over, Stopped}
-use Rattle.cursors.specs.Reads.{readBy, placeOf}
+use Rattle.scan_cursors.specs.declared.Cursor.{Cursor}
+use Rattle.scan_cursors.specs.declared.Cursor.the-variants.{Going, Over, Stopped}
+use Rattle.scan_cursors.specs.Reads.{readBy, placeOf}
 use Rattle.reader_state.specs.declared.State.{State}
 use Rattle.reader_state.specs.State.{Holds, Apart, saidAlso, stateFrom, stateOf}
 use Rattle.enter.proofs.Behind.{bytes-append}

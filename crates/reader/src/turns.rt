@@ -12,7 +12,7 @@ use names::name_end;
 use names::name_place;
 use option_values::places::option_by_place;
 use reader_state::State;
-use cursors::Cursor;
+use scan_cursors::Cursor;
 
 // On to a place, the end of the text, or a refusal and its place.
 pub enum Turn {

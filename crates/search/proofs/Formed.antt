@@ -25,12 +25,12 @@ use Rattle.definitions.specs.Placements.{wantedBy, wanted, itemsOf, positiveIn,
 use Rattle.definitions.specs.Answers.{placementOf}
 use Rattle.laws.proofs.Listing.{keep-in, placements-meet, meets-length}
 use Rattle.formed.proofs.Forming as forming
-use Rattle.spans.specs.Spans.{sizeBound}
-use Rattle.outcomes.specs.declared.Outcome.{Outcome}
-use Rattle.outcomes.specs.Outcomes.{nothing, outcomeOf}
-use Rattle.chosen.specs.Choosing.{answer, behindIf}
-use Rattle.chosen.proofs.Extending.{first-outcome}
-use Rattle.items.specs.Items.{Ready}
+use Rattle.window_spans.specs.Spans.{sizeBound}
+use Rattle.search_outcomes.specs.declared.Outcome.{Outcome}
+use Rattle.search_outcomes.specs.Outcomes.{nothing, outcomeOf}
+use Rattle.search_chosen.specs.Choosing.{answer, behindIf}
+use Rattle.search_chosen.proofs.Extending.{first-outcome}
+use Rattle.search_items.specs.Items.{Ready}
 
 -- ---- no more positive patterns than patterns
 

@@ -3,8 +3,8 @@ ghost use mathlib.Core.Path.{_≡_};
 ghost use Rattle.definitions.specs.Lists.{keep};
 ghost use Rattle.definitions.specs.Placements.{listed};
 ghost use Rattle.fields.specs.Seen.{seen};
-ghost use Rattle.outcomes.specs.Outcomes.{outcomeOf};
-ghost use Rattle.chosen.specs.Choosing.{behindIf};
+ghost use Rattle.search_outcomes.specs.Outcomes.{outcomeOf};
+ghost use Rattle.search_chosen.specs.Choosing.{behindIf};
 ghost use Rattle.search.specs.Searching.{Searchable};
 use definitions::limits::PATTERNS;
 use definitions::packet::Direction;
@@ -12,12 +12,12 @@ use definitions::packet::Facts;
 use definitions::packet::FieldMap;
 use definitions::packet::Last;
 use definitions::table::Table;
-use items::Question;
-use items::from_item;
+use search_items::Question;
+use search_items::from_item;
 use meaning::heads::head_holds;
-use outcomes::Outcome;
-use outcomes::empty;
-use outcomes::no_match;
+use search_outcomes::Outcome;
+use search_outcomes::empty;
+use search_outcomes::no_match;
 
 // THE SEARCH: the first of the list of placements; where `tight`, the first behind the one with the starts in `bound`.
 pub fn find<'a>(

@@ -8,8 +8,8 @@ use protocols::ICMP;
 use protocols::TCP;
 use protocols::UDP;
 use protocols::has_ports;
-use wide::wide8;
-use wide::wide16;
+use header_numbers::wide8;
+use header_numbers::wide16;
 
 pub fn protocol_of(d: &[u8]) -> u8
     ensures { λ r. ⌜ r ≡ protocolOf (now (d .entry)) ⌝ }

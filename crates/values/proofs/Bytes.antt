@@ -17,12 +17,12 @@ use Rattle.definitions.specs.Forms as forms
 use Rattle.definitions.specs.Forms.{spaces, hexPair, block, plainBytes, patternBytes}
 use Rattle.entry.specs.declared.Room.{Room}
 use Rattle.entry.specs.Values.{appended}
-use Rattle.cursors.proofs.Cursor as cursor-type
-use Rattle.cursors.specs.declared.Cursor.{Cursor}
-use Rattle.cursors.specs.declared.Cursor.the-variants.{Going, Stopped}
-use Rattle.cursors.specs.Reads.{joined, placeOf, Reads}
-use Rattle.cursors.proofs.Readings.{made-reads, skip-reads, before-reads, first-reads, second-reads, stopped-reads, inside-at, joined-reads}
-use Rattle.pieces.proofs.AtPlace.{begins-in, byte-begun}
+use Rattle.scan_cursors.proofs.Cursor as cursor-type
+use Rattle.scan_cursors.specs.declared.Cursor.{Cursor}
+use Rattle.scan_cursors.specs.declared.Cursor.the-variants.{Going, Stopped}
+use Rattle.scan_cursors.specs.Reads.{joined, placeOf, Reads}
+use Rattle.scan_cursors.proofs.Readings.{made-reads, skip-reads, before-reads, first-reads, second-reads, stopped-reads, inside-at, joined-reads}
+use Rattle.scan_pieces.proofs.AtPlace.{begins-in, byte-begun}
 use Rattle.values.specs.Storing.{spacedPair, pairs, element, quotedBytes, Ready, Stores, PatternReads}
 use Rattle.values.proofs.Steps.{enclosed, joined-left, joined-right, ahead, ahead-more, halted, byte-place, joined-place}
 use Rattle.values.proofs.Rooms.{appended-none, Writing, Writes, writes-ready, writes-on, writes-last, writes-stop}

@@ -15,11 +15,11 @@ use Rattle.definitions.specs.Limits.{addressesMost}
 use Rattle.definitions.specs.Lists.{padded}
 use Rattle.definitions.specs.Forms.{address, addresses}
 use Rattle.definitions.specs.Tables.{noAddress}
-use Rattle.cursors.specs.declared.Cursor.{Cursor}
-use Rattle.cursors.specs.declared.Cursor.the-variants.{Going, Over, Stopped}
-use Rattle.cursors.specs.Reads.{farBy, joined, placeOf, Inside, Reads}
-use Rattle.cursors.proofs.Readings.{made-reads, pair-reads, skip-reads, before-reads, first-reads, second-reads, join-reads, joined-reads, stopped-reads}
-use Rattle.pieces.proofs.AtPlace.{begins-in, sign-begun}
+use Rattle.scan_cursors.specs.declared.Cursor.{Cursor}
+use Rattle.scan_cursors.specs.declared.Cursor.the-variants.{Going, Over, Stopped}
+use Rattle.scan_cursors.specs.Reads.{farBy, joined, placeOf, Inside, Reads}
+use Rattle.scan_cursors.proofs.Readings.{made-reads, pair-reads, skip-reads, before-reads, first-reads, second-reads, join-reads, joined-reads, stopped-reads}
+use Rattle.scan_pieces.proofs.AtPlace.{begins-in, sign-begun}
 use Rattle.values.specs.Listing.{listed, goesAt, Lists}
 use Rattle.values.proofs.Steps.{begun-in, Ahead, ahead, ahead-more}
 use Rattle.values.proofs.Turns.{star-out, Star, star-start, star-more, star-end}

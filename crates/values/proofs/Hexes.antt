@@ -15,12 +15,12 @@ use Rattle.forms.proofs.Bools.{by-cases}
 use Rattle.forms.proofs.Sound.{never}
 use Rattle.definitions.specs.Numbers.{hexDigits, digitValue, valueOf}
 use Rattle.definitions.specs.Forms.{hexPair}
-use Rattle.cursors.specs.declared.Cursor.the-variants.{Going, Stopped}
+use Rattle.scan_cursors.specs.declared.Cursor.the-variants.{Going, Stopped}
 use Rattle.definitions.specs.Limits.{byteMost}
 use Rattle.scan.specs.Capped.{farAbove, capped}
-use Rattle.cursors.specs.Reads.{Reads}
-use Rattle.cursors.proofs.Readings.{made-reads, pair-reads, stopped-reads}
-use Rattle.pieces.proofs.AtPlace.{begins-at, begins-in, byte-begun, byte-none}
+use Rattle.scan_cursors.specs.Reads.{Reads}
+use Rattle.scan_cursors.proofs.Readings.{made-reads, pair-reads, stopped-reads}
+use Rattle.scan_pieces.proofs.AtPlace.{begins-at, begins-in, byte-begun, byte-none}
 use Rattle.values.proofs.Steps.{stopped-any, begun-in}
 
 digit-small : (b : ℕ) → has hexDigits b ≡ true → digitValue b ≤ 15

@@ -9,11 +9,11 @@ use Rattle.forms.specs.Pieces.{sign}
 use Rattle.definitions.specs.Limits.{prefixMost}
 use Rattle.definitions.specs.Numbers.{number}
 use Rattle.definitions.specs.Forms.{addressOf, octet, dotted, address}
-use Rattle.cursors.specs.declared.Cursor.{Cursor}
-use Rattle.cursors.specs.declared.Cursor.the-variants.{Going}
-use Rattle.cursors.specs.Reads.{joined, placeOf, Reads}
-use Rattle.cursors.proofs.Readings.{made-reads, pair-reads, skip-reads, before-reads, first-reads, second-reads, tell-reads, joined-reads}
-use Rattle.pieces.proofs.AtPlace.{sign-begun}
+use Rattle.scan_cursors.specs.declared.Cursor.{Cursor}
+use Rattle.scan_cursors.specs.declared.Cursor.the-variants.{Going}
+use Rattle.scan_cursors.specs.Reads.{joined, placeOf, Reads}
+use Rattle.scan_cursors.proofs.Readings.{made-reads, pair-reads, skip-reads, before-reads, first-reads, second-reads, tell-reads, joined-reads}
+use Rattle.scan_pieces.proofs.AtPlace.{sign-begun}
 use Rattle.values.specs.Listing.{prefixed}
 
 -- ---- the parts of an address

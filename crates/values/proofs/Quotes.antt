@@ -18,12 +18,12 @@ use Rattle.forms.proofs.At.{bound-at}
 use Rattle.definitions.specs.Limits.{nameMost}
 use Rattle.definitions.specs.Entries.{Name}
 use Rattle.definitions.specs.Forms.{quotable, valued, nameForm}
-use Rattle.cursors.specs.declared.Cursor.{Cursor}
-use Rattle.cursors.specs.declared.Cursor.the-variants.{Going, Over, Stopped}
-use Rattle.cursors.specs.Reads.{joined, placeOf, Reads}
-use Rattle.cursors.proofs.Readings.{bound-kept, bound-broken, bound-stops, inside-at, joined-reads}
+use Rattle.scan_cursors.specs.declared.Cursor.{Cursor}
+use Rattle.scan_cursors.specs.declared.Cursor.the-variants.{Going, Over, Stopped}
+use Rattle.scan_cursors.specs.Reads.{joined, placeOf, Reads}
+use Rattle.scan_cursors.proofs.Readings.{bound-kept, bound-broken, bound-stops, inside-at, joined-reads}
 use Rattle.scan.proofs.Running.{run-in}
-use Rattle.pieces.proofs.Gaps.{no-gap, run-gap}
+use Rattle.scan_pieces.proofs.Gaps.{no-gap, run-gap}
 use Rattle.values.specs.Quoting.{passedBy, limitedBy, quotedName, Quoted, NameRead}
 use Rattle.values.proofs.Steps.{enclosed, joined-left, joined-right}
 

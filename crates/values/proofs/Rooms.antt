@@ -12,9 +12,9 @@ use Rattle.forms.specs.Pieces.{some}
 use Rattle.forms.proofs.Sound.{never}
 use Rattle.entry.specs.declared.Room.{Room}
 use Rattle.entry.specs.Values.{appended}
-use Rattle.cursors.specs.declared.Cursor.{Cursor}
-use Rattle.cursors.specs.declared.Cursor.the-variants.{Going, Stopped}
-use Rattle.cursors.specs.Reads.{Reads}
+use Rattle.scan_cursors.specs.declared.Cursor.{Cursor}
+use Rattle.scan_cursors.specs.declared.Cursor.the-variants.{Going, Stopped}
+use Rattle.scan_cursors.specs.Reads.{Reads}
 use Rattle.values.specs.Storing.{Ready, Stores}
 use Rattle.values.proofs.Steps.{stopped-any}
 use Rattle.values.proofs.Turns.{Some, some-start, some-on, some-last, some-stop}

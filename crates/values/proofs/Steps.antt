@@ -15,12 +15,12 @@ use Rattle.forms.proofs.Bools.{by-cases}
 use Rattle.forms.proofs.Sound.{sound-loose, never}
 use Rattle.forms.proofs.Complete.{some-byte, no-empty}
 use Rattle.forms.proofs.Pieces.{free, over-free}
-use Rattle.cursors.specs.declared.Cursor.{Cursor}
-use Rattle.cursors.specs.declared.Cursor.the-variants.{Going, Over, Stopped}
-use Rattle.cursors.proofs.Cursor as cursor-type
-use Rattle.cursors.specs.Reads.{readBy, farBy, joined, placeOf, Reads}
-use Rattle.cursors.proofs.Readings.{skip-reads, before-reads, joined-reads}
-use Rattle.pieces.proofs.AtPlace.{begins-in, byte-begun, byte-none}
+use Rattle.scan_cursors.specs.declared.Cursor.{Cursor}
+use Rattle.scan_cursors.specs.declared.Cursor.the-variants.{Going, Over, Stopped}
+use Rattle.scan_cursors.proofs.Cursor as cursor-type
+use Rattle.scan_cursors.specs.Reads.{readBy, farBy, joined, placeOf, Reads}
+use Rattle.scan_cursors.proofs.Readings.{skip-reads, before-reads, joined-reads}
+use Rattle.scan_pieces.proofs.AtPlace.{begins-in, byte-begun, byte-none}
 
 -- a reading by a form within quotes, bars or brackets
 pub enclosed : {A : Type 0} {f : Form A} {s : List ℕ} {at x y : ℕ} (a b : ℕ) {c1 d c2 q c3 : Cursor} {p1 p2 : ℕ} {v : A} → at ≤ length s

@@ -9,10 +9,10 @@ use Rattle.forms.specs.Scan.{empty, first, begins}
 use Rattle.forms.specs.Place.{Read, readAt, mapped, farther, both-read}
 use Rattle.forms.specs.Pieces.{some}
 use Rattle.forms.proofs.At.{pair-at, made-at, star-at, mapped-both}
-use Rattle.cursors.specs.declared.Cursor.{Cursor}
-use Rattle.cursors.specs.declared.Cursor.the-variants.{Going, Over, Stopped}
-use Rattle.cursors.specs.Reads.{readBy, from, placeOf, Inside, Reads}
-use Rattle.cursors.proofs.Readings.{made-reads, pair-reads, stopped-reads}
+use Rattle.scan_cursors.specs.declared.Cursor.{Cursor}
+use Rattle.scan_cursors.specs.declared.Cursor.the-variants.{Going, Over, Stopped}
+use Rattle.scan_cursors.specs.Reads.{readBy, from, placeOf, Inside, Reads}
+use Rattle.scan_cursors.proofs.Readings.{made-reads, pair-reads, stopped-reads}
 
 -- readings that agree at a cursor's place agree from the cursor on
 same-from : {A : Type 0} (c : Cursor) (j k : ℕ → Read A) → j (placeOf c) ≡ k (placeOf c) → from c j ≡ from c k

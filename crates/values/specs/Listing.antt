@@ -13,9 +13,9 @@ use Rattle.definitions.specs.Lists.{padded}
 use Rattle.definitions.specs.Numbers.{number}
 use Rattle.definitions.specs.Forms.{address}
 use Rattle.definitions.specs.Tables.{noAddress}
-use Rattle.cursors.specs.declared.Cursor.{Cursor}
-use Rattle.cursors.specs.declared.Cursor.the-variants.{Going, Over, Stopped}
-use Rattle.cursors.specs.Reads.{Reads}
+use Rattle.scan_cursors.specs.declared.Cursor.{Cursor}
+use Rattle.scan_cursors.specs.declared.Cursor.the-variants.{Going, Over, Stopped}
+use Rattle.scan_cursors.specs.Reads.{Reads}
 
 -- as within Forms.address and Forms.addresses
 abbrev pub prefixed : Form ℕ

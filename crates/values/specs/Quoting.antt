@@ -10,9 +10,9 @@ use Rattle.forms.specs.Form.{Form, byte, bound}
 use Rattle.forms.specs.Pieces.{skip, before, some, sign}
 use Rattle.definitions.specs.Limits.{nameMost}
 use Rattle.definitions.specs.Forms.{quotable}
-use Rattle.cursors.specs.declared.Cursor.{Cursor}
-use Rattle.cursors.specs.declared.Cursor.the-variants.{Going, Over, Stopped}
-use Rattle.cursors.specs.Reads.{Reads}
+use Rattle.scan_cursors.specs.declared.Cursor.{Cursor}
+use Rattle.scan_cursors.specs.declared.Cursor.the-variants.{Going, Over, Stopped}
+use Rattle.scan_cursors.specs.Reads.{Reads}
 
 -- as within Forms.nameForm: without the bound on its length, and with it
 abbrev pub quoted : Form (List ℕ)

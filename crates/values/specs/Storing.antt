@@ -9,9 +9,9 @@ use Rattle.definitions.specs.Limits.{limits01}
 use Rattle.definitions.specs.Forms.{spaces, hexPair, block, plainBytes, patternBytes}
 use Rattle.entry.specs.declared.Room.{Room}
 use Rattle.entry.specs.Values.{appended}
-use Rattle.cursors.specs.declared.Cursor.{Cursor}
-use Rattle.cursors.specs.declared.Cursor.the-variants.{Going}
-use Rattle.cursors.specs.Reads.{Reads}
+use Rattle.scan_cursors.specs.declared.Cursor.{Cursor}
+use Rattle.scan_cursors.specs.declared.Cursor.the-variants.{Going}
+use Rattle.scan_cursors.specs.Reads.{Reads}
 
 -- as within Forms.block, Forms.patternBytes and Forms.patternForm
 abbrev pub spacedPair : Form ℕ

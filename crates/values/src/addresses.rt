@@ -12,11 +12,11 @@ use crate::dotted::address_at;
 use definitions::limits::ADDRESSES;
 use definitions::table::Address;
 use entry::no_addresses;
-use cursors::Cursor;
-use cursors::join;
-use cursors::place;
-use pieces::signs::sign_at;
-use pieces::signs::stands;
+use scan_cursors::Cursor;
+use scan_cursors::join;
+use scan_cursors::place;
+use scan_pieces::signs::sign_at;
+use scan_pieces::signs::stands;
 
 pub struct AddressesAt {
     pub list: [Address; ADDRESSES],

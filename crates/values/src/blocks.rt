@@ -8,18 +8,18 @@ ghost use Rattle.definitions.specs.Limits.{limits01};
 ghost use Rattle.definitions.specs.Numbers.{hexDigits};
 ghost use Rattle.definitions.specs.Forms.{hexPair, block};
 ghost use Rattle.entry.specs.Values.{appended};
-ghost use Rattle.cursors.specs.Reads.{Reads};
-ghost use Rattle.cursors.specs.declared.Cursor.the-variants.{Going};
+ghost use Rattle.scan_cursors.specs.Reads.{Reads};
+ghost use Rattle.scan_cursors.specs.declared.Cursor.the-variants.{Going};
 ghost use Rattle.values.specs.Storing.{pairs, Ready, Stores};
 use entry::Room;
 use scan::bytes::Class;
 use scan::bytes::in_class;
-use cursors::Cursor;
-use cursors::join;
-use cursors::place;
+use scan_cursors::Cursor;
+use scan_cursors::join;
+use scan_cursors::place;
 use scan::numbers::value_of;
-use pieces::signs::sign_at;
-use pieces::signs::spaces_at;
+use scan_pieces::signs::sign_at;
+use scan_pieces::signs::spaces_at;
 
 pub struct BytesAt {
     pub room: Room,

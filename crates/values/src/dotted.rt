@@ -5,18 +5,18 @@ ghost use lib.ListN.{length};
 ghost use Rattle.definitions.specs.Limits.{byteMost};
 ghost use Rattle.definitions.specs.Numbers.{number};
 ghost use Rattle.definitions.specs.Forms.{dotted, address};
-ghost use Rattle.cursors.specs.Reads.{Reads};
-ghost use Rattle.cursors.specs.declared.Cursor.the-variants.{Going};
+ghost use Rattle.scan_cursors.specs.Reads.{Reads};
+ghost use Rattle.scan_cursors.specs.declared.Cursor.the-variants.{Going};
 ghost use Rattle.values.specs.Listing.{prefixed};
 use definitions::limits::BYTE_MOST;
 use definitions::limits::PREFIX_MOST;
 use definitions::table::Address;
-use cursors::Cursor;
-use cursors::join;
-use cursors::place;
-use pieces::numbers::number_at;
-use pieces::signs::sign_at;
-use pieces::signs::stands;
+use scan_cursors::Cursor;
+use scan_cursors::join;
+use scan_cursors::place;
+use scan_pieces::numbers::number_at;
+use scan_pieces::signs::sign_at;
+use scan_pieces::signs::stands;
 
 pub struct ByteAt {
     pub value: u8,

@@ -7,11 +7,11 @@ ghost use Rattle.definitions.specs.Limits.{nameMost};
 ghost use Rattle.values.specs.Quoting.{passedBy, limitedBy, Quoted, NameRead};
 use definitions::limits::NAME_BYTES;
 use scan::bytes::Class;
-use cursors::Cursor;
-use cursors::join;
-use cursors::place;
+use scan_cursors::Cursor;
+use scan_cursors::join;
+use scan_cursors::place;
 use scan::runs::run_of;
-use pieces::signs::sign_at;
+use scan_pieces::signs::sign_at;
 
 // A name is told by its first byte's place in the text and its length.
 pub struct NameAt {

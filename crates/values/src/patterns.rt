@@ -9,11 +9,11 @@ use crate::blocks::block_at;
 use crate::blocks::put;
 use entry::Room;
 use scan::bytes::is_plain;
-use cursors::Cursor;
-use cursors::join;
-use cursors::place;
-use pieces::signs::sign_at;
-use pieces::signs::stands;
+use scan_cursors::Cursor;
+use scan_cursors::join;
+use scan_cursors::place;
+use scan_pieces::signs::sign_at;
+use scan_pieces::signs::stands;
 
 fn is_plain_at(s: &[u8], at: usize) -> bool
     ensures { λ r. ⌜ r ≡ begins plainBytes (drop at (now (s .entry))) ⌝ }

@@ -15,8 +15,8 @@ use Rattle.definitions.specs.declared.packet.Last.{Last}
 use Rattle.definitions.specs.Lists.{keep, keepOne, none?}
 use Rattle.definitions.specs.Windows.{standsAt, lies}
 use Rattle.definitions.specs.Placements.{upFrom}
-use Rattle.spans.specs.declared.Window.{Window}
-use Rattle.spans.specs.Spans.{Spans, placesOf}
+use Rattle.window_spans.specs.declared.Window.{Window}
+use Rattle.window_spans.specs.Spans.{Spans, placesOf}
 
 -- the starts from one on, up to but not including m
 abbrev pub from : ℕ → ℕ → List ℕ

@@ -2,11 +2,11 @@
 ghost use mathlib.Core.Path.{_≡_};
 ghost use lib.ListN.{length};
 ghost use Rattle.definitions.specs.Lists.{none?};
-ghost use Rattle.spans.specs.Spans.{Measured, placesOf};
+ghost use Rattle.window_spans.specs.Spans.{Measured, placesOf};
 use crate::bytes::stands_at;
 use definitions::packet::Last;
 use definitions::table::Pattern;
-use spans::starts::window;
+use window_spans::starts::window;
 
 // The pattern with the bytes `b` lies nowhere in its window.
 pub fn lies_nowhere(p: Pattern, b: &[u8], last: Last, f: &[u8]) -> bool

@@ -7,7 +7,7 @@ use borrow.Author.Tests.{not-true, not-false}
 use borrow.Author.Needs.{needs}
 use Rattle.definitions.specs.Lists.{all?}
 use Rattle.definitions.specs.WellFormed.{slotFits}
-use Rattle.passing.proofs.Passing.{first-on, first-not, first-all}
+use Rattle.list_walks.proofs.Passing.{first-on, first-not, first-all}
 use Rattle.formed_slots.proofs.slots_fit.Statement.{statement}
 use Rattle.formed_slots.proofs.slots_fit.Tie as tie
 

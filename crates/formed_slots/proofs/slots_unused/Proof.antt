@@ -8,7 +8,7 @@ use borrow.Author.Needs.{needs}
 use Rattle.definitions.specs.Limits.{itemsMost}
 use Rattle.definitions.specs.Lists.{all?}
 use Rattle.definitions.specs.WellFormed.{slotUnused}
-use Rattle.passing.proofs.Passing.{rest-on, rest-not, rest-out}
+use Rattle.list_walks.proofs.Passing.{rest-on, rest-not, rest-out}
 use Rattle.formed_slots.proofs.slots_unused.Statement.{statement}
 use Rattle.formed_slots.proofs.slots_unused.Tie as tie
 

@@ -1,7 +1,7 @@
 -- A refusal is the first due; else the search has the first of the list.
 use lib.ListN.{replicate}
 use Rattle.definitions.specs.Limits.{patternsMost}
-use Rattle.clearing.proofs.Clearance.{seen-cleared}
+use Rattle.verdict_due.proofs.Clearance.{seen-cleared}
 use Rattle.matcher.proofs.Answering.{first-refused, first-found}
 use Rattle.matcher.proofs.first.Statement.{statement}
 use Rattle.matcher.proofs.first.Tie as tie

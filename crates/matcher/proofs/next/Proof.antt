@@ -1,5 +1,5 @@
 -- A refusal is the first due of 20 and 30 to 35; else the count held decides.
-use Rattle.clearing.proofs.Clearance.{seen-cleared}
+use Rattle.verdict_due.proofs.Clearance.{seen-cleared}
 use Rattle.matcher.proofs.Answering.{next-refused}
 use Rattle.matcher.proofs.next.Statement.{statement}
 use Rattle.matcher.proofs.next.Tie as tie

@@ -1,7 +1,7 @@
 -- A refusal is the first due; else the table is met exactly if the search finds a placement.
 use lib.ListN.{replicate}
 use Rattle.definitions.specs.Limits.{patternsMost}
-use Rattle.clearing.proofs.Clearance.{seen-cleared}
+use Rattle.verdict_due.proofs.Clearance.{seen-cleared}
 use Rattle.matcher.proofs.Answering.{verdict-refused, verdict-found}
 use Rattle.matcher.proofs.verdict.Statement.{statement}
 use Rattle.matcher.proofs.verdict.Tie as tie

@@ -1,8 +1,8 @@
 use mathlib.Core.Path.{sym, _∙_}
 use native.Mathlib.Omega.{arith}
 use Rattle.option_operators.proofs.Choices.{behind-in}
-use Rattle.cursors.proofs.Readings.{skip-reads, inside-at, joined-reads}
-use Rattle.pieces.proofs.AtPlace.{mark-yes, mark-no}
+use Rattle.scan_cursors.proofs.Readings.{skip-reads, inside-at, joined-reads}
+use Rattle.scan_pieces.proofs.AtPlace.{mark-yes, mark-no}
 use borrow.Author.Needs.{needs}
 use Rattle.option_operators.proofs.greater_at.Statement.{statement}
 use Rattle.option_operators.proofs.greater_at.Tie as tie

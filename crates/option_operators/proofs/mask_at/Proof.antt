@@ -1,7 +1,7 @@
 use mathlib.Core.Path.{sym, _∙_}
 use native.Mathlib.Omega.{arith}
 use Rattle.option_operators.proofs.Choices.{led, not-led, behind-in}
-use Rattle.cursors.proofs.Readings.{skip-reads, before-reads, inside-at, joined-reads}
+use Rattle.scan_cursors.proofs.Readings.{skip-reads, before-reads, inside-at, joined-reads}
 use borrow.Author.Needs.{needs}
 use Rattle.option_operators.proofs.mask_at.Statement.{statement}
 use Rattle.option_operators.proofs.mask_at.Tie as tie

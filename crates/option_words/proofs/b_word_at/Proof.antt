@@ -1,7 +1,7 @@
 use Rattle.forms.specs.Bytes.{text}
 use mathlib.Core.Path.{sym, _∙_}
-use Rattle.cursors.proofs.Readings.{skip-reads, first-reads, second-reads, inside-at, joined-reads}
-use Rattle.pieces.proofs.Wording.{says-reads}
+use Rattle.scan_cursors.proofs.Readings.{skip-reads, first-reads, second-reads, inside-at, joined-reads}
+use Rattle.scan_pieces.proofs.Wording.{says-reads}
 use borrow.Author.Needs.{needs}
 use Rattle.option_words.proofs.b_word_at.Statement.{statement}
 use Rattle.option_words.proofs.b_word_at.Tie as tie

@@ -1,7 +1,7 @@
 use mathlib.Core.Path.{refl}
 use mathlib.Core.List.{[]}
 use Rattle.entry.specs.Values.{entryOf}
-use Rattle.cursors.proofs.Readings.{made-reads, pair-reads, inside-at, joined-reads}
+use Rattle.scan_cursors.proofs.Readings.{made-reads, pair-reads, inside-at, joined-reads}
 use Rattle.options.proofs.Closing.{valued-reads}
 use Rattle.option_values.proofs.Onward.{grown-none, stored-none}
 use borrow.Author.Needs.{needs}

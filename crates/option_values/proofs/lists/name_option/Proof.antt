@@ -1,12 +1,12 @@
 use mathlib.Core.Path.{refl, sym, _∙_}
 use mathlib.Core.List.{[]}
 use Rattle.entry.specs.Values.{entryOf}
-use Rattle.cursors.proofs.Readings.{made-reads, inside-at, joined-reads}
+use Rattle.scan_cursors.proofs.Readings.{made-reads, inside-at, joined-reads}
 use Rattle.options.proofs.Closing.{valued-reads}
 use Rattle.option_values.proofs.Onward.{joined-going, grown-none, stored-none}
 use Rattle.definitions.specs.Forms.{nameForm}
-use Rattle.cursors.specs.Reads.{Reads}
-use Rattle.cursors.specs.declared.Cursor.the-variants.{Going}
+use Rattle.scan_cursors.specs.Reads.{Reads}
+use Rattle.scan_cursors.specs.declared.Cursor.the-variants.{Going}
 use Rattle.entry.specs.declared.Value.the-variants.{Name}
 use borrow.Author.Needs.{needs}
 use Rattle.option_values.proofs.lists.name_option.Statement.{statement}

@@ -2,7 +2,7 @@ use mathlib.Core.Path.{_≡_, refl, sym, _∙_}
 use native.Mathlib.Omega.{arith}
 use mathlib.Core.List.{[]}
 use Rattle.entry.specs.Values.{entryOf}
-use Rattle.cursors.proofs.Readings.{skip-reads, made-reads, pair-reads, inside-at, joined-reads}
+use Rattle.scan_cursors.proofs.Readings.{skip-reads, made-reads, pair-reads, inside-at, joined-reads}
 use Rattle.options.proofs.Closing.{valued-reads}
 use Rattle.option_values.proofs.Onward.{onward, joined-going, going-place}
 use Rattle.forms.specs.Pieces.{skip, sign}

@@ -1,6 +1,6 @@
 use mathlib.Core.Path.{sym, _∙_}
 use Rattle.option_operators.proofs.Choices.{led, not-led, behind-in}
-use Rattle.cursors.proofs.Readings.{pair-reads, joined-reads}
+use Rattle.scan_cursors.proofs.Readings.{pair-reads, joined-reads}
 use borrow.Author.Needs.{needs}
 use Rattle.options.proofs.commas.directed_at.Statement.{statement}
 use Rattle.options.proofs.commas.directed_at.Tie as tie

@@ -1,7 +1,7 @@
 use mathlib.Core.Path.{sym, _∙_}
 use native.Mathlib.Omega.{arith}
 use Rattle.option_operators.proofs.Choices.{led, not-led, behind-in}
-use Rattle.pieces.proofs.Wording.{says-reads}
+use Rattle.scan_pieces.proofs.Wording.{says-reads}
 use Rattle.forms.specs.Bytes.{text}
 use mathlib.Core.Bool.{true}
 use borrow.Author.Needs.{needs}

@@ -1,5 +1,5 @@
 use Rattle.entry.specs.Values.{entryOf}
-use Rattle.cursors.proofs.Readings.{made-reads, inside-at, joined-reads}
+use Rattle.scan_cursors.proofs.Readings.{made-reads, inside-at, joined-reads}
 use Rattle.options.proofs.Closing.{valued-reads}
 use borrow.Author.Needs.{needs}
 use Rattle.options.proofs.heads.flow_option.Statement.{statement}

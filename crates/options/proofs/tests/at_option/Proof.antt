@@ -1,6 +1,6 @@
 use native.Mathlib.Omega.{arith}
 use Rattle.entry.specs.Values.{entryOf}
-use Rattle.cursors.proofs.Readings.{made-reads, pair-reads, inside-at, joined-reads}
+use Rattle.scan_cursors.proofs.Readings.{made-reads, pair-reads, inside-at, joined-reads}
 use Rattle.options.proofs.Closing.{valued-reads}
 use borrow.Author.Needs.{needs}
 use Rattle.options.proofs.tests.at_option.Statement.{statement}

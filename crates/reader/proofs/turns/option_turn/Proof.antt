@@ -3,7 +3,7 @@ use mathlib.Core.Path.{sym, ap, _∙_, subst}
 use native.Mathlib.Omega.{arith}
 use Rattle.definitions.specs.Options.{listed}
 use Rattle.entry.specs.Values.{entryOf}
-use Rattle.cursors.specs.Reads.{readBy}
+use Rattle.scan_cursors.specs.Reads.{readBy}
 use Rattle.reader.specs.declared.turns.Turn.{Turn}
 use Rattle.reader.specs.Turning.{TurnsTo}
 use Rattle.reader.proofs.Listed.{option-listed, option-unlisted, name-inside}

@@ -1,6 +1,6 @@
 use native.Mathlib.Omega.{arith}
 use Rattle.values.proofs.Octets.{address-read}
-use Rattle.cursors.proofs.Readings.{inside-at, joined-reads}
+use Rattle.scan_cursors.proofs.Readings.{inside-at, joined-reads}
 use borrow.Author.Needs.{needs}
 use Rattle.values.proofs.dotted.address_at.Statement.{statement}
 use Rattle.values.proofs.dotted.address_at.Tie as tie

@@ -1,7 +1,7 @@
 use mathlib.Core.Path.{sym, _∙_}
 use native.Mathlib.Omega.{arith}
 use Rattle.values.proofs.Bytes.{plain-room, plain-stored, block-stored}
-use Rattle.pieces.proofs.AtPlace.{begins-in}
+use Rattle.scan_pieces.proofs.AtPlace.{begins-in}
 use Rattle.definitions.specs.Forms.{plainBytes}
 use borrow.Author.Needs.{needs}
 use Rattle.values.proofs.patterns.element_at.Statement.{statement}

@@ -1,5 +1,5 @@
 use mathlib.Core.Path.{sym, _∙_}
-use Rattle.pieces.proofs.AtPlace.{begins-at, begins-out}
+use Rattle.scan_pieces.proofs.AtPlace.{begins-at, begins-out}
 use borrow.Author.Needs.{needs}
 use Rattle.values.proofs.patterns.is_plain_at.Statement.{statement}
 use Rattle.values.proofs.patterns.is_plain_at.Tie as tie

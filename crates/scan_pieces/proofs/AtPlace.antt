@@ -1,0 +1,57 @@
+-- A byte of a class at a place: what the code's look at one byte says of the form of one byte.
+use mathlib.Core.Path.{_≡_, sym, _∙_, subst}
+use mathlib.Core.Bool.{true, false, false≢true}
+use mathlib.Core.List.{List, [], _∷_}
+use Prim.Native.Nat.{ℕ, _+_, _≤_, _<_}
+use native.Mathlib.Omega.{arith}
+use lib.ListN.{length, drop, getD, drop-of-length-le}
+use lib.Seq.{drop-cons}
+use lib.Dec.{eqb, ltb}
+use borrow.Author.Tests.{eqb-true, ltb-true, ltb-false}
+use Rattle.forms.specs.Form.{Class, has, byte}
+use Rattle.forms.specs.Scan.{begins}
+use Rattle.forms.specs.Pieces.{sign, opt, mark}
+use Rattle.forms.proofs.Bools.{by-cases, or-false}
+use Rattle.forms.proofs.Words.{span-one}
+use Rattle.scan_cursors.specs.declared.Cursor.the-variants.{Going, Stopped}
+use Rattle.scan_cursors.specs.Reads.{Reads}
+use Rattle.scan_cursors.proofs.Readings.{byte-reads, byte-stops, byte-ends, first-reads, second-reads, made-reads, tell-reads}
+
+module _ (c : Class) (s : List ℕ) (at : ℕ) where
+  pub begins-at : at < length s → begins c (drop at s) ≡ has c (getD s at 0)
+  begins-at h = rw (drop-cons s at 0 h)
+
+  pub begins-out : length s ≤ at → begins c (drop at s) ≡ false
+  begins-out h = rw (drop-of-length-le s h)
+
+  pub begins-in : begins c (drop at s) ≡ true → at < length s
+  begins-in e = by-cases (ltb at (length s)) (λ t. ltb-true at (length s) t) (λ t. absurd (false≢true (sym (begins-out (ltb-false at (length s) t)) ∙ e)))
+
+  -- the byte that stands there is of the class
+  pub byte-begun : begins c (drop at s) ≡ true → Reads (byte c) s (Going at) (getD s at 0) (Going (at + 1))
+  byte-begun e = let h = begins-in e in byte-reads c s at h (sym (begins-at h) ∙ e)
+
+  pub byte-none : at ≤ length s → begins c (drop at s) ≡ false → (v : ℕ) → Reads (byte c) s (Going at) v (Stopped at)
+  byte-none i e v =
+      by-cases (ltb at (length s))
+      (λ t. let h = ltb-true at (length s) t in byte-stops c s at h (sym (begins-at h) ∙ e) v)
+      (λ t. byte-ends c s at (omega (arith, ltb-false at (length s) t)) v)
+
+-- one byte
+pub has-one : (b x : ℕ) → has ((b, b) ∷ []) x ≡ eqb x b
+unfolding has
+has-one b x = or-false _ ∙ span-one x b
+
+pub sign-begun : (b : ℕ) (s : List ℕ) (at : ℕ) → begins ((b, b) ∷ []) (drop at s) ≡ true → Reads (sign b) s (Going at) b (Going (at + 1))
+sign-begun b s at e =
+    let h = begins-in ((b, b) ∷ []) s at e in
+    let q : getD s at 0 ≡ b = eqb-true _ _ (sym (has-one b (getD s at 0)) ∙ sym (begins-at ((b, b) ∷ []) s at h) ∙ e) in
+    subst (λ (x : ℕ). Reads (sign b) s (Going at) x (Going (at + 1))) q (byte-begun ((b, b) ∷ []) s at e)
+
+-- an optional byte
+module _ (b : ℕ) (s : List ℕ) (at : ℕ) where
+  pub mark-yes : {A : Type 0} (a b′ : A) → begins ((b, b) ∷ []) (drop at s) ≡ true → Reads (opt a (mark b b′)) s (Going at) b′ (Going (at + 1))
+  mark-yes a b′ e = first-reads e (made-reads (λ (x : ℕ). b′) (sign-begun b s at e))
+
+  pub mark-no : {A : Type 0} (a b′ : A) → at ≤ length s → begins ((b, b) ∷ []) (drop at s) ≡ false → Reads (opt a (mark b b′)) s (Going at) a (Going at)
+  mark-no a b′ h e = second-reads e (tell-reads a s at h)

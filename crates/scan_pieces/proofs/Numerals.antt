@@ -1,0 +1,146 @@
+-- A numeral is what a run of hex digits is behind `0x`, and else what a decimal number is.
+use mathlib.Core.Path.{_≡_, refl, sym, ap, _∙_}
+use mathlib.Core.Bool.{true, false, _&&_}
+use mathlib.Core.List.{List, [], _∷_}
+use Prim.Native.Nat.{ℕ, _+_, _-_, _≤_}
+use native.Mathlib.Omega.{arith}
+use lib.ListN.{length, drop, getD, length-drop}
+use lib.Dec.{leb, ltb, eqb}
+use borrow.Author.Tests.{eqb-true, eqb-false, ltb-true, ltb-false, le-leb, lt-leb, leb-true, leb-false}
+use Rattle.forms.specs.Form.{Class, Form, byte, star, made, has}
+use Rattle.forms.specs.Scan.{begins}
+use Rattle.forms.specs.Place.{Read, Is, Far, No, readAt, mapped, both-read, bounded}
+use Rattle.forms.specs.Pieces.{skip, some}
+use Rattle.forms.proofs.Bools.{by-cases, both-left, both-right}
+use Rattle.forms.proofs.At.{alt-at, skip-at, made-at, pair-at, bound-at, byte-at, byte-end, mapped-both}
+use Rattle.definitions.specs.Numbers.{decimalDigits, hexDigits, digitValue, valueOf, number, eitherBase, numeral}
+use Rattle.scan_pieces.specs.Digits.{digitsWithin}
+use Rattle.scan_cursors.specs.declared.Cursor.{Cursor}
+use Rattle.scan_cursors.specs.declared.Cursor.the-variants.{Going}
+use Rattle.scan_cursors.specs.Reads.{Reads}
+use Rattle.scan_pieces.proofs.AtPlace.{begins-at, begins-in, has-one}
+
+-- the byte `0`, then `x` or `X`
+abbrev zero-sign : List (ℕ × ℕ)
+zero-sign = (48, 48) ∷ []
+
+abbrev x-sign : List (ℕ × ℕ)
+x-sign = (120, 120) ∷ (88, 88) ∷ []
+
+-- a byte of a class that stands there
+stood : (c : List (ℕ × ℕ)) (s : List ℕ) (at : ℕ) → begins c (drop at s) ≡ true → readAt (byte c) s at ≡ Is (getD s at 0) (at + 1)
+stood c s at e = let h = begins-in c s at e in byte-at c s at h ∙ rw (sym (begins-at c s at h) ∙ e)
+
+mapped-id : {A : Type 0} (r : Read A) → mapped (λ (y : A). y) r ≡ r
+mapped-id (Is a n) = refl
+mapped-id (Far p n) = refl
+mapped-id (No p) = refl
+
+mapped-twice : {A B C : Type 0} (h : B → C) (g : A → B) (r : Read A) → mapped h (mapped g r) ≡ mapped (λ (a : A). h (g a)) r
+mapped-twice h g (Is a n) = refl
+mapped-twice h g (Far p n) = refl
+mapped-twice h g (No p) = refl
+
+-- a digit but zero
+no-zero : (b : ℕ) → eqb b 48 ≡ false → has ((49, 57) ∷ []) b ≡ has decimalDigits b
+unfolding has
+no-zero b e =
+    let n = eqb-false b 48 e in
+    by-cases (leb 49 b)
+    (λ t. rw (t, le-leb 48 b (omega (arith, leb-true 49 b t))))
+    (λ t. rw (t, lt-leb 48 b (omega (arith, leb-false 49 b t, n))))
+
+skip-stood : {A : Type 0} (c : List (ℕ × ℕ)) (g : Form A) (s : List ℕ) (at : ℕ) → begins c (drop at s) ≡ true → readAt (skip (byte c) g) s at ≡ readAt g s (at + 1)
+skip-stood c g s at e = let h = begins-in c s at e in skip-at (byte c) g s at (omega arith) ∙ rw (stood c s at e) (mapped-id (readAt g s (at + 1)))
+
+-- a leading zero changes no number
+led-by-zero : (X : Read (List ℕ)) → mapped {B = ℕ × ℕ} (λ (l : List ℕ). (0, valueOf 10 0 l)) (mapped (λ (l : List ℕ). 48 ∷ l) X) ≡ mapped (λ (l : List ℕ). (0, valueOf 10 0 l)) X
+unfolding valueOf digitValue
+led-by-zero (Is l n) = refl
+led-by-zero (Far p n) = refl
+led-by-zero (No p) = refl
+
+-- ---- the digits
+
+module _ (s : List ℕ) (at : ℕ) where
+  either-hex : begins zero-sign (drop at s) ≡ true → begins x-sign (drop (at + 1) s) ≡ true
+      → readAt eitherBase s at ≡ mapped (λ (l : List ℕ). (2, valueOf 16 0 l)) (readAt (some (byte hexDigits)) s (at + 2))
+  either-hex z x =
+      let e : at + 1 + 1 ≡ at + 2 = omega arith in
+      alt-at _ _ s at ∙ rw z (skip-stood zero-sign _ s at z ∙ alt-at _ _ s (at + 1) ∙ rw x (skip-stood x-sign _ s (at + 1) x ∙ made-at _ _ s (at + 1 + 1) ∙ rw e))
+
+  -- one digit, and the rest
+  some-at : at ≤ length s → readAt (some (byte decimalDigits)) s at ≡ both-read (λ (b : ℕ) (l : List ℕ). b ∷ l) (readAt (byte decimalDigits) s at) (λ n. readAt (star (byte decimalDigits)) s n)
+  some-at h = made-at _ _ s at ∙ ap (mapped (λ (p : ℕ × List ℕ). p .0 ∷ p .1)) (pair-at (byte decimalDigits) (star (byte decimalDigits)) s at h) ∙ mapped-both (λ (p : ℕ × List ℕ). p .0 ∷ p .1) (readAt (byte decimalDigits) s at) (λ n. readAt (star (byte decimalDigits)) s n)
+
+  zero-digit : begins zero-sign (drop at s) ≡ true → getD s at 0 ≡ 48
+  zero-digit z = let h = begins-in zero-sign s at z in eqb-true _ _ (sym (has-one 48 (getD s at 0)) ∙ sym (begins-at zero-sign s at h) ∙ z)
+
+  either-zero : begins zero-sign (drop at s) ≡ true → begins x-sign (drop (at + 1) s) ≡ false
+      → readAt eitherBase s at ≡ mapped (λ (l : List ℕ). (0, valueOf 10 0 l)) (readAt (some (byte decimalDigits)) s at)
+  unfolding has
+  either-zero z x =
+      let h = begins-in zero-sign s at z in
+      let d : readAt (byte decimalDigits) s at ≡ Is 48 (at + 1) = byte-at decimalDigits s at h ∙ rw (zero-digit z) in
+      alt-at _ _ s at ∙ rw z (skip-stood zero-sign _ s at z ∙ alt-at _ _ s (at + 1) ∙ rw x (made-at _ _ s (at + 1)
+      ∙ sym (ap (mapped (λ (l : List ℕ). (0, valueOf 10 0 l))) (some-at (omega arith) ∙ ap (λ (X : Read ℕ). both-read (λ (b : ℕ) (l : List ℕ). b ∷ l) X (λ n. readAt (star (byte decimalDigits)) s n)) d) ∙ led-by-zero (readAt (star (byte decimalDigits)) s (at + 1)))))
+
+  -- a digit that is no zero, or no digit at all
+  other-digit : at ≤ length s → begins zero-sign (drop at s) ≡ false → readAt (byte ((49, 57) ∷ [])) s at ≡ readAt (byte decimalDigits) s at
+  other-digit h z =
+      by-cases (ltb at (length s))
+      (λ t.
+      let g = ltb-true at (length s) t in
+      byte-at ((49, 57) ∷ []) s at g ∙ rw (no-zero (getD s at 0) (sym (has-one 48 (getD s at 0)) ∙ sym (begins-at zero-sign s at g) ∙ z)) (sym (byte-at decimalDigits s at g)))
+      (λ t.
+      let e : at ≡ length s = omega (arith, ltb-false at (length s) t) in
+      rw e (byte-end ((49, 57) ∷ []) s ∙ sym (byte-end decimalDigits s)))
+
+  either-other : at ≤ length s → begins zero-sign (drop at s) ≡ false
+      → readAt eitherBase s at ≡ mapped (λ (l : List ℕ). (0, valueOf 10 0 l)) (readAt (some (byte decimalDigits)) s at)
+  either-other h z =
+      let K : ℕ → Read (List ℕ) = λ n. readAt (star (byte decimalDigits)) s n in
+      alt-at _ _ s at
+      ∙ rw z (made-at (λ (p : ℕ × List ℕ). (0, valueOf 10 0 (p .0 ∷ p .1))) _ s at
+      ∙ ap (mapped (λ (p : ℕ × List ℕ). (0, valueOf 10 0 (p .0 ∷ p .1)))) (pair-at (byte ((49, 57) ∷ [])) (star (byte decimalDigits)) s at h ∙ ap (λ (X : Read ℕ). both-read (λ (b : ℕ) (l : List ℕ). (b, l)) X K) (other-digit h z))
+      ∙ mapped-both (λ (p : ℕ × List ℕ). (0, valueOf 10 0 (p .0 ∷ p .1))) (readAt (byte decimalDigits) s at) K
+      ∙ sym (ap (mapped (λ (l : List ℕ). (0, valueOf 10 0 l))) (made-at _ _ s at ∙ ap (mapped (λ (p : ℕ × List ℕ). p .0 ∷ p .1)) (pair-at (byte decimalDigits) (star (byte decimalDigits)) s at h))
+      ∙ mapped-twice (λ (l : List ℕ). (0, valueOf 10 0 l)) (λ (p : ℕ × List ℕ). p .0 ∷ p .1) (both-read (λ (b : ℕ) (l : List ℕ). (b, l)) (readAt (byte decimalDigits) s at) K)
+      ∙ mapped-both (λ (p : ℕ × List ℕ). (0, valueOf 10 0 (p .0 ∷ p .1))) (readAt (byte decimalDigits) s at) K))
+
+-- ---- the number
+
+-- bounds of the numeral and of its digits, over any reading of digits
+same-bound : (limit : ℕ) (s : List ℕ) (at here base k : ℕ) (X : Read (List ℕ)) → here ≡ at + k → here ≤ length s
+    → mapped (λ (p : ℕ × ℕ). p .1) (bounded (λ (p : ℕ × ℕ). leb (p .1) limit) (λ (p : ℕ × ℕ). length s - length (drop (p .0) (drop at s))) (mapped (λ (l : List ℕ). (k, valueOf base 0 l)) X))
+    ≡ bounded (λ (n : ℕ). leb n limit) (λ (n : ℕ). length s - length (drop 0 (drop here s))) (mapped (valueOf base 0) X)
+same-bound limit s at here base k (Is l n) e h =
+    let q : length s - length (drop k (drop at s)) ≡ length s - length (drop here s) = omega (arith, length-drop k (drop at s), length-drop at s, length-drop here s, h, e) in
+    by-cases (leb (valueOf base 0 l) limit) (λ t. rw t) (λ t. rw (t, q))
+same-bound limit s at here base k (Far p n) e h = refl
+same-bound limit s at here base k (No p) e h = refl
+
+numeral-is : (limit : ℕ) (s : List ℕ) (at here k : ℕ) (c : Class) (base : ℕ) → here ≡ at + k → here ≤ length s
+    → readAt eitherBase s at ≡ mapped (λ (l : List ℕ). (k, valueOf base 0 l)) (readAt (some (byte c)) s here)
+    → readAt (numeral limit) s at ≡ readAt (digitsWithin c base limit) s here
+numeral-is limit s at here k c base e h x =
+    made-at _ _ s at ∙ ap (mapped (λ (p : ℕ × ℕ). p .1)) (bound-at _ _ eitherBase s at ∙ ap (bounded (λ (p : ℕ × ℕ). leb (p .1) limit) (λ (p : ℕ × ℕ). length s - length (drop (p .0) (drop at s)))) x)
+    ∙ same-bound limit s at here base k (readAt (some (byte c)) s here) e h
+    ∙ sym (bound-at (λ (n : ℕ). leb n limit) (λ (n : ℕ). 0) (made (valueOf base 0) (some (byte c))) s here ∙ ap (bounded (λ (n : ℕ). leb n limit) (λ (n : ℕ). length s - length (drop 0 (drop here s)))) (made-at (valueOf base 0) (some (byte c)) s here))
+
+module _ (limit : ℕ) {s : List ℕ} {at : ℕ} {v : ℕ} {d : Cursor} where
+  pub hex-reads : (begins ((48, 48) ∷ []) (drop at s) && begins ((120, 120) ∷ (88, 88) ∷ []) (drop (at + 1) s)) ≡ true → Reads (digitsWithin hexDigits 16 limit) s (Going (at + 2)) v d → Reads (numeral limit) s (Going at) v d
+  hex-reads e r =
+      let z = both-left (begins zero-sign (drop at s)) (begins x-sign (drop (at + 1) s)) e in
+      let x = both-right (begins zero-sign (drop at s)) (begins x-sign (drop (at + 1) s)) e in
+      record { reads = r .reads ∙ sym (numeral-is limit s at (at + 2) 2 hexDigits 16 refl (omega (arith, begins-in x-sign s (at + 1) x)) (either-hex s at z x)); inside = r .inside }
+
+  pub decimal-reads : at ≤ length s → (begins ((48, 48) ∷ []) (drop at s) && begins ((120, 120) ∷ (88, 88) ∷ []) (drop (at + 1) s)) ≡ false → Reads (number limit) s (Going at) v d → Reads (numeral limit) s (Going at) v d
+  decimal-reads h e r =
+      let q : at ≡ at + 0 = omega arith in
+      let w : readAt eitherBase s at ≡ mapped (λ (l : List ℕ). (0, valueOf 10 0 l)) (readAt (some (byte decimalDigits)) s at) =
+      by-cases (begins zero-sign (drop at s)) (λ z. either-zero s at z (rw z at e)) (λ z. either-other s at h z) in
+      record { reads = r .reads ∙ sym (numeral-is limit s at at 0 decimalDigits 10 q h w); inside = r .inside }
+
+pub hex-inside : (s : List ℕ) (at : ℕ) → (begins ((48, 48) ∷ []) (drop at s) && begins ((120, 120) ∷ (88, 88) ∷ []) (drop (at + 1) s)) ≡ true → at + 2 ≤ length s
+hex-inside s at e = omega (arith, begins-in x-sign s (at + 1) (both-right (begins zero-sign (drop at s)) (begins x-sign (drop (at + 1) s)) e))

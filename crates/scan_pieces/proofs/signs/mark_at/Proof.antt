@@ -1,0 +1,22 @@
+use mathlib.Core.Path.{sym, _∙_}
+use Rattle.scan_pieces.proofs.AtPlace.{begins-in, mark-yes, mark-no}
+use native.Mathlib.Omega.{arith}
+use mathlib.Core.List.{[], _∷_}
+use borrow.Author.Needs.{needs}
+use Rattle.scan_pieces.proofs.signs.mark_at.Statement.{statement}
+use Rattle.scan_pieces.proofs.signs.mark_at.Tie as tie
+
+stands-requires : tie.Need-stands-requires
+stands-requires c κs = search needs
+
+add-t6 : tie.Need-add-t6
+add-t6 c = omega (arith, begins-in ((c .before .before .before .args .b, c .before .before .before .args .b) ∷ []) (c .before .before .before .args .s .now) (c .before .before .before .args .at) (sym (c .before .stands .ensures) ∙ c .if1 .taken))
+
+returns : tie.Need-returns
+returns c = mark-yes _ _ _ _ _ (sym (c .before .stands .ensures) ∙ c .if1 .taken)
+
+returns-2 : tie.Need-returns-2
+returns-2 c = mark-no _ _ _ _ _ (c .before .before .before .pre) (sym (c .before .stands .ensures) ∙ c .if1 .left)
+
+pub mark-at-spec : {M : Type 1} → statement M
+mark-at-spec = tie.close (tie.spec stands-requires add-t6 returns returns-2)

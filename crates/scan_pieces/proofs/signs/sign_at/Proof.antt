@@ -1,0 +1,22 @@
+use mathlib.Core.List.{[], _∷_}
+use mathlib.Core.Path.{sym, _∙_}
+use Rattle.scan_pieces.proofs.AtPlace.{byte-none, sign-begun, begins-in}
+use native.Mathlib.Omega.{arith}
+use borrow.Author.Needs.{needs}
+use Rattle.scan_pieces.proofs.signs.sign_at.Statement.{statement}
+use Rattle.scan_pieces.proofs.signs.sign_at.Tie as tie
+
+stands-requires : tie.Need-stands-requires
+stands-requires c κs = search needs
+
+add-t6 : tie.Need-add-t6
+add-t6 c = omega (arith, begins-in ((c .before .before .before .args .b, c .before .before .before .args .b) ∷ []) (c .before .before .before .args .s .now) (c .before .before .before .args .at) (sym (c .before .stands .ensures) ∙ c .if1 .taken))
+
+returns : tie.Need-returns
+returns c = sign-begun _ _ _ (sym (c .before .stands .ensures) ∙ c .if1 .taken)
+
+returns-2 : tie.Need-returns-2
+returns-2 c = byte-none _ _ _ (c .before .before .before .pre) (sym (c .before .stands .ensures) ∙ c .if1 .left) _
+
+pub sign-at-spec : {M : Type 1} → statement M
+sign-at-spec = tie.close (tie.spec stands-requires add-t6 returns returns-2)

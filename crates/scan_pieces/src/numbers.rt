@@ -1,0 +1,82 @@
+// Numbers up to a limit, in decimal or hex.
+ghost use Prim.Native.Nat.{_+_, _≤_, _<_};
+ghost use lib.ListN.{length, drop};
+ghost use mathlib.Core.Path.{_≡_};
+ghost use mathlib.Core.Bool.{_&&_};
+ghost use mathlib.Core.List.{_∷_, []};
+ghost use Rattle.forms.specs.Scan.{begins};
+ghost use Rattle.definitions.specs.Numbers.{number, numeral};
+ghost use Rattle.scan.specs.Classes.{classOf};
+ghost use Rattle.scan.specs.Capped.{farAbove};
+ghost use Rattle.scan_cursors.specs.Reads.{Reads};
+ghost use Rattle.scan_cursors.specs.declared.Cursor.the-variants.{Going};
+ghost use Rattle.scan_pieces.specs.Digits.{digitsWithin};
+use crate::signs::stands;
+use crate::signs::starts;
+use scan_cursors::Cursor;
+use scan::bytes::Class;
+use scan::numbers::value_of;
+use scan::runs::run_of;
+
+// A number, which is never beyond its limit: it is 0 where one stood there that is.
+pub struct Numeric {
+    pub value: u64,
+    pub cursor: Cursor,
+}
+
+// The run of digits of a class as a number in a base, up to a limit; one beyond it is told by its first digit.
+fn digits_at(s: &[u8], at: usize, k: Class, base: u64, limit: u64) -> Numeric
+    requires { ⌜ (at ≤ length (now s)) × (limit < farAbove) × (1 ≤ base) × (base ≤ 16) ⌝ }
+    ensures { λ r. ⌜ Reads (digitsWithin (classOf k) base limit) (now (s .entry)) (Going at) (r .value) (r .cursor) × (r .value ≤ limit) ⌝ }
+{
+    let end = run_of(s, at, k);
+    if end == at {
+        return Numeric {
+            value: 0,
+            cursor: Cursor::Stopped(at),
+        };
+    }
+    let v = value_of(s, at, end, base);
+    if v <= limit {
+        Numeric {
+            value: v,
+            cursor: Cursor::Going(end),
+        }
+    } else {
+        Numeric {
+            value: 0,
+            cursor: Cursor::Over(at, end),
+        }
+    }
+}
+
+// A decimal number up to a limit.
+pub fn number_at(s: &[u8], at: usize, limit: u64) -> Numeric
+    requires { ⌜ (at ≤ length (now s)) × (limit < farAbove) ⌝ }
+    ensures { λ r. ⌜ Reads (number limit) (now (s .entry)) (Going at) (r .value) (r .cursor) × (r .value ≤ limit) ⌝ }
+{
+    digits_at(s, at, Class::Digit, 10, limit)
+}
+
+// Whether `0x` or `0X` stands at the place.
+fn is_hex_mark(s: &[u8], at: usize) -> bool
+    ensures { λ r. ⌜ r ≡ begins ((48, 48) ∷ []) (drop at (now (s .entry))) && begins ((120, 120) ∷ (88, 88) ∷ []) (drop (at + 1) (now (s .entry))) ⌝ }
+{
+    if stands(s, at, b'0') {
+        starts(s, at + 1, b'x')
+    } else {
+        false
+    }
+}
+
+// A number in decimal, or in hex behind `0x` or `0X`, up to a limit.
+pub fn numeral_at(s: &[u8], at: usize, limit: u64) -> Numeric
+    requires { ⌜ (at ≤ length (now s)) × (limit < farAbove) ⌝ }
+    ensures { λ r. ⌜ Reads (numeral limit) (now (s .entry)) (Going at) (r .value) (r .cursor) × (r .value ≤ limit) ⌝ }
+{
+    if is_hex_mark(s, at) {
+        digits_at(s, at + 2, Class::HexDigit, 16, limit)
+    } else {
+        number_at(s, at, limit)
+    }
+}

@@ -1,0 +1,100 @@
+// Single bytes and spaces.
+ghost use mathlib.Core.Path.{_≡_};
+ghost use mathlib.Core.List.{_∷_, []};
+ghost use mathlib.Core.Bool.{true, false};
+ghost use Prim.Native.Nat.{_≤_};
+ghost use lib.ListN.{length, drop};
+ghost use Rattle.forms.specs.Scan.{begins};
+ghost use Rattle.forms.specs.Pieces.{skip, opt, sign, mark};
+ghost use Rattle.definitions.specs.Forms.{spaces, gap};
+ghost use Rattle.scan.specs.Classes.{caseClass};
+ghost use Rattle.scan_cursors.specs.Reads.{Reads, Skips};
+ghost use Rattle.scan_cursors.specs.declared.Cursor.the-variants.{Going};
+use scan::bytes::Class;
+use scan::bytes::in_case;
+use scan_cursors::Cursor;
+use scan::runs::run_of;
+
+// Whether the byte stands at the place.
+pub fn stands(s: &[u8], at: usize, b: u8) -> bool
+    ensures { λ r. ⌜ r ≡ begins ((b, b) ∷ []) (drop at (now (s .entry))) ⌝ }
+{
+    if at < s.len() { s[at] == b } else { false }
+}
+
+// Whether the byte of a word stands at the place, in either letter case.
+pub fn starts(s: &[u8], at: usize, y: u8) -> bool
+    ensures { λ r. ⌜ r ≡ begins (caseClass y) (drop at (now (s .entry))) ⌝ }
+{
+    if at < s.len() {
+        let b = s[at];
+        in_case(y, b)
+    } else {
+        false
+    }
+}
+
+// The byte, which must stand at the place.
+pub fn sign_at(s: &[u8], at: usize, b: u8) -> Cursor
+    requires { ⌜ at ≤ length (now s) ⌝ }
+    ensures { λ r. ⌜ Reads (sign b) (now (s .entry)) (Going at) b r ⌝ }
+{
+    if stands(s, at, b) {
+        Cursor::Going(at + 1)
+    } else {
+        Cursor::Stopped(at)
+    }
+}
+
+// One or more spaces.
+pub fn gap_at(s: &[u8], at: usize) -> Cursor
+    requires { ⌜ at ≤ length (now s) ⌝ }
+    ensures { λ r. ⌜ Skips gap (now (s .entry)) (Going at) r ⌝ }
+{
+    let end = run_of(s, at, Class::Space);
+    if end == at {
+        Cursor::Stopped(at)
+    } else {
+        Cursor::Going(end)
+    }
+}
+
+pub struct Mark {
+    pub yes: bool,
+    pub cursor: Cursor,
+}
+
+// Whether the byte stands at the place, and the place behind it.
+pub fn mark_at(s: &[u8], at: usize, b: u8) -> Mark
+    requires { ⌜ at ≤ length (now s) ⌝ }
+    ensures { λ r. ⌜ Reads (opt false (mark b true)) (now (s .entry)) (Going at) (r .yes) (r .cursor) ⌝ }
+{
+    if stands(s, at, b) {
+        Mark {
+            yes: true,
+            cursor: Cursor::Going(at + 1),
+        }
+    } else {
+        Mark {
+            yes: false,
+            cursor: Cursor::Going(at),
+        }
+    }
+}
+
+// The place behind any spaces.
+pub fn spaces_at(s: &[u8], at: usize) -> usize
+    requires { ⌜ at ≤ length (now s) ⌝ }
+    ensures { λ r. ⌜ Skips spaces (now (s .entry)) (Going at) (Going r) ⌝ }
+{
+    run_of(s, at, Class::Space)
+}
+
+// Any spaces and `;`: the end of an option.
+pub fn closing_at(s: &[u8], at: usize) -> Cursor
+    requires { ⌜ at ≤ length (now s) ⌝ }
+    ensures { λ r. ⌜ Skips (skip spaces (sign 59)) (now (s .entry)) (Going at) r ⌝ }
+{
+    let from = spaces_at(s, at);
+    sign_at(s, from, b';')
+}

@@ -1,0 +1,13 @@
+-- Each return rewrites with the test that led there.
+use borrow.Author.Tests.{not-true, not-false}
+use Rattle.search_chosen.proofs.stays.Statement.{statement}
+use Rattle.search_chosen.proofs.stays.Tie as tie
+
+returns : tie.Need-returns
+returns c = rw (not-true (c .before .args .tight) (c .if1 .taken))
+
+returns-2 : tie.Need-returns-2
+returns-2 c = rw (not-false (c .before .args .tight) (c .if1 .left))
+
+pub stays-spec : {M : Type 1} → statement M
+stays-spec = tie.close (tie.spec returns returns-2)

@@ -1,0 +1,76 @@
+// The starts that the search has chosen so far: a placement behind the last item, one start more, and which starts are worth a try.
+ghost use mathlib.Core.Path.{_≡_};
+ghost use mathlib.Core.Bool.{_&&_};
+ghost use mathlib.Core.List.{List, [], _∷_};
+ghost use Prim.Native.Nat.{ℕ, _+_, _<_};
+ghost use lib.Dec.{eqb};
+ghost use Rattle.definitions.specs.Limits.{patternsMost};
+ghost use Rattle.definitions.specs.References.{lastAfter};
+ghost use Rattle.window_spans.specs.Spans.{sizeBound};
+ghost use Rattle.search_chosen.specs.Choosing.{push, answer, startFrom};
+use definitions::packet::Last;
+use definitions::packet::Match;
+use definitions::packet::Placement;
+use definitions::table::Pattern;
+use search_outcomes::Outcome;
+use search_outcomes::no_match;
+
+// Behind the last item: the starts chosen are a placement, but for the one to pass itself.
+pub fn at_end(acc: Placement, tight: bool) -> Outcome
+    ensures { λ r. ⌜ ((p : List ℕ) → r ≡ answer acc tight p ([] ∷ [])) ⌝ }
+{
+    if tight {
+        return no_match();
+    }
+    Outcome {
+        found: true,
+        placement: acc,
+    }
+}
+
+// The starts chosen, with one more.
+pub fn with_start(acc: Placement, s: usize) -> Placement
+    requires { ⌜ acc .count < patternsMost ⌝ }
+    ensures { λ r. ⌜ r ≡ push acc s ⌝ }
+{
+    let j = acc.count;
+    let mut next = acc;
+    next.starts[j] = s;
+    next.count = j + 1;
+    next
+}
+
+// The first start worth a try, where the placement to pass has `b` here.
+pub fn start_from(tight: bool, b: usize, from: usize) -> usize
+    ensures { λ r. ⌜ r ≡ startFrom tight b from ⌝ }
+{
+    if !tight {
+        return from;
+    }
+    if b < from { from } else { b }
+}
+
+// Whether the starts chosen, with `at`, are still those of the placement to pass.
+pub fn stays(tight: bool, at: usize, b: usize) -> bool
+    ensures { λ r. ⌜ r ≡ (tight && eqb b at) ⌝ }
+{
+    if !tight {
+        return false;
+    }
+    b == at
+}
+
+// The last positive pattern, behind `p` that lies at a start.
+pub fn last_at(last: Last, p: Pattern, at: usize) -> Last
+    requires { ⌜ at + p .len < sizeBound ⌝ }
+    ensures { λ r. ⌜ r ≡ lastAfter last p at ⌝ }
+{
+    if p.negated {
+        return last;
+    }
+    let context = p.context;
+    Last::Was(Match {
+        context,
+        end: at + p.len,
+    })
+}

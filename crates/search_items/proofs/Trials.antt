@@ -1,0 +1,98 @@
+-- The trial of a pattern's starts: from its window's first start worth a try on, each with the items left.
+use mathlib.Core.Path.{_≡_, refl, sym, ap, _∙_}
+use mathlib.Core.Bool.{Bool, true, false, not, _&&_}
+use mathlib.Core.List.{List, [], _∷_}
+use Prim.Native.Nat.{ℕ, suc, _+_, _≤_, _<_, max}
+use native.Mathlib.Omega.{arith}
+use lib.ListN.{length, drop, getD}
+use lib.Dec.{eqb}
+use borrow.Author.Tests.{not-true, not-false}
+use Rattle.definitions.specs.declared.table.Pattern.{Pattern}
+use Rattle.definitions.specs.declared.packet.Facts.{Facts}
+use Rattle.definitions.specs.declared.packet.FieldMap.{FieldMap}
+use Rattle.definitions.specs.declared.packet.Last.{Last}
+use Rattle.definitions.specs.declared.packet.Placement.{Placement}
+use Rattle.definitions.specs.Lists.{keep}
+use Rattle.definitions.specs.References.{lastAfter}
+use Rattle.definitions.specs.Fields.{present, fieldOf}
+use Rattle.definitions.specs.Placements.{Wanted, placed, upFrom, spread, liesIn, starts, placements}
+use Rattle.formed.proofs.Passing.{drop-here}
+use Rattle.window_spans.specs.declared.Window.{Window}
+use Rattle.window_spans.specs.Spans.{Spans, placesOf}
+use Rattle.windows.proofs.Listing.{from, standing, passed, places-window}
+use Rattle.fields.specs.Seen.{seen}
+use Rattle.meaning.proofs.Placing.{starts-present}
+use Rattle.search_outcomes.specs.declared.Outcome.{Outcome}
+use Rattle.search_outcomes.specs.Outcomes.{nothing}
+use Rattle.search_chosen.specs.Choosing.{push, answer, foundOr, startFrom}
+use Rattle.search_chosen.proofs.Answering.{kept, none-left, answer-cons, answer-from, answer-nothing}
+
+-- ---- before the loop
+
+keep-never : (f : ℕ → Bool) (l : List ℕ) → ((x : ℕ) → f x ≡ false) → keep f l ≡ []
+unfolding keep
+keep-never f [] h = refl
+keep-never f (x ∷ l) h = rw (h x) (keep-never f l h)
+
+module _ (facts : Facts) (s d : List ℕ) (m : FieldMap) (p : Pattern) (own : List ℕ) (l : Last) (ws : List Wanted) (acc : Placement) (tight : Bool) where
+  starts-absent : present m (p .context) ≡ false → starts (seen facts s d m) p own l ≡ []
+  unfolding starts liesIn
+  starts-absent e = keep-never (liesIn (seen facts s d m) p own l) (upFrom 0 (suc (length (fieldOf s d m (p .context))))) (λ x. rw e)
+
+  pub try-absent : (q : List ℕ) (t : Bool) → t ≡ present m (p .context) → not t ≡ true → (r : Outcome) → r ≡ nothing
+      → r ≡ answer acc tight q (placements (seen facts s d m) (placed p own ∷ ws) l)
+  unfolding placements spread
+  try-absent q t e n r h = rw (starts-absent (sym e ∙ not-true t n)) (h ∙ sym (answer-nothing acc tight q))
+
+  module _ (f : List ℕ) (w : Window) (sp : Spans p l (length f) w) (q : f ≡ fieldOf s d m (p .context)) (t : Bool) (g : t ≡ present m (p .context)) (n : not t ≡ false) where
+    starts-are : starts (seen facts s d m) p own l ≡ keep (standing (p .nocase) own f) (from (w .from) (w .to))
+    starts-are = starts-present facts s d m p own l (sym g ∙ not-false t n) ∙ ap (placesOf p own l) (sym q) ∙ places-window p own l f w sp
+
+    pub try-begin : (ss : List ℕ) (at : ℕ) → acc .count < length ss → at ≡ startFrom tight (getD ss (acc .count) 0) (w .from)
+        → answer acc tight (drop (acc .count) ss) (placements (seen facts s d m) (placed p own ∷ ws) l)
+        ≡ answer acc tight (drop (acc .count) ss)
+        (spread (λ (x : ℕ). placements (seen facts s d m) ws (lastAfter l p x)) (keep (standing (p .nocase) own f) (from at (w .to))))
+    unfolding placements
+    try-begin ss at h e =
+        rw (starts-are, e, drop-here ss (acc .count) 0 h)
+        (answer-from (λ (x : ℕ). placements (seen facts s d m) ws (lastAfter l p x)) (getD ss (acc .count) 0) (drop (acc .count + 1) ss)
+        (standing (p .nocase) own f) (w .to) acc tight (w .from))
+
+pub ahead : (tight : Bool) (b x at : ℕ) → at ≡ startFrom tight b x → tight ≡ true → b ≤ at
+ahead tight b x at e t = let z : at ≡ max b x = e ∙ ap (λ (y : Bool). startFrom y b x) t in omega arith
+
+-- ---- one turn, and the end
+
+module _ (acc : Placement) (tight : Bool) (ss : List ℕ) (f : ℕ → List (List ℕ)) (h : ℕ → Bool) (at to : ℕ) where
+  pub try-done : (q : List ℕ) → to ≤ at → (r z : Outcome) → r ≡ nothing → z ≡ answer acc tight q (spread f (keep h (from at to))) → r ≡ z
+  unfolding spread
+  try-done q l r z e i = let none : answer acc tight q (spread f (keep h (from at to))) ≡ nothing = rw (none-left h at to l) (answer-nothing acc tight q) in e ∙ sym (i ∙ none)
+
+  pub try-no : (q : List ℕ) → h at ≡ false → answer acc tight q (spread f (keep h (from at to))) ≡ answer acc tight q (spread f (keep h (from (at + 1) to)))
+  try-no q e = ap (λ (k : List ℕ). answer acc tight q (spread f k)) (passed h to at e)
+
+  try-yes : at < to → h at ≡ true → acc .count < length ss → (tight ≡ true → getD ss (acc .count) 0 ≤ at)
+      → answer acc tight (drop (acc .count) ss) (spread f (keep h (from at to)))
+      ≡ foundOr (answer (push acc at) (tight && eqb (getD ss (acc .count) 0) at) (drop (acc .count + 1) ss) (f at))
+      (answer acc tight (drop (acc .count) ss) (spread f (keep h (from (at + 1) to))))
+  try-yes l e g a =
+      rw (kept h at to l e, drop-here ss (acc .count) 0 g)
+      (answer-cons f (getD ss (acc .count) 0) (drop (acc .count + 1) ss) acc tight at (keep h (from (at + 1) to)) a)
+
+-- a start that lies was tried with the items left, whose placements behind a last positive pattern are those of g
+pub tried : (acc : Placement) (tight : Bool) (ss : List ℕ) (g : Last → List (List ℕ)) (la : ℕ → Last) (h : ℕ → Bool) (at to : ℕ) (next : Last) (ws : Placement) (st : Bool) (x : Outcome)
+    → at < to → h at ≡ true → acc .count < length ss → (tight ≡ true → getD ss (acc .count) 0 ≤ at)
+    → next ≡ la at → ws ≡ push acc at → st ≡ (tight && eqb (getD ss (acc .count) 0) at) → x ≡ answer ws st (drop (ws .count) ss) (g next)
+    → answer acc tight (drop (acc .count) ss) (spread (λ (s : ℕ). g (la s)) (keep h (from at to)))
+    ≡ foundOr x (answer acc tight (drop (acc .count) ss) (spread (λ (s : ℕ). g (la s)) (keep h (from (at + 1) to))))
+tried acc tight ss g la h at to next ws st x l e k a en ew es ex =
+    let y : x ≡ answer (push acc at) (tight && eqb (getD ss (acc .count) 0) at) (drop (acc .count + 1) ss) (g (la at)) = ex ∙ rw (ew, es, en) in
+    try-yes acc tight ss (λ (s : ℕ). g (la s)) h at to l e k a
+    ∙ ap (λ (z : Outcome). foundOr z (answer acc tight (drop (acc .count) ss) (spread (λ (s : ℕ). g (la s)) (keep h (from (at + 1) to))))) (sym y)
+
+-- a first answer that is there, and one that is not
+pub or-found : (x y z : Outcome) → z ≡ foundOr x y → x .found ≡ true → x ≡ z
+or-found x y z e t = sym (e ∙ rw t)
+
+pub or-missing : (x y z : Outcome) → z ≡ foundOr x y → x .found ≡ false → z ≡ y
+or-missing x y z e t = e ∙ rw t

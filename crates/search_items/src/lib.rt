@@ -1,0 +1,128 @@
+// The search: one function handles an item, the other tries a pattern's starts and calls the first for the items left.
+ghost use mathlib.Core.Path.{_≡_};
+ghost use mathlib.Core.List.{_∷_};
+ghost use Prim.Native.Nat.{_+_, _≤_, _<_};
+ghost use lib.ListN.{drop};
+ghost use Rattle.definitions.specs.Limits.{itemsMost};
+ghost use Rattle.definitions.specs.Placements.{placed, wanted, placements};
+ghost use Rattle.fields.specs.Seen.{seen};
+ghost use Rattle.search_chosen.specs.Choosing.{answer};
+ghost use Rattle.search_items.specs.Items.{itemsLeft, Ready, Trying};
+use search_chosen::at_end;
+use search_chosen::last_at;
+use search_chosen::start_from;
+use search_chosen::stays;
+use search_chosen::with_start;
+use definitions::limits::ITEMS;
+use definitions::limits::PATTERNS;
+use definitions::packet::Facts;
+use definitions::packet::FieldMap;
+use definitions::packet::Last;
+use definitions::packet::Placement;
+use definitions::table::Item;
+use definitions::table::Pattern;
+use definitions::table::Slot;
+use fields::field_of;
+use fields::is_present;
+use meaning::negated::negated_holds;
+use meaning::test_holds;
+use search_outcomes::Outcome;
+use search_outcomes::no_match;
+use window_spans::starts::window;
+use windows::bytes::stands_at;
+
+// What a search asks, the same for every item: a table's items, what is seen of the packet, and the starts of the placement to pass.
+pub struct Question {
+    pub items: [Slot; ITEMS],
+    pub count: usize,
+    pub facts: Facts,
+    pub map: FieldMap,
+    pub bound: [usize; PATTERNS],
+}
+
+// The first placement of the items from k on, behind the starts in acc; where `tight`, the first behind those to pass. `bytes` are the pattern
+// bytes from item k's on, `last` is the last positive pattern before it.
+pub fn from_item<'a>(
+    q: Question,
+    k: usize,
+    bytes: &[u8],
+    payload: &'a [u8],
+    decoded: &'a [u8],
+    last: Last,
+    acc: Placement,
+    tight: bool,
+) -> Outcome
+    requires { ⌜ (q .count ≤ itemsMost) × Ready (itemsLeft q k) (now bytes) (now payload) (now decoded) last acc ⌝ }
+    ensures { λ r. ⌜ r ≡ answer acc tight (drop (acc .count) (q .bound)) (placements (seen (q .facts) (now (payload .entry)) (now (decoded .entry)) (q .map)) (wanted (itemsLeft q k) (now (bytes .entry))) last) ⌝ }
+{
+    let count = q.count;
+    if count <= k {
+        return at_end(acc, tight);
+    }
+    let facts = q.facts;
+    let map = q.map;
+    let slot = q.items[k];
+    let item = slot.item;
+    let Item::Pattern(p) = item else {
+        let addresses = slot.addresses;
+        if !test_holds(facts, payload, decoded, map, item, addresses, last) {
+            return no_match();
+        }
+        return from_item(q, k + 1, bytes, payload, decoded, last, acc, tight);
+    };
+    let n = p.len;
+    let own = &bytes[0..n];
+    let rest = &bytes[n..];
+    if !p.negated {
+        return try_starts(q, k, p, own, rest, payload, decoded, last, acc, tight);
+    }
+    if !negated_holds(payload, decoded, map, p, own, last) {
+        return no_match();
+    }
+    // A negated pattern moves no reference.
+    from_item(q, k + 1, rest, payload, decoded, last, acc, tight)
+}
+
+// Tries the starts of the pattern p, which is item k and has the bytes `own`, each with the items left, whose pattern bytes are `rest`.
+fn try_starts<'a>(
+    q: Question,
+    k: usize,
+    p: Pattern,
+    own: &[u8],
+    rest: &[u8],
+    payload: &'a [u8],
+    decoded: &'a [u8],
+    last: Last,
+    acc: Placement,
+    tight: bool,
+) -> Outcome
+    requires { ⌜ (k < q .count) × (q .count ≤ itemsMost) × Trying (itemsLeft q (k + 1)) (now rest) p (now payload) (now decoded) last acc ⌝ }
+    ensures { λ r. ⌜ r ≡ answer acc tight (drop (acc .count) (q .bound)) (placements (seen (q .facts) (now (payload .entry)) (now (decoded .entry)) (q .map)) (placed p (now (own .entry)) ∷ wanted (itemsLeft q (k + 1)) (now (rest .entry))) last) ⌝ }
+{
+    let map = q.map;
+    let c = p.context;
+    if !is_present(map, c) {
+        return no_match();
+    }
+    let f = field_of(payload, decoded, map, c);
+    let w = window(p, last, f.len());
+    let j = acc.count;
+    let bound = q.bound;
+    let b = bound[j];
+    let nocase = p.nocase;
+    let to = w.to;
+    let mut at = start_from(tight, b, w.from);
+    while at < to {
+        if stands_at(nocase, own, f, at) {
+            let next = last_at(last, p, at);
+            let more = with_start(acc, at);
+            let still = stays(tight, at, b);
+            let x = from_item(q, k + 1, rest, payload, decoded, next, more, still);
+            if x.found {
+                return x;
+            }
+        }
+        at += 1;
+    }
+    no_match()
+}
