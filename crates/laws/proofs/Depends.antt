@@ -108,9 +108,8 @@ lengths-within n b total e = ltb-false n total (neither (ltb total (b % 16 * 4))
 due-by-same : (n k b total : ℕ) (d d′ : Due) → (total ≤ n → d ≡ d′) → dueBy n k b total d ≡ dueBy n k b total d′
 unfolding dueBy
 due-by-same n k b total d d′ f =
-    let x : refuseIf (wrongLengths n b total) refusal.Lengths d ≡ refuseIf (wrongLengths n b total) refusal.Lengths d′ =
-        refuse-same (wrongLengths n b total) refusal.Lengths d d′ (λ e. f (lengths-within n b total e)) in
-    ap (λ (u : Due). refuseIf (tooLong n k) refusal.LentLength (refuseIf (otherVersion n b) refusal.NotIpv4 u)) x
+    ap (λ (u : Due). refuseIf (tooLong n k) refusal.LentLength (refuseIf (otherVersion n b) refusal.NotIpv4 u))
+    (refuse-same (wrongLengths n b total) refusal.Lengths d d′ (λ e. f (lengths-within n b total e)))
 
 due-by-within : (n k b total : ℕ) (d : Due) → dueBy n k b total d ≡ Fine → total ≤ n
 unfolding dueBy
@@ -144,14 +143,15 @@ module _ (p p′ decoded decoded′ : List ℕ) (m : FieldMap) (h : Alike p p′
       let c : getD p 3 0 ≡ getD p′ 3 0 = byte3 p ∙ ap (λ (l : List ℕ). getD l 3 0) (h .front) ∙ sym (byte3 p′) in
       rw (b, c)
 
+  front-same : (d : Due)
+      → dueBy (length p) (length decoded) (wide 1 p 0) (totalLength p) d ≡ dueBy (length p′) (length decoded′) (wide 1 p′ 0) (totalLength p′) d
+  front-same d = rw (h .lent, h .lent-decoded, first-same, total-same)
+
   packet-due-same : packetDue p decoded ≡ packetDue p′ decoded′
   packet-due-same =
-      let d′ : Due = datagramDue (datagramOf p′) in
-      let r : dueBy (length p) (length decoded) (wide 1 p 0) (totalLength p) d′ ≡ dueBy (length p′) (length decoded′) (wide 1 p′ 0) (totalLength p′) d′ =
-          rw (h .lent, h .lent-decoded, first-same, total-same) in
       due-by p decoded
-      ∙ due-by-same (length p) (length decoded) (wide 1 p 0) (totalLength p) (datagramDue (datagramOf p)) d′ (λ w. ap datagramDue (h .datagrams w))
-      ∙ r
+      ∙ due-by-same (length p) (length decoded) (wide 1 p 0) (totalLength p) (datagramDue (datagramOf p)) (datagramDue (datagramOf p′)) (λ w. ap datagramDue (h .datagrams w))
+      ∙ front-same (datagramDue (datagramOf p′))
       ∙ sym (due-by p′ decoded′)
 
   packet-within : packetDue p decoded ≡ Fine → totalLength p ≤ length p
