@@ -13,7 +13,7 @@ use Rattle.definitions.specs.Limits.{patternsMost}
 use Rattle.definitions.specs.Lists.{all?, none?, padded}
 use Rattle.definitions.specs.Numbers.{valueOf}
 use Rattle.definitions.specs.Answers.{placementOf}
-use Rattle.enter.proofs.Padding.{padded-one}
+use Rattle.laws.proofs.Padded.{padded-one}
 use Rattle.cases.specs.CaseLines.{startMost, front, parts, isNumber, areStarts, startsIn}
 use Rattle.cases.specs.Parsing.{Numbered, Starts}
 use Rattle.cases.proofs.Parting.{partsFrom, from-start, from-on, from-end}

@@ -1,7 +1,6 @@
--- Laws that belong to no one function: an array with room behind what it holds, one entry more, the last pattern, the state of one option
+-- Laws that belong to no one function: one entry more, the last pattern, the state of one option
 -- more, what is due for it, and the judgement at the end.
 pub mod Choosing
-pub mod Padding
 pub mod Behind
 pub mod LastPattern
 pub mod Alike

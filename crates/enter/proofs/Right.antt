@@ -31,7 +31,7 @@ use Rattle.reader_state.specs.State.{dashesOf, stateFrom, stateOf, Holds, Apart
 use Rattle.enter.specs.Entering.{Fit, Ready, valueEntered}
 use Rattle.enter.specs.Judging.{tableIn, usableHeld, judgedIn}
 use Rattle.enter.proofs.Choosing.{if-or}
-use Rattle.enter.proofs.Padding.{padded-at}
+use Rattle.laws.proofs.Padded.{padded-at}
 use Rattle.enter.proofs.OneMore.{count-none, dashes-length, sound}
 use Rattle.enter.proofs.Outcomes.{Outcome, name-outcome, protocol-outcome, flow-outcome, test-outcome, addresses-outcome, pattern-outcome, modifier-outcome}
 

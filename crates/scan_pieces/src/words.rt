@@ -5,8 +5,8 @@ ghost use lib.ListN.{length};
 ghost use Rattle.forms.specs.Pieces.{word};
 ghost use Rattle.scan_cursors.specs.Reads.{Reads};
 ghost use Rattle.scan_cursors.specs.declared.Cursor.the-variants.{Going};
-use scan_cursors::Cursor;
 use crate::signs::starts;
+use scan_cursors::Cursor;
 
 // The word, which is written in small letters; it stops at the first byte that differs.
 pub fn word_at(s: &[u8], at: usize, w: &[u8]) -> Cursor

@@ -1,18 +1,16 @@
 -- Pattern bytes: each pair of a block and each element of a pattern is one turn of a storing loop, and signs around them store nothing.
 use mathlib.Core.Path.{_≡_, refl, sym, ap, _∙_}
-use mathlib.Core.Bool.{Bool, true, false}
+use mathlib.Core.Bool.{true, false}
 use mathlib.Core.List.{List, [], _∷_, _++_, append-assoc, append-nil}
 use Prim.Native.Nat.{ℕ, _+_, _-_, _≤_, _<_}
 use native.Mathlib.Omega.{arith}
 use lib.ListN.{length, drop, getD}
 use types.Run.{OneOf}
 use denote.Enum.Declared.{tagOf}
-use Rattle.forms.specs.Form.{pair, made}
 use Rattle.forms.specs.Scan.{begins, first}
 use Rattle.forms.specs.Pieces.{sign}
 use Rattle.definitions.specs.Limits.{limits01}
 use Rattle.definitions.specs.Numbers.{hexDigits}
-use Rattle.definitions.specs.Entries.{Pattern}
 use Rattle.definitions.specs.Forms as forms
 use Rattle.definitions.specs.Forms.{spaces, hexPair, block, plainBytes, patternBytes}
 use Rattle.entry.specs.declared.Room.{Room}
@@ -23,7 +21,7 @@ use Rattle.scan_cursors.specs.declared.Cursor.the-variants.{Going, Stopped}
 use Rattle.scan_cursors.specs.Reads.{joined, placeOf, Reads}
 use Rattle.scan_cursors.proofs.Readings.{made-reads, skip-reads, before-reads, first-reads, second-reads, stopped-reads, inside-at, joined-reads}
 use Rattle.scan_pieces.proofs.AtPlace.{begins-in, byte-begun}
-use Rattle.values.specs.Storing.{spacedPair, pairs, element, quotedBytes, Ready, Stores, PatternReads}
+use Rattle.values.specs.Storing.{spacedPair, pairs, element, Ready, Stores, PatternReads}
 use Rattle.values.proofs.Steps.{enclosed, joined-left, joined-right, ahead, ahead-more, halted, byte-place, joined-place}
 use Rattle.values.proofs.Rooms.{appended-none, Writing, Writes, writes-ready, writes-on, writes-last, writes-stop}
 
@@ -199,7 +197,3 @@ module _ (s : List ℕ) (at : ℕ) (room : Room) (w : Ready s at room) {x : ℕ}
           counted = omega (arith, counted);
         },
       )
-
--- the form is the one within `pattern`
-pub pattern-form : forms.patternForm ≡ forms.valued (made (λ (p : Bool × List ℕ). Pattern (p .0) (p .1)) (pair forms.negation quotedBytes))
-pattern-form = refl

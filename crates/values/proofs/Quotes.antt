@@ -9,15 +9,14 @@ use lib.Seq.{length-take-le}
 use lib.Dec.{leb, eqb}
 use borrow.Author.Tests.{eqb-true, eqb-false, leb-true}
 use Rattle.forms.specs.Bytes.{run}
-use Rattle.forms.specs.Form.{Class, has, Form, byte, made, bound}
+use Rattle.forms.specs.Form.{Class, has, Form, byte, bound}
 use Rattle.forms.specs.Place.{bounded}
 use Rattle.forms.specs.Pieces.{some, sign}
 use Rattle.forms.proofs.Bools.{by-cases}
 use Rattle.forms.proofs.Sound.{never}
 use Rattle.forms.proofs.At.{bound-at}
 use Rattle.definitions.specs.Limits.{nameMost}
-use Rattle.definitions.specs.Entries.{Name}
-use Rattle.definitions.specs.Forms.{quotable, valued, nameForm}
+use Rattle.definitions.specs.Forms.{quotable}
 use Rattle.scan_cursors.specs.declared.Cursor.{Cursor}
 use Rattle.scan_cursors.specs.declared.Cursor.the-variants.{Going, Over, Stopped}
 use Rattle.scan_cursors.specs.Reads.{joined, placeOf, Reads}
@@ -99,7 +98,3 @@ name-read s at from len d c h q e =
       low = λ n g. q .low n (limited-going (leb len nameMost) at n d (sym e ∙ g) .0);
       high = λ n g. leb-true len nameMost (limited-going (leb len nameMost) at n d (sym e ∙ g) .1);
     }
-
--- the form is the one within `name`
-pub name-form : nameForm ≡ valued (made Name quotedName)
-name-form = refl
