@@ -18,6 +18,7 @@ use Rattle.definitions.specs.Limits.{limits01}
 use Rattle.definitions.specs.WellFormed.{wellFormed}
 use Rattle.definitions.specs.House.{houseText}
 use Rattle.definitions.specs.Writing.{writingDue, writtenIf, bufferIf, writes, bufferAfter}
+use Rattle.roundtrip.proofs.Buffer.{house-written}
 use Rattle.output.specs.Puts.{countedMost, Puts}
 use Rattle.output.specs.Clipped.{atMost}
 use Rattle.output.proofs.Whole.{most-of, most-full, puts-count, puts-buffer}
@@ -82,10 +83,10 @@ module _ (t : Table) where
             answers (No refusal.ShortBuffer) (rw (w, le-ltb (limits01 .house) len fits, lt-ltb (length out) len short))
 
         fine : r ≤ length out → Answers Fine
-        unfolding writingDue
         fine g =
             let room : len ≤ length out = omega (arith, g, is) in
-            answers Fine (rw (w, le-ltb (limits01 .house) len fits, le-ltb (length out) len room))
+            let w = house-written limits01 t out w fits room in
+            (sym (w .0), sym (w .1))
 
         -- the house text was put from the start on
         pub written : r ≤ length out → {after : List ℕ} {n : ℕ} → Puts out 0 (houseText t) after n → (Written n ≡ writes limits01 t out) × (after ≡ bufferAfter limits01 t out)
