@@ -22,7 +22,8 @@ use Rattle.definitions.specs.declared.table.Table.{Table}
 use Rattle.definitions.specs.Limits.{limits01, nameMost}
 use Rattle.definitions.specs.Lists.{all?, padded}
 use Rattle.definitions.specs.Entries as entry
-use Rattle.definitions.specs.Tables.{Kind, unused, addressed, patterned, plainTest, kindOf, bare, with, slotOf, noSlot, tableOf}
+use Rattle.definitions.specs.Tables.{bare, with, slotOf, noSlot, tableOf}
+use Rattle.definitions.specs.Items.{Kind, unused, addressed, patterned, plainTest, kindOf}
 use Rattle.definitions.specs.Reading.{read}
 use Rattle.definitions.specs.WellFormed.{wellFormed}
 use Rattle.definitions.specs.Computing.{computing}

@@ -6,11 +6,12 @@ use Rattle.forms.specs.Scan.{loop, scan, overs, over}
 use Rattle.forms.specs.Place.{readAt}
 use Rattle.definitions.specs.Lists.{all?, any?, keep, sameBytes}
 use Rattle.definitions.specs.Numbers.{digitValue, valueOf}
-use Rattle.definitions.specs.Options.{optionTable, inName, parsed, optionAt}
-use Rattle.definitions.specs.Tables.{nameIn, protocolIn, flowIn, modified, slotsIn, bytesIn, tableOf, patternsOf}
+use Rattle.definitions.specs.Options.{optionTable, inName, parsed, optionAt, printable}
+use Rattle.definitions.specs.Tables.{nameIn, protocolIn, flowIn, modified, slotsIn, bytesIn, tableOf}
+use Rattle.definitions.specs.Items.{patternsOf}
 use Rattle.definitions.specs.References.{usable, usableRun}
 use Rattle.definitions.specs.Standing.{latest, dueFor, missing}
-use Rattle.definitions.specs.Reading.{options, judged, printable, readUnbounded, read}
+use Rattle.definitions.specs.Reading.{options, judged, readUnbounded, read}
 use Rattle.definitions.specs.WellFormed.{nameFits, itemFits, itemsFit, bytesOf, bytesFit, wellFormed}
 use Rattle.definitions.specs.House.{slotEntries, houseEntries, digitsOf, addressesText, fieldText, patternText, testText, modifierText, entryText, entriesText, houseText}
 use Rattle.definitions.specs.Writing.{writingDue, writes, bufferAfter}
@@ -25,5 +26,5 @@ use Rattle.definitions.specs.Lines.{lineOf, lineTexts, linesFrom, output
 use Rattle.definitions.specs.Cases.{pairs, sameLists, signature, packetWith, uriOnly, numbersOf, rightBy, right, found, none, onPayload, onUri, onText, cases, slips}
 
 unfoldable pub computing : ℕ
-unfolding lower sameWord run has Means loop scan overs over readAt all? any? keep sameBytes digitValue valueOf optionTable inName parsed optionAt nameIn protocolIn flowIn modified slotsIn bytesIn tableOf patternsOf usable usableRun latest dueFor missing options judged printable readUnbounded read nameFits itemFits itemsFit bytesOf bytesFit wellFormed slotEntries houseEntries digitsOf addressesText fieldText patternText testText modifierText entryText entriesText houseText writingDue writes bufferAfter wide factsOf packetDue packetAnswer fieldOf present fieldsDue inAddresses addressHolds numberHolds fieldHolds sizeHolds atHolds testHolds inWindow alike standsAt lies behind wanted itemsOf positives upFrom spread liesIn starts nowhereHolds Meets placements MeetsTable listed verdictDue placementsOf verdictAnswer firstAnswer nextAnswer answers lineOf lineTexts linesFrom outputOver programOutput pairs sameLists signature packetWith uriOnly numbersOf rightBy right found none onPayload onUri onText cases slips
+unfolding lower sameWord run has Means loop scan overs over readAt all? any? keep sameBytes digitValue valueOf optionTable inName parsed optionAt printable nameIn protocolIn flowIn modified slotsIn bytesIn tableOf patternsOf usable usableRun latest dueFor missing options judged readUnbounded read nameFits itemFits itemsFit bytesOf bytesFit wellFormed slotEntries houseEntries digitsOf addressesText fieldText patternText testText modifierText entryText entriesText houseText writingDue writes bufferAfter wide factsOf packetDue packetAnswer fieldOf present fieldsDue inAddresses addressHolds numberHolds fieldHolds sizeHolds atHolds testHolds inWindow alike standsAt lies behind wanted itemsOf positives upFrom spread liesIn starts nowhereHolds Meets placements MeetsTable listed verdictDue placementsOf verdictAnswer firstAnswer nextAnswer answers lineOf lineTexts linesFrom outputOver programOutput pairs sameLists signature packetWith uriOnly numbersOf rightBy right found none onPayload onUri onText cases slips
 computing = 0

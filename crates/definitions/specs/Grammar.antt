@@ -9,10 +9,10 @@ use Rattle.definitions.specs.declared.answers.Due.the-variants.{Fine}
 use Rattle.definitions.specs.declared.table.Table.{Table}
 use Rattle.definitions.specs.Lists.{all?, count}
 use Rattle.definitions.specs.Entries.{Entry}
-use Rattle.definitions.specs.Options.{Option, optionTable}
+use Rattle.definitions.specs.Options.{Option, optionTable, printable, opening}
 use Rattle.definitions.specs.Tables.{tableOf}
 use Rattle.definitions.specs.Standing.{isPattern, dueFor, missing}
-use Rattle.definitions.specs.Reading.{usableIn, printable, opening}
+use Rattle.definitions.specs.References.{usableIn}
 
 -- `--`, a listed name in any letter case, and what its form allows, within its limits
 pub data OptionText : List ℕ → Entry → Type 1 where

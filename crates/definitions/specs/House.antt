@@ -39,8 +39,8 @@ use Rattle.definitions.specs.declared.table.Table.{Table}
 use Rattle.definitions.specs.Limits.{prefixMost}
 use Rattle.definitions.specs.Entries.{Modifier, Context, NoCase, Distance, Within, Entry, Name, Protocol, Flow, Test, Pattern, Modified}
 use Rattle.definitions.specs.Forms.{fieldMost, plainBytes}
-use Rattle.definitions.specs.Tables.{Kind, unused, addressed, patterned, plainTest, kindOf, slotsOf, behindItem}
-use Rattle.definitions.specs.Reading.{opening}
+use Rattle.definitions.specs.Items.{Kind, unused, addressed, patterned, plainTest, kindOf, slotsOf, behindItem}
+use Rattle.definitions.specs.Options.{opening}
 
 -- ---- the entries. Order: name, protocol, flow if given, then the items; after a pattern: context, no_case, distance, within.
 -- Left out: context packet

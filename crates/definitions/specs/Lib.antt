@@ -6,6 +6,7 @@ pub mod Entries
 pub mod Forms
 pub mod Options
 pub mod Tables
+pub mod Items
 pub mod References
 pub mod Refusals
 pub mod Standing

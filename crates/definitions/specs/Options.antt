@@ -69,3 +69,11 @@ nameLength s at = run inName (drop at s)
 -- the option whose first dash stands at a place
 unfoldable pub optionAt : List ℕ → ℕ → Parsed
 optionAt s at = parsed optionTable (take (nameLength s (at + 2)) (drop (at + 2) s)) s (at + 2 + nameLength s (at + 2))
+
+-- ---- the frame: a byte that a text may hold, and what it opens with
+
+unfoldable pub printable : ℕ → Bool
+printable b = between 32 126 b
+
+abbrev pub opening : List ℕ
+opening = text "F-SBID("

@@ -4,9 +4,8 @@ use mathlib.Core.Bool.{Bool, not}
 use mathlib.Core.List.{List, [], _∷_, _++_, map}
 use lib.ListN.{length, getD, take, drop}
 use lib.Dec.{eqb, ltb}
-use Rattle.forms.specs.Bytes.{if_then_else_, text, between, run}
+use Rattle.forms.specs.Bytes.{if_then_else_, text, run}
 use Rattle.forms.specs.Place.{Is, Far, No}
-use Rattle.definitions.specs.declared.packet.Last.the-variants.{Nothing}
 use Rattle.definitions.specs.declared.answers.Refusal.{Refusal}
 use Rattle.definitions.specs.declared.answers.Refusal.the-variants as refusal
 use Rattle.definitions.specs.declared.answers.Due.{Due}
@@ -17,9 +16,9 @@ use Rattle.definitions.specs.declared.table.Table.{Table}
 use Rattle.definitions.specs.Limits.{Limits}
 use Rattle.definitions.specs.Lists.{none?, keep, count, sameBytes}
 use Rattle.definitions.specs.Entries.{Entry}
-use Rattle.definitions.specs.Options.{Parsed, unlisted, listed, optionAt}
-use Rattle.definitions.specs.Tables.{tableOf, slotsIn, patternsOf}
-use Rattle.definitions.specs.References.{usableRun}
+use Rattle.definitions.specs.Options.{Parsed, unlisted, listed, optionAt, printable, opening}
+use Rattle.definitions.specs.Tables.{tableOf}
+use Rattle.definitions.specs.References.{usableIn}
 use Rattle.definitions.specs.Standing.{isPattern, dueFor, missing}
 
 -- ---- options left to right, the first bad one deciding, with its lowest number among 4 to 9 and 11
@@ -68,10 +67,6 @@ options s (b ∷ l) zero at said =
 
 -- ---- then 10 by pattern, then 12
 
--- how many patterns from the first on have usable references
-abbrev pub usableIn : List Entry → ℕ
-usableIn es = usableRun Nothing (patternsOf (slotsIn es))
-
 -- the first dash of pattern k
 abbrev pub patternDash : List Said → ℕ → ℕ
 patternDash said k = getD (map (λ (d : Said). d .dash) (keep (λ (d : Said). isPattern (d .entry)) said)) k 0
@@ -95,13 +90,6 @@ finished room s (ended said) = judged room s said
 finished room s (refused r p) = refusedReading room r p
 
 -- ---- the whole text: 1, 2, 3, then the options
-
--- a byte that a text may hold
-unfoldable pub printable : ℕ → Bool
-printable b = between 32 126 b
-
-abbrev pub opening : List ℕ
-opening = text "F-SBID("
 
 -- reading with rule 1's upper bound lifted, into a table with room for so many pattern bytes
 unfoldable pub readUnbounded : ℕ → List ℕ → Reading

@@ -18,6 +18,9 @@ use Rattle.definitions.specs.declared.table.Within.the-variants as withi
 use Rattle.definitions.specs.declared.table.Pattern.{Pattern}
 use Rattle.definitions.specs.declared.packet.Last.{Last}
 use Rattle.definitions.specs.declared.packet.Last.the-variants.{Nothing, Was}
+use Rattle.definitions.specs.Entries.{Entry}
+use Rattle.definitions.specs.Tables.{slotsIn}
+use Rattle.definitions.specs.Items.{patternsOf}
 
 abbrev pub contextNumber : Context → ℕ
 contextNumber context.Packet = 0
@@ -81,3 +84,7 @@ usable last p =
 unfoldable pub usableRun : Last → List Pattern → ℕ
 usableRun last [] = 0
 usableRun last (p ∷ ps) = if usable last p then 1 + usableRun (lastAfter last p 0) ps else 0
+
+-- how many of the entries' patterns from the first on have usable references
+abbrev pub usableIn : List Entry → ℕ
+usableIn es = usableRun Nothing (patternsOf (slotsIn es))

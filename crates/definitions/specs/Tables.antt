@@ -2,13 +2,12 @@
 use Prim.Native.Nat.{ℕ}
 use mathlib.Core.Bool.{Bool, true, false}
 use mathlib.Core.List.{List, [], _∷_, _++_}
-use lib.ListN.{length, take, drop}
+use lib.ListN.{length}
 use Rattle.definitions.specs.declared.table.Flow as flows
 use Rattle.definitions.specs.declared.table.Flow.the-variants as flow
 use Rattle.definitions.specs.declared.table.Context.the-variants as context
 use Rattle.definitions.specs.declared.table.Distance.the-variants as distance
 use Rattle.definitions.specs.declared.table.Within.the-variants as within
-use Rattle.definitions.specs.declared.table.AddressTest.{AddressTest}
 use Rattle.definitions.specs.declared.table.Pattern as patterns
 use Rattle.definitions.specs.declared.table.Item.{Item}
 use Rattle.definitions.specs.declared.table.Item.the-variants as item
@@ -113,44 +112,3 @@ tableOf room es =
       items = padded itemsMost noSlot (slotsIn es);
       count = length (slotsIn es);
     }
-
--- ---- what the definitions tell apart among a table's items: all but the first three are tests without addresses
-
-pub data Kind : Type 0 where
-  unused : Kind
-  addressed : AddressTest → Kind
-  patterned : patterns.Pattern → Kind
-  plainTest : Kind
-
-abbrev pub kindOf : Item → Kind
-kindOf item.Unused = unused
-kindOf (item.Address a) = addressed a
-kindOf item.SameIp = plainTest
-kindOf (item.Number a) = plainTest
-kindOf (item.Ttl a) = plainTest
-kindOf (item.Field a) = plainTest
-kindOf (item.Size a) = plainTest
-kindOf (item.At a) = plainTest
-kindOf (item.Pattern p) = patterned p
-
--- the slots in use
-abbrev pub slotsOf : Table → List Slot
-slotsOf t = take (t .count) (t .items)
-
--- the patterns among some slots
-abbrev pub patternFirst : Kind → List patterns.Pattern → List patterns.Pattern
-patternFirst unused ps = ps
-patternFirst (addressed a) ps = ps
-patternFirst (patterned p) ps = p ∷ ps
-patternFirst plainTest ps = ps
-
-unfoldable pub patternsOf : List Slot → List patterns.Pattern
-patternsOf [] = []
-patternsOf (sl ∷ sls) = patternFirst (kindOf (sl .item)) (patternsOf sls)
-
--- the pattern bytes behind those of an item
-abbrev pub behindItem : Kind → List ℕ → List ℕ
-behindItem unused b = b
-behindItem (addressed a) b = b
-behindItem (patterned p) b = drop (p .len) b
-behindItem plainTest b = b

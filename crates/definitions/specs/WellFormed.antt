@@ -22,7 +22,7 @@ use Rattle.definitions.specs.declared.packet.Last.the-variants.{Nothing}
 use Rattle.definitions.specs.Limits.{nameMost, patternsMost, testsMost, itemsMost, addressesMost, byteMost, wordMost, addressMost, prefixMost}
 use Rattle.definitions.specs.Lists.{all?}
 use Rattle.definitions.specs.Forms.{quotable, fieldMost, numberMost}
-use Rattle.definitions.specs.Tables.{Kind, unused, addressed, patterned, plainTest, kindOf, patternsOf, slotsOf}
+use Rattle.definitions.specs.Items.{Kind, unused, addressed, patterned, plainTest, kindOf, patternsOf, slotsOf}
 use Rattle.definitions.specs.References.{usableRun}
 use Rattle.definitions.specs.Reading.{acceptedReading, readUnbounded}
 

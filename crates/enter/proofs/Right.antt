@@ -18,10 +18,11 @@ use Rattle.definitions.specs.declared.table.Slot.{Slot}
 use Rattle.definitions.specs.Limits.{limits01, patternsMost, testsMost, itemsMost, addressesMost}
 use Rattle.definitions.specs.Lists.{any?, count, padded}
 use Rattle.definitions.specs.Entries.{Context, NoCase, Distance, Within, Entry, Name, Protocol}
-use Rattle.definitions.specs.Tables.{slotsIn, noSlot, noAddress, patternsOf, tableOf}
-use Rattle.definitions.specs.References.{usableRun}
+use Rattle.definitions.specs.Tables.{slotsIn, noSlot, noAddress, tableOf}
+use Rattle.definitions.specs.Items.{patternsOf}
+use Rattle.definitions.specs.References.{usableRun, usableIn}
 use Rattle.definitions.specs.Standing.{sameKind, isTest, isPattern, missing}
-use Rattle.definitions.specs.Reading.{Said, entriesOf, usableIn, refusedReading, acceptedReading, judged}
+use Rattle.definitions.specs.Reading.{Said, entriesOf, refusedReading, acceptedReading, judged}
 use Rattle.entry.specs.declared.Room.{Room}
 use Rattle.entry.specs.declared.Value.{Value}
 use Rattle.entry.specs.declared.Value.the-variants as value

@@ -9,7 +9,7 @@ use Rattle.definitions.specs.declared.answers.Refusal.the-variants as refusal
 use Rattle.definitions.specs.declared.answers.Reading.{Reading}
 use Rattle.definitions.specs.declared.packet.Last.the-variants.{Nothing}
 use Rattle.definitions.specs.declared.table.Table.{Table}
-use Rattle.definitions.specs.Tables.{patternsOf}
+use Rattle.definitions.specs.Items.{patternsOf}
 use Rattle.definitions.specs.References.{usableRun}
 use Rattle.definitions.specs.Reading.{refusedReading, acceptedReading}
 use Rattle.reader_state.specs.declared.State.{State}

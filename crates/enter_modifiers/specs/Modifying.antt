@@ -12,7 +12,8 @@ use Rattle.definitions.specs.declared.table.Item.the-variants as item
 use Rattle.definitions.specs.declared.table.Slot.{Slot}
 use Rattle.definitions.specs.Refusals.{refuseIf}
 use Rattle.definitions.specs.Entries.{Modifier, Context, NoCase, Distance, Within}
-use Rattle.definitions.specs.Tables.{bare, with, Kind, unused, addressed, patterned, plainTest, kindOf}
+use Rattle.definitions.specs.Tables.{bare, with}
+use Rattle.definitions.specs.Items.{Kind, unused, addressed, patterned, plainTest, kindOf}
 use Rattle.reader_state.specs.declared.Given.{Given}
 use Rattle.reader_state.specs.declared.State.{State}
 use Rattle.reader_state.specs.declared.Entered.{Entered}

@@ -12,7 +12,7 @@ use Rattle.definitions.specs.declared.table.Item.the-variants as item
 use Rattle.definitions.specs.declared.table.Pattern.{Pattern}
 use Rattle.definitions.specs.declared.table.Slot.{Slot}
 use Rattle.definitions.specs.Entries.{Test}
-use Rattle.definitions.specs.Tables.{Kind, unused, addressed, patterned, plainTest, kindOf, behindItem}
+use Rattle.definitions.specs.Items.{Kind, unused, addressed, patterned, plainTest, kindOf, behindItem}
 use Rattle.definitions.specs.House.{patternEntries, itemEntries, slotEntries, testText, entryText, entriesText}
 use Rattle.output.specs.Clipped.{atMost}
 use Rattle.output.proofs.Clipping.{at-most-le, drop-most}

@@ -1,6 +1,6 @@
 -- Where the items' pattern bytes stand, as the code goes about it.
 use Prim.Native.Nat.{ℕ, _+_, _-_}
-use Rattle.definitions.specs.Tables.{Kind, unused, addressed, patterned, plainTest}
+use Rattle.definitions.specs.Items.{Kind, unused, addressed, patterned, plainTest}
 use Rattle.output.specs.Clipped.{atMost}
 
 -- the place of the pattern bytes behind those of an item, whose own stand at a place of so many bytes

@@ -3,7 +3,7 @@ ghost use mathlib.Core.Path.{_≡_};
 ghost use Prim.Native.Nat.{_≤_};
 ghost use lib.ListN.{take, length};
 ghost use Rattle.definitions.specs.Entries.{Name, Protocol};
-ghost use Rattle.definitions.specs.Tables.{kindOf, slotsOf};
+ghost use Rattle.definitions.specs.Items.{kindOf, slotsOf};
 ghost use Rattle.definitions.specs.House.{itemEntries, slotEntries, entryText, entriesText};
 ghost use Rattle.entry_text.specs.Parts.{placeBehind};
 ghost use Rattle.output.specs.Puts.{Puts};

@@ -12,7 +12,7 @@ use Rattle.definitions.specs.declared.table.Pattern.{Pattern}
 use Rattle.definitions.specs.declared.table.Slot.{Slot}
 use Rattle.definitions.specs.declared.table.Table.{Table}
 use Rattle.definitions.specs.Limits.{itemsMost}
-use Rattle.definitions.specs.Tables.{Kind, unused, addressed, patterned, plainTest, kindOf, patternFirst, patternsOf}
+use Rattle.definitions.specs.Items.{Kind, unused, addressed, patterned, plainTest, kindOf, patternFirst, patternsOf}
 use Rattle.definitions.specs.WellFormed.{itemsFit}
 
 pub few-items : (t : Table) → itemsFit t ≡ true → t .count ≤ itemsMost

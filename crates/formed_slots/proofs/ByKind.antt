@@ -13,7 +13,7 @@ use Rattle.definitions.specs.declared.table.Pattern.{Pattern}
 use Rattle.definitions.specs.declared.table.Item.{Item}
 use Rattle.definitions.specs.declared.table.Item.the-variants as item
 use Rattle.definitions.specs.Limits.{addressesMost}
-use Rattle.definitions.specs.Tables.{Kind, unused, addressed, patterned, plainTest, kindOf}
+use Rattle.definitions.specs.Items.{Kind, unused, addressed, patterned, plainTest, kindOf}
 use Rattle.definitions.specs.WellFormed.{addressCount, itemFits}
 use Rattle.definitions.proofs.table.Item as item-type
 use Rattle.forms.proofs.Bools.{both-right}

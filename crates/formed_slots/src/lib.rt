@@ -8,7 +8,7 @@ ghost use Prim.Native.Nat.{_≤_};
 ghost use lib.ListN.{take, drop};
 ghost use Rattle.definitions.specs.Limits.{itemsMost};
 ghost use Rattle.definitions.specs.Lists.{all?};
-ghost use Rattle.definitions.specs.Tables.{kindOf};
+ghost use Rattle.definitions.specs.Items.{kindOf};
 ghost use Rattle.definitions.specs.WellFormed.{addressCount, slotFits, isUnused, slotUnused};
 use crate::addresses::addresses_fit;
 use crate::addresses::addresses_unused;

@@ -5,7 +5,7 @@ ghost use Prim.Native.Nat.{_≤_};
 ghost use lib.ListN.{length, take};
 ghost use lib.Dec.{eqb};
 ghost use Rattle.definitions.specs.Limits.{itemsMost};
-ghost use Rattle.definitions.specs.Tables.{kindOf, patternFirst, patternsOf};
+ghost use Rattle.definitions.specs.Items.{kindOf, patternFirst, patternsOf};
 ghost use Rattle.definitions.specs.WellFormed.{bytesOf};
 use definitions::limits::ITEMS;
 use definitions::table::Item;

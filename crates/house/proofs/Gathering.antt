@@ -6,7 +6,7 @@ use lib.ListN.{take}
 use Rattle.forms.specs.Bytes.{text}
 use Rattle.definitions.specs.declared.table.Table.{Table}
 use Rattle.definitions.specs.Entries.{Name, Protocol}
-use Rattle.definitions.specs.Tables.{slotsOf}
+use Rattle.definitions.specs.Items.{slotsOf}
 use Rattle.definitions.specs.House.{flowEntry, slotEntries, houseEntries, entryText, entriesText, houseText}
 use Rattle.pattern_text.proofs.Gathering.{entries-append}
 

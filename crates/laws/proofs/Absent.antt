@@ -27,7 +27,7 @@ use Rattle.definitions.specs.declared.answers.Due.the-variants.{Fine, No}
 use Rattle.definitions.specs.declared.answers.Verdict.{Verdict}
 use Rattle.definitions.specs.declared.answers.Verdict.the-variants as verdict
 use Rattle.definitions.specs.Lists.{keep}
-use Rattle.definitions.specs.Tables.{kindOf, slotsOf, behindItem}
+use Rattle.definitions.specs.Items.{kindOf, slotsOf, behindItem}
 use Rattle.definitions.specs.References.{lastAfter}
 use Rattle.definitions.specs.Fields.{View, viewOf, present, sizeContext}
 use Rattle.definitions.specs.Tests.{atContext, sizeHolds, atHolds, testHolds}

@@ -22,9 +22,10 @@ use Rattle.definitions.specs.Limits.{Limits, testsMost, patternsMost, addresses
 use Rattle.definitions.specs.Lists.{any?, none?, keep, keepOne, count, sameBytes}
 use Rattle.definitions.specs.Refusals.{numberOf, readPlace}
 use Rattle.definitions.specs.Entries.{Entry, Name, Protocol, Flow, Test, Pattern, Modified}
-use Rattle.definitions.specs.Options.{Parsed, unlisted, listed, optionAt}
+use Rattle.definitions.specs.Options.{Parsed, unlisted, listed, optionAt, printable, opening}
 use Rattle.definitions.specs.Standing.{isTest, isPattern, sameKind, sameModifier, latest, dueFor, missing}
-use Rattle.definitions.specs.Reading.{Said, entriesOf, Options, ended, refused, unlessDue, taken, isSpace, dashes, options, usableIn, patternDash, judged, finished, printable, opening, readUnbounded, read}
+use Rattle.definitions.specs.Reading.{Said, entriesOf, Options, ended, refused, unlessDue, taken, isSpace, dashes, options, patternDash, judged, finished, readUnbounded, read}
+use Rattle.definitions.specs.References.{usableIn}
 use Rattle.laws.proofs.Dues.{among, DueAmong, refuse-among}
 
 -- the numbers of a reading

@@ -16,7 +16,9 @@ use Rattle.definitions.specs.Limits.{Limits}
 use Rattle.definitions.specs.Lists.{none?, count, sameBytes}
 use Rattle.definitions.specs.Tables.{tableOf}
 use Rattle.definitions.specs.Standing.{isPattern, missing}
-use Rattle.definitions.specs.Reading.{Said, entriesOf, Options, ended, refused, options, usableIn, patternDash, refusedReading, judged, finished, printable, opening, readUnbounded, read}
+use Rattle.definitions.specs.Reading.{Said, entriesOf, Options, ended, refused, options, patternDash, refusedReading, judged, finished, readUnbounded, read}
+use Rattle.definitions.specs.Options.{printable, opening}
+use Rattle.definitions.specs.References.{usableIn}
 
 abbrev pub EmptyOrAccepted : ℕ → Reading → Type 0
 EmptyOrAccepted room r = (r .outcome ≡ outcome.Accepted → ⊥) → r .table ≡ tableOf room []

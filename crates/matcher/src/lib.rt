@@ -2,7 +2,6 @@
 // and earlier placement; refusals 20 and 30 to 36 come first, in this order.
 ghost use mathlib.Core.Path.{_≡_};
 ghost use Rattle.definitions.specs.Answers.{verdictAnswer, firstAnswer, nextAnswer};
-use verdict_due::cleared;
 use definitions::answers::Answer;
 use definitions::answers::PacketAnswer;
 use definitions::answers::Verdict;
@@ -16,6 +15,7 @@ use placement_list::searched;
 use search_outcomes::answered;
 use search_outcomes::met;
 use search_outcomes::refused;
+use verdict_due::cleared;
 
 // THE VERDICT: met exactly if some placement meets the table.
 pub fn verdict<'a>(t: Table, p: &'a [u8], decoded: &'a [u8], dir: Direction, m: FieldMap) -> Verdict

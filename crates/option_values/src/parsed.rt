@@ -1,13 +1,13 @@
 // An option read behind its name: its value, what stands beside it, and where scanning stands.
 ghost use mathlib.Core.Path.{_≡_};
 ghost use Rattle.option_values.specs.Parsing.{plainParsed};
-use scan_cursors::Cursor;
 use definitions::limits::ADDRESSES;
 use definitions::table::Address;
 use entry::Room;
 use entry::Value;
 use entry::no_addresses;
 use options::valued::Valued;
+use scan_cursors::Cursor;
 
 pub struct Parsed {
     pub value: Value,

@@ -7,11 +7,11 @@ ghost use Rattle.entry.specs.Values.{entryOf, Plain};
 ghost use Rattle.scan_cursors.specs.Reads.{Reads};
 ghost use Rattle.scan_cursors.specs.declared.Cursor.the-variants.{Going};
 use crate::valued::Valued;
-use scan_cursors::join;
-use scan_cursors::place;
 use entry::Value;
 use option_words::flow_at;
 use option_words::protocol_at;
+use scan_cursors::join;
+use scan_cursors::place;
 use scan_pieces::signs::closing_at;
 use scan_pieces::signs::gap_at;
 

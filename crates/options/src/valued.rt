@@ -1,6 +1,6 @@
 // An option's value, and where scanning stands behind it.
-use scan_cursors::Cursor;
 use entry::Value;
+use scan_cursors::Cursor;
 
 pub struct Valued {
     pub value: Value,

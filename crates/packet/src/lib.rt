@@ -9,20 +9,20 @@ use definitions::answers::Refusal;
 use definitions::packet::Facts;
 use definitions::packet::FieldSpan;
 use definitions::packet::Span;
+use field_parts::part_of;
+use header_numbers::wide8;
+use header_numbers::wide16;
+use header_numbers::wide32;
 use headers::header_length;
 use headers::is_fragment;
 use headers::lent_too_long;
 use headers::not_ipv4;
 use headers::total_length;
 use headers::wrong_lengths;
-use field_parts::part_of;
 use transport::port_at;
 use transport::protocol_of;
 use transport::transport_length;
 use transport::transport_short;
-use header_numbers::wide8;
-use header_numbers::wide16;
-use header_numbers::wide32;
 
 // The facts of a datagram.
 fn facts_of(d: &[u8]) -> Facts

@@ -5,7 +5,6 @@ ghost use Rattle.definitions.specs.Answers.{placementsOf, nextAnswer};
 ghost use Rattle.search_outcomes.specs.Outcomes.{outcomeOf};
 ghost use Rattle.search_chosen.specs.Choosing.{behindIf};
 ghost use Rattle.verdict_due.specs.Clearing.{Cleared};
-use positive_counts::positive_count;
 use definitions::answers::Answer;
 use definitions::answers::Refusal;
 use definitions::limits::PATTERNS;
@@ -14,11 +13,12 @@ use definitions::packet::Facts;
 use definitions::packet::FieldMap;
 use definitions::packet::Placement;
 use definitions::table::Table;
+use packet::payload_of;
+use positive_counts::positive_count;
+use search::find;
 use search_outcomes::Outcome;
 use search_outcomes::answered;
 use search_outcomes::refused;
-use packet::payload_of;
-use search::find;
 
 // The first of the list of placements, or with `tight` the first behind the starts in `bound`.
 pub fn searched<'a>(

@@ -8,7 +8,7 @@ use Rattle.forms.proofs.Bools.{by-cases}
 use Rattle.definitions.specs.declared.table.Item.{Item}
 use Rattle.definitions.specs.declared.table.Address.{Address}
 use Rattle.definitions.specs.declared.table.Slot.{Slot}
-use Rattle.definitions.specs.Tables.{Kind, unused, addressed, patterned, plainTest, kindOf, behindItem}
+use Rattle.definitions.specs.Items.{Kind, unused, addressed, patterned, plainTest, kindOf, behindItem}
 use Rattle.definitions.specs.Placements.{wantedBy, wanted, positiveIn, positives}
 use Rattle.references.proofs.Firsts.{first-here, first-out}
 

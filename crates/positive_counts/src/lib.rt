@@ -4,7 +4,7 @@ ghost use mathlib.Core.List.{List};
 ghost use Prim.Native.Nat.{ℕ, _≤_};
 ghost use lib.ListN.{take};
 ghost use Rattle.definitions.specs.Limits.{itemsMost};
-ghost use Rattle.definitions.specs.Tables.{kindOf};
+ghost use Rattle.definitions.specs.Items.{kindOf};
 ghost use Rattle.definitions.specs.Placements.{wantedBy, wanted, positiveIn, positives};
 use definitions::limits::ITEMS;
 use definitions::table::Item;

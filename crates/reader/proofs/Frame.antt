@@ -14,7 +14,8 @@ use Rattle.forms.proofs.Bools.{by-cases}
 use Rattle.definitions.specs.declared.answers.Refusal.the-variants as refusal
 use Rattle.definitions.specs.Limits.{limits01}
 use Rattle.definitions.specs.Lists.{none?, sameBytes}
-use Rattle.definitions.specs.Reading.{opening, printable, options, finished, refusedReading, readUnbounded, read}
+use Rattle.definitions.specs.Reading.{options, finished, refusedReading, readUnbounded, read}
+use Rattle.definitions.specs.Options.{opening, printable}
 use Rattle.reader.specs.Framing.{isOpened}
 
 -- lists of other lengths are not the same

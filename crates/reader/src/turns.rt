@@ -4,7 +4,6 @@ ghost use Prim.Native.Nat.{_<_};
 ghost use lib.ListN.{length, drop};
 ghost use Rattle.definitions.specs.Reading.{dashes};
 ghost use Rattle.reader.specs.Turning.{Turnable, Turns, turnBy, closingTurn, Placed, Goes};
-use scan_cursors::Cursor;
 use definitions::answers::Due;
 use definitions::answers::Refusal;
 use definitions::limits::OPTIONS;
@@ -13,6 +12,7 @@ use names::name_end;
 use names::name_place;
 use option_values::places::option_by_place;
 use reader_state::State;
+use scan_cursors::Cursor;
 
 // On to a place, the end of the text, or a refusal and its place.
 pub enum Turn {

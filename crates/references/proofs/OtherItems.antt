@@ -5,7 +5,7 @@ use denote.Enum.Declared.{tagOf}
 use Rattle.definitions.specs.declared.table.AddressTest.{AddressTest}
 use Rattle.definitions.specs.declared.table.Item.{Item}
 use Rattle.definitions.specs.declared.table.Item.the-variants as item
-use Rattle.definitions.specs.Tables.{Kind, unused, addressed, plainTest, kindOf}
+use Rattle.definitions.specs.Items.{Kind, unused, addressed, plainTest, kindOf}
 use Rattle.definitions.proofs.table.Item as item-type
 
 pub other-kind : (P : Kind → Type 0) → P unused → ((a : AddressTest) → P (addressed a)) → P plainTest → (it : Item)

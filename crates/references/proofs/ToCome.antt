@@ -11,7 +11,7 @@ use Rattle.forms.proofs.Bools.{by-cases}
 use Rattle.definitions.specs.declared.packet.Last.the-variants.{Nothing}
 use Rattle.definitions.specs.declared.table.Pattern.{Pattern}
 use Rattle.definitions.specs.declared.table.Slot.{Slot}
-use Rattle.definitions.specs.Tables.{Kind, unused, addressed, patterned, plainTest, kindOf, patternFirst, patternsOf}
+use Rattle.definitions.specs.Items.{Kind, unused, addressed, patterned, plainTest, kindOf, patternFirst, patternsOf}
 use Rattle.definitions.specs.References.{usable, usableRun}
 use Rattle.references.specs.declared.counting.Run.{Run}
 use Rattle.references.proofs.Choosing.{if-true, if-false}

@@ -5,7 +5,7 @@ use mathlib.Core.List.{List}
 use Rattle.forms.specs.Bytes.{if_then_else_}
 use Rattle.definitions.specs.declared.table.Pattern.{Pattern}
 use Rattle.definitions.specs.declared.table.Slot.{Slot}
-use Rattle.definitions.specs.Tables.{Kind, unused, addressed, patterned, plainTest, patternsOf}
+use Rattle.definitions.specs.Items.{Kind, unused, addressed, patterned, plainTest, patternsOf}
 use Rattle.definitions.specs.References.{lastAfter, usable, usableRun}
 use Rattle.references.specs.declared.counting.Run.{Run}
 

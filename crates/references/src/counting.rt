@@ -4,7 +4,7 @@ ghost use Prim.Native.Nat.{_<_, _≤_};
 ghost use lib.ListN.{take};
 ghost use Rattle.definitions.specs.declared.packet.Last.the-variants.{Nothing};
 ghost use Rattle.definitions.specs.Limits.{itemsMost};
-ghost use Rattle.definitions.specs.Tables.{kindOf, patternsOf};
+ghost use Rattle.definitions.specs.Items.{kindOf, patternsOf};
 ghost use Rattle.definitions.specs.References.{usableRun};
 ghost use Rattle.references.specs.Counting.{onward, past};
 use crate::usable::is_usable;

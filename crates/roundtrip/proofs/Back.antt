@@ -23,7 +23,8 @@ use Rattle.definitions.specs.declared.table.Table.{Table}
 use Rattle.definitions.specs.Limits.{nameMost, itemsMost, addressesMost}
 use Rattle.definitions.specs.Lists.{all?, padded}
 use Rattle.definitions.specs.Entries.{Entry, Flow, Pattern}
-use Rattle.definitions.specs.Tables.{nameIn, protocolIn, flowIn, bare, modified, slotOf, noSlot, slotsIn, bytesIn, tableOf, Kind, unused, addressed, patterned, plainTest, kindOf, slotsOf, patternFirst, patternsOf, behindItem}
+use Rattle.definitions.specs.Tables.{nameIn, protocolIn, flowIn, bare, modified, slotOf, noSlot, slotsIn, bytesIn, tableOf}
+use Rattle.definitions.specs.Items.{Kind, unused, addressed, patterned, plainTest, kindOf, slotsOf, patternFirst, patternsOf, behindItem}
 use Rattle.definitions.specs.House.{flowEntry, itemEntries, slotEntries, houseEntries}
 use Rattle.definitions.specs.WellFormed.{Shaped, addressesFit, itemFits, slotFits, bytesOf, wellFormed}
 use Rattle.roundtrip.proofs.Alls.{all-head, all-tail, all-take}

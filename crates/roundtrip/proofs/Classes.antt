@@ -12,7 +12,7 @@ use Rattle.forms.specs.Form.{Class, has, Form, tell, byte, pair, alt, star, mad
 use Rattle.forms.proofs.Bools.{by-cases, both-left, both-right}
 use Rattle.forms.proofs.Sound.{never}
 use Rattle.definitions.specs.Lists.{all?}
-use Rattle.definitions.specs.Reading.{printable}
+use Rattle.definitions.specs.Options.{printable}
 use Rattle.roundtrip.proofs.Alls.{both, all-none, all-more, all-append}
 
 pub record Inside (low high b : ℕ) : Type 0 where

@@ -19,7 +19,7 @@ use Rattle.definitions.specs.Limits.{nameMost, byteMost, wordMost}
 use Rattle.definitions.specs.Lists.{all?, none?}
 use Rattle.definitions.specs.Entries.{Modifier, Context, NoCase, Distance, Within, Entry, Name, Protocol, Flow, Test, Pattern, Modified}
 use Rattle.definitions.specs.Forms.{quotable}
-use Rattle.definitions.specs.Tables.{Kind, unused, addressed, patterned, plainTest, kindOf}
+use Rattle.definitions.specs.Items.{Kind, unused, addressed, patterned, plainTest, kindOf}
 use Rattle.definitions.specs.References.{sameReference}
 use Rattle.definitions.specs.WellFormed.{addressFits, itemFits}
 

@@ -18,10 +18,10 @@ use Rattle.definitions.specs.Limits.{nameMost, itemsMost, byteMost, testsMost, 
 use Rattle.definitions.specs.Lists.{all?, keep, count, padded}
 use Rattle.definitions.specs.Entries.{Entry, Name, Protocol, Flow, Test, Pattern, Modified}
 use Rattle.definitions.specs.Forms.{quotable}
-use Rattle.definitions.specs.Tables.{nameIn, protocolIn, noSlot, slotsIn, bytesIn, tableOf, patternsOf}
-use Rattle.definitions.specs.References.{usableRun}
+use Rattle.definitions.specs.Tables.{nameIn, protocolIn, noSlot, slotsIn, bytesIn, tableOf}
+use Rattle.definitions.specs.Items.{patternsOf}
+use Rattle.definitions.specs.References.{usableRun, usableIn}
 use Rattle.definitions.specs.Standing.{sameKind, isPattern, missing}
-use Rattle.definitions.specs.Reading.{usableIn}
 use Rattle.definitions.specs.Grammar.{OptionsText, close, space, Standing}
 use Rattle.definitions.specs.WellFormed.{isZero, nameFits, slotUnused, itemsFit, bytesOf, bytesFit, wellFormed}
 use Rattle.syntax.proofs.Counting.{testOnly, patterns-counted}

@@ -14,10 +14,11 @@ use Rattle.definitions.specs.declared.table.Table.{Table}
 use Rattle.definitions.specs.declared.packet.Last.the-variants.{Nothing}
 use Rattle.definitions.specs.Lists.{all?, keep, count}
 use Rattle.definitions.specs.Entries.{Entry}
-use Rattle.definitions.specs.Tables.{slotsOf, patternsOf}
+use Rattle.definitions.specs.Items.{slotsOf, patternsOf}
 use Rattle.definitions.specs.References.{usableRun}
 use Rattle.definitions.specs.Standing.{isTest, isPattern, missing}
-use Rattle.definitions.specs.Reading.{printable, opening, acceptedReading, readUnbounded}
+use Rattle.definitions.specs.Reading.{acceptedReading, readUnbounded}
+use Rattle.definitions.specs.Options.{printable, opening}
 use Rattle.definitions.specs.Grammar.{OptionsText, close, space, Derives}
 use Rattle.definitions.specs.WellFormed.{Shaped, Readable, wellFormed}
 use Rattle.definitions.specs.House.{entryText, entriesText, houseEntries, houseText}

@@ -12,7 +12,7 @@ use Rattle.definitions.specs.declared.packet.Last.the-variants.{Nothing}
 use Rattle.definitions.specs.Limits.{nameMost, patternsMost, testsMost, itemsMost, byteMost}
 use Rattle.definitions.specs.Lists.{all?}
 use Rattle.definitions.specs.Forms.{quotable}
-use Rattle.definitions.specs.Tables.{patternsOf, slotsOf}
+use Rattle.definitions.specs.Items.{patternsOf, slotsOf}
 use Rattle.definitions.specs.References.{usableRun}
 use Rattle.definitions.specs.WellFormed.{isZero, nameFits, slotFits, slotUnused, patternCount, itemsFit, bytesOf, bytesFit, wellFormed}
 use Rattle.roundtrip.proofs.Alls.{halves}

@@ -12,8 +12,7 @@ use Rattle.forms.proofs.Bools.{by-cases}
 use Rattle.forms.proofs.Sound.{never}
 use Rattle.definitions.specs.Lists.{all?}
 use Rattle.definitions.specs.Entries.{Entry}
-use Rattle.definitions.specs.Options.{Option, optionTable}
-use Rattle.definitions.specs.Reading.{printable}
+use Rattle.definitions.specs.Options.{Option, optionTable, printable}
 use Rattle.definitions.specs.Grammar.{OptionText, option, OptionsText, close, space}
 use Rattle.syntax.proofs.Rows.{allRows, each-row}
 use Rattle.roundtrip.proofs.Alls.{halves, all-none, all-more, all-head, all-tail, all-append}

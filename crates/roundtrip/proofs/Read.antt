@@ -15,7 +15,8 @@ use Rattle.definitions.specs.declared.table.Table.{Table}
 use Rattle.definitions.specs.Limits.{Limits}
 use Rattle.definitions.specs.Lists.{all?}
 use Rattle.definitions.specs.Tables.{nameIn, slotsIn, bytesIn, tableOf}
-use Rattle.definitions.specs.Reading.{acceptedReading, opening, readUnbounded, read}
+use Rattle.definitions.specs.Reading.{acceptedReading, readUnbounded, read}
+use Rattle.definitions.specs.Options.{opening}
 use Rattle.definitions.specs.Grammar.{Derives}
 use Rattle.definitions.specs.WellFormed.{Shaped, wellFormed}
 use Rattle.laws.proofs.Refusing.{EmptyOrAccepted, unbounded-empty}

@@ -14,7 +14,8 @@ use Rattle.definitions.specs.declared.table.Address.{Address}
 use Rattle.definitions.specs.declared.table.Slot.{Slot}
 use Rattle.definitions.specs.Limits.{addressesMost}
 use Rattle.definitions.specs.Lists.{all?, padded}
-use Rattle.definitions.specs.Tables.{kindOf, noAddress, noSlot}
+use Rattle.definitions.specs.Tables.{noAddress, noSlot}
+use Rattle.definitions.specs.Items.{kindOf}
 use Rattle.definitions.specs.WellFormed.{isZero, addressFits, addressUnused, addressesFit, isUnused, slotUnused}
 use Rattle.roundtrip.proofs.Alls.{halves, all-head, all-tail, all-drop, all-both}
 use Rattle.roundtrip.proofs.Shape.{wholeSlot}

@@ -18,7 +18,8 @@ use Rattle.definitions.specs.declared.table.Pattern as patterns
 use Rattle.definitions.specs.Limits.{addressesMost}
 use Rattle.definitions.specs.Lists.{all?, none?, padded}
 use Rattle.definitions.specs.Entries.{Modifier, Context, NoCase, Distance, Within, Entry, Name, Protocol, Flow, Test, Pattern, Modified}
-use Rattle.definitions.specs.Tables.{kindOf, bare, with, modified, noAddress, slotOf, slotsIn, bytesIn, patternsOf}
+use Rattle.definitions.specs.Tables.{bare, with, modified, noAddress, slotOf, slotsIn, bytesIn}
+use Rattle.definitions.specs.Items.{kindOf, patternsOf}
 use Rattle.definitions.specs.WellFormed.{addressFits, addressUnused, distanceFits, withinFits, itemFits, addressesFit, slotFits, bytesOf}
 use Rattle.syntax.proofs.Counting.{testOnly, skipped}
 use Rattle.roundtrip.proofs.Alls.{both, all-none, all-more, all-head, all-tail, all-append, all-replicate}

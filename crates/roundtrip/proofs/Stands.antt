@@ -25,7 +25,7 @@ use Rattle.definitions.specs.declared.answers.Due.the-variants.{Fine}
 use Rattle.definitions.specs.Limits.{patternsMost, testsMost, addressesMost}
 use Rattle.definitions.specs.Lists.{all?, any?, keep, count}
 use Rattle.definitions.specs.Entries.{Modifier, Context, NoCase, Distance, Within, Entry, Name, Protocol, Flow, Test, Pattern, Modified}
-use Rattle.definitions.specs.Tables.{Kind, unused, addressed, patterned, plainTest, kindOf, slotsOf, behindItem}
+use Rattle.definitions.specs.Items.{Kind, unused, addressed, patterned, plainTest, kindOf, slotsOf, behindItem}
 use Rattle.definitions.specs.Standing.{isTest, isPattern, modifierNumber, sameModifier, latest, dueFor}
 use Rattle.definitions.specs.House.{flowEntry, contextEntry, noCaseEntry, distanceEntry, withinEntry, itemEntries, slotEntries, houseEntries}
 use Rattle.definitions.specs.Grammar.{Standing, none}

@@ -31,7 +31,7 @@ use Rattle.definitions.specs.Limits.{nameMost, byteMost, addressesMost}
 use Rattle.definitions.specs.Lists.{all?}
 use Rattle.definitions.specs.Entries.{Context, Distance, Entry, Name, Protocol, Flow, Test, Pattern}
 use Rattle.definitions.specs.Forms.{test}
-use Rattle.definitions.specs.Tables.{Kind, unused, addressed, patterned, plainTest, kindOf, slotsOf, patternFirst, patternsOf, behindItem}
+use Rattle.definitions.specs.Items.{Kind, unused, addressed, patterned, plainTest, kindOf, slotsOf, patternFirst, patternsOf, behindItem}
 use Rattle.definitions.specs.References.{lastAfter, sameReference, referenceUsable, reverseUsable, distanceUsable, withinUsable, referencesAlike, usable, usableRun}
 use Rattle.definitions.specs.House.{flowEntry, itemEntries, slotEntries, houseEntries}
 use Rattle.definitions.specs.WellFormed.{Shaped, isZero, addressFits, addressUnused, distanceFits, withinFits, itemFits, addressesFit, slotFits, wellFormed}

@@ -39,7 +39,7 @@ use Rattle.definitions.specs.Lists.{none?}
 use Rattle.definitions.specs.Entries.{Context, NoCase, Distance, Within, Entry, Name, Protocol, Flow, Test, Pattern, Modified}
 use Rattle.definitions.specs.Numbers.{number, numeral}
 use Rattle.definitions.specs.Forms.{quotable, spaces, comma, negation, addressTest, test, lessOrGreater, comparison, fieldMost, numberMost, referenceWord, signed}
-use Rattle.definitions.specs.Tables.{addressed, kindOf}
+use Rattle.definitions.specs.Items.{addressed, kindOf}
 use Rattle.definitions.specs.References.{sameReference}
 use Rattle.definitions.specs.House.{decimal, textIf, negatedText, orderText, operatorText, fieldText, sizeFieldText, contextText, referenceText, testText, modifierText, entryText}
 use Rattle.definitions.specs.WellFormed.{itemFits}

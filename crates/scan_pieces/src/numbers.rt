@@ -13,10 +13,10 @@ ghost use Rattle.scan_cursors.specs.declared.Cursor.the-variants.{Going};
 ghost use Rattle.scan_pieces.specs.Digits.{digitsWithin};
 use crate::signs::stands;
 use crate::signs::starts;
-use scan_cursors::Cursor;
 use scan::bytes::Class;
 use scan::numbers::value_of;
 use scan::runs::run_of;
+use scan_cursors::Cursor;
 
 // A number, which is never beyond its limit: it is 0 where one stood there that is.
 pub struct Numeric {

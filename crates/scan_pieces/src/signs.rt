@@ -10,10 +10,10 @@ ghost use Rattle.definitions.specs.Forms.{spaces, gap};
 ghost use Rattle.scan.specs.Classes.{caseClass};
 ghost use Rattle.scan_cursors.specs.Reads.{Reads, Skips};
 ghost use Rattle.scan_cursors.specs.declared.Cursor.the-variants.{Going};
-use scan_cursors::Cursor;
 use scan::bytes::Class;
 use scan::bytes::in_case;
 use scan::runs::run_of;
+use scan_cursors::Cursor;
 
 // Whether the byte stands at the place.
 pub fn stands(s: &[u8], at: usize, b: u8) -> bool

@@ -18,7 +18,7 @@ use Rattle.definitions.specs.declared.packet.Direction.{Direction}
 use Rattle.definitions.specs.declared.packet.Last.the-variants.{Nothing}
 use Rattle.definitions.specs.Limits.{itemsMost, patternsMost, byteMost}
 use Rattle.definitions.specs.Lists.{keep, all?}
-use Rattle.definitions.specs.Tables.{Kind, unused, addressed, patterned, plainTest, kindOf, slotsOf, patternFirst, patternsOf, behindItem}
+use Rattle.definitions.specs.Items.{Kind, unused, addressed, patterned, plainTest, kindOf, slotsOf, patternFirst, patternsOf, behindItem}
 use Rattle.definitions.specs.WellFormed.{nameFits, slotFits, slotUnused, patternCount, itemsFit, bytesOf, bytesFit, wellFormed}
 use Rattle.definitions.specs.Fields.{View}
 use Rattle.definitions.specs.Placements.{wantedBy, wanted, itemsOf, positiveIn, positives, placements, headHolds, listed}

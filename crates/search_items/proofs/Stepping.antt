@@ -20,7 +20,7 @@ use Rattle.definitions.specs.declared.packet.Last.{Last}
 use Rattle.definitions.specs.declared.packet.Placement.{Placement}
 use Rattle.definitions.specs.References.{lastAfter}
 use Rattle.definitions.specs.Windows.{lastEnd}
-use Rattle.definitions.specs.Tables.{Kind, patternFirst, patternsOf, behindItem}
+use Rattle.definitions.specs.Items.{Kind, patternFirst, patternsOf, behindItem}
 use Rattle.definitions.specs.WellFormed.{bytesOf}
 use Rattle.definitions.specs.Fields.{View}
 use Rattle.definitions.specs.Tests.{testHolds}

@@ -19,10 +19,10 @@ use Rattle.definitions.specs.Lists.{all?, keep, count}
 use Rattle.definitions.specs.Entries.{Entry, Name, Protocol, Flow, Test, Pattern, Modified}
 use Rattle.definitions.specs.Forms.{valued, closed}
 use Rattle.definitions.specs.Options.{Option, optionTable}
-use Rattle.definitions.specs.Tables.{Kind, unused, addressed, patterned, plainTest, kindOf, slotsIn, patternFirst, patternsOf}
-use Rattle.definitions.specs.References.{lastAfter, usable, usableRun}
+use Rattle.definitions.specs.Tables.{slotsIn}
+use Rattle.definitions.specs.Items.{Kind, unused, addressed, patterned, plainTest, kindOf, patternFirst, patternsOf}
+use Rattle.definitions.specs.References.{lastAfter, usable, usableRun, usableIn}
 use Rattle.definitions.specs.Standing.{isPattern}
-use Rattle.definitions.specs.Reading.{usableIn}
 use Rattle.definitions.specs.Grammar.{OptionText, option, OptionsText, close, space}
 
 -- ---- a test's item is no pattern

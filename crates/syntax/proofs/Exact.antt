@@ -19,7 +19,9 @@ use Rattle.definitions.specs.Lists.{none?, all?, count, sameBytes}
 use Rattle.definitions.specs.Entries.{Entry}
 use Rattle.definitions.specs.Tables.{tableOf}
 use Rattle.definitions.specs.Standing.{isPattern, missing}
-use Rattle.definitions.specs.Reading.{Said, entriesOf, Options, ended, refused, options, usableIn, patternDash, refusedReading, acceptedReading, judged, finished, printable, opening, readUnbounded, read}
+use Rattle.definitions.specs.Reading.{Said, entriesOf, Options, ended, refused, options, patternDash, refusedReading, acceptedReading, judged, finished, readUnbounded, read}
+use Rattle.definitions.specs.Options.{printable, opening}
+use Rattle.definitions.specs.References.{usableIn}
 use Rattle.definitions.specs.Grammar.{Derives}
 use Rattle.syntax.proofs.Truths.{cases, impossible}
 use Rattle.syntax.proofs.Frame.{printed-exactly, opened-exactly}

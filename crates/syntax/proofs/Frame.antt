@@ -14,7 +14,7 @@ use Rattle.forms.specs.Bytes.{run}
 use Rattle.forms.proofs.Bools.{by-cases, both-left, both-right}
 use Rattle.forms.proofs.Sound.{never}
 use Rattle.definitions.specs.Lists.{all?, sameBytes}
-use Rattle.definitions.specs.Reading.{printable, opening}
+use Rattle.definitions.specs.Options.{printable, opening}
 
 -- ---- places
 

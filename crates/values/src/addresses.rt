@@ -9,12 +9,12 @@ ghost use Rattle.definitions.specs.Tables.{noAddress};
 ghost use Rattle.definitions.specs.Forms.{addresses};
 ghost use Rattle.values.specs.Listing.{listed, goesAt, Lists};
 use crate::dotted::address_at;
-use scan_cursors::Cursor;
-use scan_cursors::join;
-use scan_cursors::place;
 use definitions::limits::ADDRESSES;
 use definitions::table::Address;
 use entry::no_addresses;
+use scan_cursors::Cursor;
+use scan_cursors::join;
+use scan_cursors::place;
 use scan_pieces::signs::sign_at;
 use scan_pieces::signs::stands;
 

@@ -11,15 +11,15 @@ ghost use Rattle.entry.specs.Values.{appended};
 ghost use Rattle.scan_cursors.specs.Reads.{Reads};
 ghost use Rattle.scan_cursors.specs.declared.Cursor.the-variants.{Going};
 ghost use Rattle.values.specs.Storing.{pairs, Ready, Stores};
-use scan_cursors::Cursor;
-use scan_cursors::join;
-use scan_cursors::place;
 use entry::Room;
-use scan_pieces::signs::sign_at;
-use scan_pieces::signs::spaces_at;
 use scan::bytes::Class;
 use scan::bytes::in_class;
 use scan::numbers::value_of;
+use scan_cursors::Cursor;
+use scan_cursors::join;
+use scan_cursors::place;
+use scan_pieces::signs::sign_at;
+use scan_pieces::signs::spaces_at;
 
 pub struct BytesAt {
     pub room: Room,

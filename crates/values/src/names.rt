@@ -5,13 +5,13 @@ ghost use lib.ListN.{length};
 ghost use lib.Dec.{leb};
 ghost use Rattle.definitions.specs.Limits.{nameMost};
 ghost use Rattle.values.specs.Quoting.{passedBy, limitedBy, Quoted, NameRead};
+use definitions::limits::NAME_BYTES;
+use scan::bytes::Class;
+use scan::runs::run_of;
 use scan_cursors::Cursor;
 use scan_cursors::join;
 use scan_cursors::place;
-use definitions::limits::NAME_BYTES;
 use scan_pieces::signs::sign_at;
-use scan::bytes::Class;
-use scan::runs::run_of;
 
 // A name is told by its first byte's place in the text and its length.
 pub struct NameAt {

@@ -7,13 +7,13 @@ ghost use Rattle.values.specs.Storing.{element, Ready, Stores, PatternRe
 use crate::blocks::BytesAt;
 use crate::blocks::block_at;
 use crate::blocks::put;
+use entry::Room;
+use scan::bytes::is_plain;
 use scan_cursors::Cursor;
 use scan_cursors::join;
 use scan_cursors::place;
-use entry::Room;
 use scan_pieces::signs::sign_at;
 use scan_pieces::signs::stands;
-use scan::bytes::is_plain;
 
 fn is_plain_at(s: &[u8], at: usize) -> bool
     ensures { λ r. ⌜ r ≡ begins plainBytes (drop at (now (s .entry))) ⌝ }

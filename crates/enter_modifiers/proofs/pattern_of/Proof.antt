@@ -1,6 +1,7 @@
 -- A pattern is the one matched; any other item is of one of three kinds, at which the definition has the bare pattern.
 use mathlib.Core.Path.{_≡_, refl, _∙_}
-use Rattle.definitions.specs.Tables.{Kind, bare}
+use Rattle.definitions.specs.Tables.{bare}
+use Rattle.definitions.specs.Items.{Kind}
 use mathlib.Core.Bool.{false}
 use Rattle.references.proofs.OtherItems.{other-kind}
 use Rattle.enter_modifiers.specs.Modifying.{patternOf, patternIn}

@@ -7,7 +7,7 @@ use lib.ListN.{length, take, drop, getD}
 use borrow.Rule.Slice.PartAt.{part-to-end}
 use Rattle.definitions.specs.declared.table.Item.the-variants as item
 use Rattle.definitions.specs.Limits.{itemsMost}
-use Rattle.definitions.specs.Tables.{kindOf, behindItem}
+use Rattle.definitions.specs.Items.{kindOf, behindItem}
 use Rattle.definitions.specs.House.{itemEntries, slotEntries, entriesText}
 use Rattle.output.specs.Puts.{puts}
 use Rattle.output.proofs.Putting.{onward, told, same-length as same}

@@ -1,7 +1,7 @@
 -- An item that is no address test is of one of three kinds, which have no addresses.
 use mathlib.Core.Path.{_≡_, refl}
 use borrow.Author.Needs.{needs}
-use Rattle.definitions.specs.Tables.{Kind}
+use Rattle.definitions.specs.Items.{Kind}
 use Rattle.definitions.specs.WellFormed.{addressCount}
 use Rattle.formed_slots.proofs.ByKind.{no-address}
 use Rattle.formed_slots.proofs.address_count.Statement.{statement}

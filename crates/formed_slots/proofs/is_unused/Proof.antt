@@ -2,7 +2,7 @@
 use mathlib.Core.Path.{_≡_, refl}
 use mathlib.Core.Bool.{false}
 use borrow.Author.Needs.{needs}
-use Rattle.definitions.specs.Tables.{Kind}
+use Rattle.definitions.specs.Items.{Kind}
 use Rattle.definitions.specs.WellFormed.{isUnused}
 use Rattle.formed_slots.proofs.ByKind.{in-use}
 use Rattle.formed_slots.proofs.is_unused.Statement.{statement}

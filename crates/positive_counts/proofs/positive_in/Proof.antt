@@ -1,7 +1,7 @@
 -- Each return rewrites with the tests that led there; an item that is no pattern is of one of three kinds, which are not positive.
 use mathlib.Core.Path.{_≡_, refl}
 use Prim.Native.Nat.{ℕ}
-use Rattle.definitions.specs.Tables.{Kind}
+use Rattle.definitions.specs.Items.{Kind}
 use Rattle.definitions.specs.Placements.{wantedBy, positiveIn}
 use Rattle.references.proofs.OtherItems.{other-kind}
 use Rattle.positive_counts.proofs.positive_in.Statement.{statement}

@@ -4,7 +4,7 @@ use native.Mathlib.Nat.{zero-add}
 use Prim.Native.Nat.{ℕ}
 use Rattle.forms.specs.Form.{has}
 use Rattle.forms.proofs.Bools.{or-false}
-use Rattle.definitions.specs.Reading.{printable}
+use Rattle.definitions.specs.Options.{printable}
 use Rattle.scan.specs.Classes.{classOf}
 use Rattle.scan.specs.declared.bytes.Class.the-variants.{Printable}
 use Rattle.scan.proofs.Running.{run-same}

@@ -5,7 +5,7 @@ use native.Mathlib.Omega.{arith}
 use lib.ListN.{length, take, drop}
 use lib.Dec.{eqb}
 use borrow.Author.Needs.{needs}
-use Rattle.definitions.specs.Tables.{patternsOf}
+use Rattle.definitions.specs.Items.{patternsOf}
 use Rattle.definitions.specs.WellFormed.{bytesOf}
 use Rattle.formed_slots.proofs.Adding.{bytes-short, bytes-less, bytes-out}
 use Rattle.formed_slots.proofs.patterns.bytes_are.Statement.{statement}

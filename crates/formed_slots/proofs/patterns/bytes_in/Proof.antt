@@ -2,7 +2,7 @@
 use mathlib.Core.Path.{_≡_, refl}
 use native.Mathlib.Nat.{add-zero}
 use borrow.Author.Needs.{needs}
-use Rattle.definitions.specs.Tables.{Kind, patternFirst}
+use Rattle.definitions.specs.Items.{Kind, patternFirst}
 use Rattle.definitions.specs.WellFormed.{bytesOf}
 use Rattle.references.proofs.OtherItems.{other-kind}
 use mathlib.Core.List.{[]}

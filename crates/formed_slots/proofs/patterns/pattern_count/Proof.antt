@@ -5,7 +5,7 @@ use native.Mathlib.Omega.{arith}
 use native.Mathlib.Nat.{zero-add}
 use lib.ListN.{length, take, drop}
 use borrow.Author.Needs.{needs}
-use Rattle.definitions.specs.Tables.{patternsOf}
+use Rattle.definitions.specs.Items.{patternsOf}
 use Rattle.formed_slots.proofs.Adding.{count-one, count-on, count-out}
 use Rattle.formed_slots.proofs.patterns.pattern_count.Statement.{statement}
 use Rattle.formed_slots.proofs.patterns.pattern_count.Tie as tie

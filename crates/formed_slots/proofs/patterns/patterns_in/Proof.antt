@@ -2,7 +2,7 @@
 use mathlib.Core.Path.{_≡_, refl}
 use lib.ListN.{length}
 use borrow.Author.Needs.{needs}
-use Rattle.definitions.specs.Tables.{Kind, patternFirst}
+use Rattle.definitions.specs.Items.{Kind, patternFirst}
 use Rattle.references.proofs.OtherItems.{other-kind}
 use mathlib.Core.List.{[]}
 use Rattle.formed_slots.proofs.patterns.patterns_in.Statement.{statement}

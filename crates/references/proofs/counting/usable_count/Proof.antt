@@ -6,7 +6,7 @@ use borrow.Author.Needs.{needs}
 use lib.ListN.{length, take, drop}
 use Rattle.definitions.specs.declared.packet.Last.the-variants.{Nothing}
 use Rattle.definitions.specs.References.{usableRun}
-use Rattle.definitions.specs.Tables.{patternsOf}
+use Rattle.definitions.specs.Items.{patternsOf}
 use Rattle.references.specs.Counting.{toCome}
 use Rattle.references.proofs.ToCome.{none-passed, slot-on, slots-end, past-count}
 use Rattle.references.proofs.counting.usable_count.Statement.{statement}
