@@ -10,7 +10,7 @@ unfolding patternEntered
 returns c = simp (le-leb _ _ (c .if1 .taken))
 
 bare-pattern-requires : tie.Need-bare-pattern-requires
-bare-pattern-requires c κs = search needs
+bare-pattern-requires c κs = tt
 
 with-slot-requires : tie.Need-with-slot-requires
 with-slot-requires c κs = search needs

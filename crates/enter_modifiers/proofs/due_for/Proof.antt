@@ -7,7 +7,7 @@ returns : tie.Need-returns
 returns c = simp (c .if1 .taken)
 
 due-again-requires : tie.Need-due-again-requires
-due-again-requires c κs = search needs
+due-again-requires c κs = tt
 
 returns-2 : tie.Need-returns-2
 returns-2 c = search needs

@@ -5,7 +5,7 @@ use Rattle.enter_modifiers.proofs.enter_modifier.Statement.{statement}
 use Rattle.enter_modifiers.proofs.enter_modifier.Tie as tie
 
 due-for-requires : tie.Need-due-for-requires
-due-for-requires c κs = search needs
+due-for-requires c κs = tt
 
 last-slot-requires : tie.Need-last-slot-requires
 last-slot-requires c κs = search needs

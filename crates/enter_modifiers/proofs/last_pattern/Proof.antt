@@ -7,7 +7,7 @@ last-slot-requires : tie.Need-last-slot-requires
 last-slot-requires c κs = search needs
 
 pattern-of-requires : tie.Need-pattern-of-requires
-pattern-of-requires c κs = search needs
+pattern-of-requires c κs = tt
 
 returns : tie.Need-returns
 returns c = simp (c .pattern-of .ensures, c .before .last-slot .ensures)

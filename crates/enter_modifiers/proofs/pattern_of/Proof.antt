@@ -13,7 +13,7 @@ enum-known-item : tie.Need-enum-known-item
 enum-known-item c = search needs
 
 bare-pattern-requires : tie.Need-bare-pattern-requires
-bare-pattern-requires c κs = search needs
+bare-pattern-requires c κs = tt
 
 returns : tie.Need-returns
 unfolding patternOf

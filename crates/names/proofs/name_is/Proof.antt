@@ -1,5 +1,5 @@
 use Prim.Native.Nat.{_≤_}
-use mathlib.Core.Path.{_≡_}
+use mathlib.Core.Path.{_≡_, refl}
 use native.Mathlib.Omega.{arith}
 use Rattle.names.specs.Names.{optionNames, namesOf}
 use Rattle.definitions.specs.Options.{optionTable}
@@ -9,133 +9,133 @@ use Rattle.names.proofs.name_is.Statement.{statement}
 use Rattle.names.proofs.name_is.Tie as tie
 
 slice-aggregate-same-word : tie.Need-slice-aggregate-same-word
-slice-aggregate-same-word c = search needs
+slice-aggregate-same-word c = refl
 
 same-word-requires : tie.Need-same-word-requires
 same-word-requires c κs = search needs
 
 slice-aggregate-same-word-2 : tie.Need-slice-aggregate-same-word-2
-slice-aggregate-same-word-2 c = search needs
+slice-aggregate-same-word-2 c = refl
 
 same-word-requires-2 : tie.Need-same-word-requires-2
 same-word-requires-2 c κs = search needs
 
 slice-aggregate-same-word-3 : tie.Need-slice-aggregate-same-word-3
-slice-aggregate-same-word-3 c = search needs
+slice-aggregate-same-word-3 c = refl
 
 same-word-requires-3 : tie.Need-same-word-requires-3
 same-word-requires-3 c κs = search needs
 
 slice-aggregate-same-word-4 : tie.Need-slice-aggregate-same-word-4
-slice-aggregate-same-word-4 c = search needs
+slice-aggregate-same-word-4 c = refl
 
 same-word-requires-4 : tie.Need-same-word-requires-4
 same-word-requires-4 c κs = search needs
 
 slice-aggregate-same-word-5 : tie.Need-slice-aggregate-same-word-5
-slice-aggregate-same-word-5 c = search needs
+slice-aggregate-same-word-5 c = refl
 
 same-word-requires-5 : tie.Need-same-word-requires-5
 same-word-requires-5 c κs = search needs
 
 slice-aggregate-same-word-6 : tie.Need-slice-aggregate-same-word-6
-slice-aggregate-same-word-6 c = search needs
+slice-aggregate-same-word-6 c = refl
 
 same-word-requires-6 : tie.Need-same-word-requires-6
 same-word-requires-6 c κs = search needs
 
 slice-aggregate-same-word-7 : tie.Need-slice-aggregate-same-word-7
-slice-aggregate-same-word-7 c = search needs
+slice-aggregate-same-word-7 c = refl
 
 same-word-requires-7 : tie.Need-same-word-requires-7
 same-word-requires-7 c κs = search needs
 
 slice-aggregate-same-word-8 : tie.Need-slice-aggregate-same-word-8
-slice-aggregate-same-word-8 c = search needs
+slice-aggregate-same-word-8 c = refl
 
 same-word-requires-8 : tie.Need-same-word-requires-8
 same-word-requires-8 c κs = search needs
 
 slice-aggregate-same-word-9 : tie.Need-slice-aggregate-same-word-9
-slice-aggregate-same-word-9 c = search needs
+slice-aggregate-same-word-9 c = refl
 
 same-word-requires-9 : tie.Need-same-word-requires-9
 same-word-requires-9 c κs = search needs
 
 slice-aggregate-same-word-10 : tie.Need-slice-aggregate-same-word-10
-slice-aggregate-same-word-10 c = search needs
+slice-aggregate-same-word-10 c = refl
 
 same-word-requires-10 : tie.Need-same-word-requires-10
 same-word-requires-10 c κs = search needs
 
 slice-aggregate-same-word-11 : tie.Need-slice-aggregate-same-word-11
-slice-aggregate-same-word-11 c = search needs
+slice-aggregate-same-word-11 c = refl
 
 same-word-requires-11 : tie.Need-same-word-requires-11
 same-word-requires-11 c κs = search needs
 
 slice-aggregate-same-word-12 : tie.Need-slice-aggregate-same-word-12
-slice-aggregate-same-word-12 c = search needs
+slice-aggregate-same-word-12 c = refl
 
 same-word-requires-12 : tie.Need-same-word-requires-12
 same-word-requires-12 c κs = search needs
 
 slice-aggregate-same-word-13 : tie.Need-slice-aggregate-same-word-13
-slice-aggregate-same-word-13 c = search needs
+slice-aggregate-same-word-13 c = refl
 
 same-word-requires-13 : tie.Need-same-word-requires-13
 same-word-requires-13 c κs = search needs
 
 slice-aggregate-same-word-14 : tie.Need-slice-aggregate-same-word-14
-slice-aggregate-same-word-14 c = search needs
+slice-aggregate-same-word-14 c = refl
 
 same-word-requires-14 : tie.Need-same-word-requires-14
 same-word-requires-14 c κs = search needs
 
 slice-aggregate-same-word-15 : tie.Need-slice-aggregate-same-word-15
-slice-aggregate-same-word-15 c = search needs
+slice-aggregate-same-word-15 c = refl
 
 same-word-requires-15 : tie.Need-same-word-requires-15
 same-word-requires-15 c κs = search needs
 
 slice-aggregate-same-word-16 : tie.Need-slice-aggregate-same-word-16
-slice-aggregate-same-word-16 c = search needs
+slice-aggregate-same-word-16 c = refl
 
 same-word-requires-16 : tie.Need-same-word-requires-16
 same-word-requires-16 c κs = search needs
 
 slice-aggregate-same-word-17 : tie.Need-slice-aggregate-same-word-17
-slice-aggregate-same-word-17 c = search needs
+slice-aggregate-same-word-17 c = refl
 
 same-word-requires-17 : tie.Need-same-word-requires-17
 same-word-requires-17 c κs = search needs
 
 slice-aggregate-same-word-18 : tie.Need-slice-aggregate-same-word-18
-slice-aggregate-same-word-18 c = search needs
+slice-aggregate-same-word-18 c = refl
 
 same-word-requires-18 : tie.Need-same-word-requires-18
 same-word-requires-18 c κs = search needs
 
 slice-aggregate-same-word-19 : tie.Need-slice-aggregate-same-word-19
-slice-aggregate-same-word-19 c = search needs
+slice-aggregate-same-word-19 c = refl
 
 same-word-requires-19 : tie.Need-same-word-requires-19
 same-word-requires-19 c κs = search needs
 
 slice-aggregate-same-word-20 : tie.Need-slice-aggregate-same-word-20
-slice-aggregate-same-word-20 c = search needs
+slice-aggregate-same-word-20 c = refl
 
 same-word-requires-20 : tie.Need-same-word-requires-20
 same-word-requires-20 c κs = search needs
 
 slice-aggregate-same-word-21 : tie.Need-slice-aggregate-same-word-21
-slice-aggregate-same-word-21 c = search needs
+slice-aggregate-same-word-21 c = refl
 
 same-word-requires-21 : tie.Need-same-word-requires-21
 same-word-requires-21 c κs = search needs
 
 slice-aggregate-same-word-22 : tie.Need-slice-aggregate-same-word-22
-slice-aggregate-same-word-22 c = search needs
+slice-aggregate-same-word-22 c = refl
 
 same-word-requires-22 : tie.Need-same-word-requires-22
 same-word-requires-22 c κs = search needs

@@ -2,7 +2,6 @@ use Rattle.forms.specs.Bytes.{lower}
 use mathlib.Core.Path.{_≡_, refl, sym, ap, _∙_}
 use native.Mathlib.Omega.{arith}
 use Prim.Native.Nat.{_-_}
-use borrow.Author.Needs.{needs}
 use lib.ListN.{length, take, drop}
 use Rattle.names.proofs.Same.{other-length, Still, letters-on, letters-off, letters-out, part-length, part-at}
 use Rattle.names.proofs.same_word.Statement.{statement}
@@ -30,7 +29,7 @@ shared-slice-read-b : tie.Need-shared-slice-read-b Inv-loop μ-loop
 shared-slice-read-b c = let p = c .before .before .before .before .before .before .pre in let q = c .before .before .loop .inv .1 in omega arith
 
 lower-of-requires : tie.Need-lower-of-requires Inv-loop μ-loop
-lower-of-requires c κs = search needs
+lower-of-requires c κs = tt
 
 shared-slice-read-if2 : tie.Need-shared-slice-read-if2 Inv-loop μ-loop
 shared-slice-read-if2 c = omega arith

@@ -8,7 +8,7 @@ use Rattle.option_operators.proofs.comparison_at.Statement.{statement}
 use Rattle.option_operators.proofs.comparison_at.Tie as tie
 
 stands-requires : tie.Need-stands-requires
-stands-requires c κs = search needs
+stands-requires c κs = tt
 
 add-t5 : tie.Need-add-t5
 add-t5 c = omega (arith, behind-in 61 (c .before .before .before .args .s .now) (c .before .before .before .args .at) (sym (c .before .stands .ensures) ∙ c .if1 .taken))
@@ -17,7 +17,7 @@ returns : tie.Need-returns
 returns c = is-equal _ _ (sym (c .before .stands .ensures) ∙ c .if1 .taken)
 
 stands-requires-2 : tie.Need-stands-requires-2
-stands-requires-2 c κs = search needs
+stands-requires-2 c κs = tt
 
 add-sign-at : tie.Need-add-sign-at
 add-sign-at c = omega (arith, behind-in 33 (c .before .before .before .before .before .args .s .now) (c .before .before .before .before .before .args .at) (sym (c .before .stands2 .ensures) ∙ c .if2 .taken))
@@ -29,13 +29,13 @@ returns-2 : tie.Need-returns-2
 returns-2 c = is-unequal _ _ (sym (c .before .before .before .before .stands .ensures) ∙ c .before .before .before .if1 .left) (sym (c .before .before .stands2 .ensures) ∙ c .before .if2 .taken) (c .sign-at .ensures)
 
 stands-requires-3 : tie.Need-stands-requires-3
-stands-requires-3 c κs = search needs
+stands-requires-3 c κs = tt
 
 add-stands : tie.Need-add-stands
 add-stands c = omega (arith, behind-in 60 (c .before .before .before .before .before .before .before .args .s .now) (c .before .before .before .before .before .before .before .args .at) (sym (c .before .stands3 .ensures) ∙ c .if3 .taken))
 
 stands-requires-4 : tie.Need-stands-requires-4
-stands-requires-4 c κs = search needs
+stands-requires-4 c κs = tt
 
 add-t15 : tie.Need-add-t15
 add-t15 c = omega (arith, behind-in 60 (c .before .before .before .before .before .before .before .before .before .args .s .now) (c .before .before .before .before .before .before .before .before .before .args .at) (sym (c .before .before .before .stands3 .ensures) ∙ c .before .before .if3 .taken))

@@ -2,12 +2,11 @@ use mathlib.Core.Path.{sym, _∙_}
 use native.Mathlib.Omega.{arith}
 use Rattle.option_operators.proofs.Choices.{led, not-led, behind-in}
 use Rattle.scan_cursors.proofs.Readings.{skip-reads, before-reads, inside-at, joined-reads}
-use borrow.Author.Needs.{needs}
 use Rattle.option_operators.proofs.mask_at.Statement.{statement}
 use Rattle.option_operators.proofs.mask_at.Tie as tie
 
 stands-requires : tie.Need-stands-requires
-stands-requires c κs = search needs
+stands-requires c κs = tt
 
 add-spaces-at : tie.Need-add-spaces-at
 add-spaces-at c = omega (arith, behind-in 38 (c .before .before .before .args .s .now) (c .before .before .before .args .at) (sym (c .before .stands .ensures) ∙ c .if1 .taken))
@@ -19,13 +18,13 @@ numeral-at-requires : tie.Need-numeral-at-requires
 numeral-at-requires c κs = (c .spaces-at .ensures .1 .inside, c .before .before .before .before .pre .1)
 
 place-requires : tie.Need-place-requires
-place-requires c κs = search needs
+place-requires c κs = tt
 
 spaces-at-requires-2 : tie.Need-spaces-at-requires-2
 spaces-at-requires-2 c κs = inside-at (c .place .ensures) (c .before .numeral-at .ensures .0)
 
 join-requires : tie.Need-join-requires
-join-requires c κs = search needs
+join-requires c κs = tt
 
 returns : tie.Need-returns
 returns c = (led 38 _ _ _ (sym (c .before .before .before .before .before .before .stands .ensures) ∙ c .before .before .before .before .before .if1 .taken) (skip-reads (behind-in 38 _ _ (sym (c .before .before .before .before .before .before .stands .ensures) ∙ c .before .before .before .before .before .if1 .taken)) (c .before .before .before .before .spaces-at .ensures .1) (before-reads (c .before .before .before .before .spaces-at .ensures .1 .inside) (c .before .before .before .numeral-at .ensures .0) (joined-reads (c .before .before .before .numeral-at .ensures .0) (c .before .before .place .ensures) (c .join .ensures) (c .before .spaces-at2 .ensures .1)))), c .before .before .before .numeral-at .ensures .1)

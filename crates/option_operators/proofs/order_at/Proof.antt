@@ -2,12 +2,11 @@ use Rattle.option_operators.proofs.Ordering.{less-order, greater-order,
 use mathlib.Core.Path.{sym, _∙_}
 use native.Mathlib.Omega.{arith}
 use Rattle.option_operators.proofs.Choices.{behind-in}
-use borrow.Author.Needs.{needs}
 use Rattle.option_operators.proofs.order_at.Statement.{statement}
 use Rattle.option_operators.proofs.order_at.Tie as tie
 
 stands-requires : tie.Need-stands-requires
-stands-requires c κs = search needs
+stands-requires c κs = tt
 
 add-t5 : tie.Need-add-t5
 add-t5 c = omega (arith, behind-in 60 (c .before .before .before .args .s .now) (c .before .before .before .args .at) (sym (c .before .stands .ensures) ∙ c .if1 .taken))
@@ -16,7 +15,7 @@ returns : tie.Need-returns
 returns c = less-order _ _ (sym (c .before .stands .ensures) ∙ c .if1 .taken)
 
 stands-requires-2 : tie.Need-stands-requires-2
-stands-requires-2 c κs = search needs
+stands-requires-2 c κs = tt
 
 add-t9 : tie.Need-add-t9
 add-t9 c = omega (arith, behind-in 62 (c .before .before .before .before .before .args .s .now) (c .before .before .before .before .before .args .at) (sym (c .before .stands2 .ensures) ∙ c .if2 .taken))

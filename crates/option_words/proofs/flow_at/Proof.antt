@@ -1,5 +1,5 @@
 use Rattle.forms.specs.Bytes.{text}
-use mathlib.Core.Path.{sym, _∙_}
+use mathlib.Core.Path.{refl, sym, _∙_}
 use Rattle.scan_cursors.proofs.Readings.{skip-reads, first-reads, second-reads, inside-at, joined-reads}
 use Rattle.scan_pieces.proofs.Wording.{says-reads}
 use borrow.Author.Needs.{needs}
@@ -7,37 +7,37 @@ use Rattle.option_words.proofs.flow_at.Statement.{statement}
 use Rattle.option_words.proofs.flow_at.Tie as tie
 
 slice-aggregate-word-at : tie.Need-slice-aggregate-word-at
-slice-aggregate-word-at c = search needs
+slice-aggregate-word-at c = refl
 
 word-at-requires : tie.Need-word-at-requires
 word-at-requires c κs = search needs
 
 place-requires : tie.Need-place-requires
-place-requires c κs = search needs
+place-requires c κs = tt
 
 starts-requires : tie.Need-starts-requires
-starts-requires c κs = search needs
+starts-requires c κs = tt
 
 slice-aggregate-word-at-2 : tie.Need-slice-aggregate-word-at-2
-slice-aggregate-word-at-2 c = search needs
+slice-aggregate-word-at-2 c = refl
 
 word-at-requires-2 : tie.Need-word-at-requires-2
 word-at-requires-2 c κs = inside-at (c .before .before .before .place .ensures) (c .before .before .before .before .word-at .ensures)
 
 join-requires : tie.Need-join-requires
-join-requires c κs = search needs
+join-requires c κs = tt
 
 returns : tie.Need-returns
 returns c = skip-reads (c .before .before .before .before .before .before .before .before .before .pre) (c .before .before .before .before .before .before .word-at .ensures) (joined-reads (c .before .before .before .before .before .before .word-at .ensures) (c .before .before .before .before .before .place .ensures) (c .join .ensures) (first-reads (sym (c .before .before .before .before .starts .ensures) ∙ c .before .before .before .if1 .taken) (says-reads (text "client") _ (c .before .word-at2 .ensures))))
 
 slice-aggregate-word-at-3 : tie.Need-slice-aggregate-word-at-3
-slice-aggregate-word-at-3 c = search needs
+slice-aggregate-word-at-3 c = refl
 
 word-at-requires-3 : tie.Need-word-at-requires-3
 word-at-requires-3 c κs = inside-at (c .before .before .before .place .ensures) (c .before .before .before .before .word-at .ensures)
 
 join-requires-2 : tie.Need-join-requires-2
-join-requires-2 c κs = search needs
+join-requires-2 c κs = tt
 
 returns-2 : tie.Need-returns-2
 returns-2 c = skip-reads (c .before .before .before .before .before .before .before .before .before .pre) (c .before .before .before .before .before .before .word-at .ensures) (joined-reads (c .before .before .before .before .before .before .word-at .ensures) (c .before .before .before .before .before .place .ensures) (c .join2 .ensures) (second-reads (sym (c .before .before .before .before .starts .ensures) ∙ c .before .before .before .if1 .left) (says-reads (text "server") _ (c .before .word-at3 .ensures))))

@@ -1,5 +1,5 @@
 use Rattle.forms.specs.Bytes.{text}
-use mathlib.Core.Path.{sym, _∙_}
+use mathlib.Core.Path.{refl, sym, _∙_}
 use Rattle.scan_cursors.proofs.Readings.{first-reads, second-reads}
 use Rattle.scan_pieces.proofs.Wording.{says-reads}
 use borrow.Author.Needs.{needs}
@@ -7,10 +7,10 @@ use Rattle.option_words.proofs.size_word_at.Statement.{statement}
 use Rattle.option_words.proofs.size_word_at.Tie as tie
 
 starts-requires : tie.Need-starts-requires
-starts-requires c κs = search needs
+starts-requires c κs = tt
 
 slice-aggregate-word-at : tie.Need-slice-aggregate-word-at
-slice-aggregate-word-at c = search needs
+slice-aggregate-word-at c = refl
 
 word-at-requires : tie.Need-word-at-requires
 word-at-requires c κs = search needs
@@ -19,10 +19,10 @@ returns : tie.Need-returns
 returns c = first-reads (sym (c .before .before .before .starts .ensures) ∙ c .before .before .if1 .taken) (says-reads (text "payload") _ (c .word-at .ensures))
 
 starts-requires-2 : tie.Need-starts-requires-2
-starts-requires-2 c κs = search needs
+starts-requires-2 c κs = tt
 
 slice-aggregate-word-at-2 : tie.Need-slice-aggregate-word-at-2
-slice-aggregate-word-at-2 c = search needs
+slice-aggregate-word-at-2 c = refl
 
 word-at-requires-2 : tie.Need-word-at-requires-2
 word-at-requires-2 c κs = search needs
@@ -31,10 +31,10 @@ returns-2 : tie.Need-returns-2
 returns-2 c = second-reads (sym (c .before .before .before .before .before .starts .ensures) ∙ c .before .before .before .before .if1 .left) (first-reads (sym (c .before .before .before .starts2 .ensures) ∙ c .before .before .if2 .taken) (says-reads (text "uri") _ (c .word-at2 .ensures)))
 
 starts-requires-3 : tie.Need-starts-requires-3
-starts-requires-3 c κs = search needs
+starts-requires-3 c κs = tt
 
 slice-aggregate-word-at-3 : tie.Need-slice-aggregate-word-at-3
-slice-aggregate-word-at-3 c = search needs
+slice-aggregate-word-at-3 c = refl
 
 word-at-requires-3 : tie.Need-word-at-requires-3
 word-at-requires-3 c κs = search needs
@@ -43,7 +43,7 @@ returns-3 : tie.Need-returns-3
 returns-3 c = second-reads (sym (c .before .before .before .before .before .before .before .starts .ensures) ∙ c .before .before .before .before .before .before .if1 .left) (second-reads (sym (c .before .before .before .before .before .starts2 .ensures) ∙ c .before .before .before .before .if2 .left) (first-reads (sym (c .before .before .before .starts3 .ensures) ∙ c .before .before .if3 .taken) (says-reads (text "header") _ (c .word-at3 .ensures))))
 
 slice-aggregate-word-at-4 : tie.Need-slice-aggregate-word-at-4
-slice-aggregate-word-at-4 c = search needs
+slice-aggregate-word-at-4 c = refl
 
 word-at-requires-4 : tie.Need-word-at-requires-4
 word-at-requires-4 c κs = search needs

@@ -21,7 +21,7 @@ abbrev μ-loop : tie.MeasureT-loop
 μ-loop s st₀ at₀ st at = length s - at
 
 fresh-requires : tie.Need-fresh-requires Inv-loop μ-loop
-fresh-requires c κs = search needs
+fresh-requires c κs = tt
 
 loop-holds : tie.Need-loop-holds Inv-loop μ-loop
 loop-holds c = let f = fresh-holds _ (c .fresh .ensures) in ([], f .0, (let z = f .1 in omega arith), c .before .before .pre .0, refl)
@@ -63,13 +63,13 @@ enum-known-turn-2 : tie.Need-enum-known-turn-2 Inv-loop μ-loop
 enum-known-turn-2 c = search needs
 
 refused-requires : tie.Need-refused-requires Inv-loop μ-loop
-refused-requires c κs = search needs
+refused-requires c κs = tt
 
 returns-2 : tie.Need-returns-2 Inv-loop μ-loop
 returns-2 c = let i = c .before .before .before .before .before .before .before .before .before .loop .inv in let g = subst (λ (t : Turn). GoesTo (c .before .before .before .before .before .before .before .before .before .before .before .before .args .s .now) (i .0) (c .before .before .before .before .before .before .before .before .before .loop .at) t (c .before .before .before .before .before .turn-at .result .state)) (c .before .before .turn2 .given .1) (c .before .before .before .before .before .turn-at .ensures (i .0) (i .1) (i .2)) in c .refused .ensures ∙ sym (ap (finished (limits01 .room) (c .before .before .before .before .before .before .before .before .before .before .before .before .args .s .now)) (i .4 ∙ g))
 
 refused-requires-2 : tie.Need-refused-requires-2 Inv-loop μ-loop
-refused-requires-2 c κs = search needs
+refused-requires-2 c κs = tt
 
 returns-3 : tie.Need-returns-3 Inv-loop μ-loop
 returns-3 c = let i = c .before .before .loop .inv in c .refused2 .ensures ∙ sym (ap (finished (limits01 .room) (c .before .before .before .before .before .args .s .now)) (i .4 ∙ loop-out (c .before .before .before .before .before .args .s .now) (c .before .before .loop .at) (i .0) (c .before .loop-test .left)))

@@ -9,7 +9,7 @@ enum-known-c : tie.Need-enum-known-c
 enum-known-c c = search needs
 
 far-requires : tie.Need-far-requires
-far-requires c κs = search needs
+far-requires c κs = tt
 
 enum-known-c-2 : tie.Need-enum-known-c-2
 enum-known-c-2 c = search needs

@@ -12,7 +12,7 @@ dash-of-requires : tie.Need-dash-of-requires
 dash-of-requires c κs = search needs
 
 refused-requires : tie.Need-refused-requires
-refused-requires c κs = search needs
+refused-requires c κs = tt
 
 returns : tie.Need-returns
 unfolding judgedIn
@@ -21,7 +21,7 @@ returns c =
     rw (← counted, lt-ltb _ _ (c .before .before .before .if1 .taken)) (rw (c .before .dash-of .ensures) at (c .refused .ensures))
 
 refused-requires-2 : tie.Need-refused-requires-2
-refused-requires-2 c κs = search needs
+refused-requires-2 c κs = tt
 
 returns-2 : tie.Need-returns-2
 unfolding judgedIn
@@ -31,7 +31,7 @@ returns-2 c =
     rw (← counted, all-usable, c .before .if2 .taken) (c .refused2 .ensures)
 
 refused-requires-3 : tie.Need-refused-requires-3
-refused-requires-3 c κs = search needs
+refused-requires-3 c κs = tt
 
 returns-3 : tie.Need-returns-3
 unfolding judgedIn
@@ -41,7 +41,7 @@ returns-3 c =
     rw (← counted, all-usable, c .before .before .before .if2 .left, c .before .if3 .taken) (c .refused3 .ensures)
 
 table-of-requires : tie.Need-table-of-requires
-table-of-requires c κs = search needs
+table-of-requires c κs = tt
 
 returns-4 : tie.Need-returns-4
 unfolding judgedIn

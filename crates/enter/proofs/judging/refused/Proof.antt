@@ -2,15 +2,14 @@
 use Rattle.enter.specs.Judging.{tableIn}
 use Rattle.reader_state.specs.State.{stateFrom}
 use Rattle.definitions.specs.Tables.{tableOf}
-use borrow.Author.Needs.{needs}
 use Rattle.enter.proofs.judging.refused.Statement.{statement}
 use Rattle.enter.proofs.judging.refused.Tie as tie
 
 fresh-requires : tie.Need-fresh-requires
-fresh-requires c κs = search needs
+fresh-requires c κs = tt
 
 table-of-requires : tie.Need-table-of-requires
-table-of-requires c κs = search needs
+table-of-requires c κs = tt
 
 returns : tie.Need-returns
 unfolding tableIn tableOf stateFrom

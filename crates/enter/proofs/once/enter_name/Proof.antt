@@ -5,7 +5,7 @@ use Rattle.enter.proofs.once.enter_name.Statement.{statement}
 use Rattle.enter.proofs.once.enter_name.Tie as tie
 
 due-again-requires : tie.Need-due-again-requires
-due-again-requires c κs = search needs
+due-again-requires c κs = tt
 
 copied-requires : tie.Need-copied-requires
 copied-requires c κs = search needs

@@ -1,11 +1,10 @@
 -- The stores are those of the definition, with what `due_again` ensures.
 use Rattle.enter.specs.Entering.{protocolEntered}
-use borrow.Author.Needs.{needs}
 use Rattle.enter.proofs.once.enter_protocol.Statement.{statement}
 use Rattle.enter.proofs.once.enter_protocol.Tie as tie
 
 due-again-requires : tie.Need-due-again-requires
-due-again-requires c κs = search needs
+due-again-requires c κs = tt
 
 returns : tie.Need-returns
 unfolding protocolEntered

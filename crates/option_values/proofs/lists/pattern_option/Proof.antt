@@ -18,31 +18,31 @@ gap-at-requires : tie.Need-gap-at-requires
 gap-at-requires c κs = search needs
 
 place-requires : tie.Need-place-requires
-place-requires c κs = search needs
+place-requires c κs = tt
 
 mark-at-requires : tie.Need-mark-at-requires
 mark-at-requires c κs = search needs
 
 join-requires : tie.Need-join-requires
-join-requires c κs = search needs
+join-requires c κs = tt
 
 place-requires-2 : tie.Need-place-requires-2
-place-requires-2 c κs = search needs
+place-requires-2 c κs = tt
 
 pattern-at-requires : tie.Need-pattern-at-requires
 pattern-at-requires c κs = let h = onward {f = skip gap negation} refl (c .before .before .before .before .before .before .before .pre .0) (skip-reads (c .before .before .before .before .before .before .before .pre .0) (c .before .before .before .before .gap-at .ensures .1) (joined-reads (c .before .before .before .before .gap-at .ensures .1) (c .before .before .before .place .ensures) (c .before .join .ensures) (c .before .before .mark-at .ensures))) in let p = c .place2 .ensures in record { inside = inside-at (c .place2 .ensures) (joined-reads (c .before .before .before .before .gap-at .ensures .1) (c .before .before .before .place .ensures) (c .before .join .ensures) (c .before .before .mark-at .ensures)); short = c .before .before .before .before .before .before .before .pre .1; behind = omega (arith, h, p, c .before .before .before .before .before .before .before .pre .2) }
 
 join-requires-2 : tie.Need-join-requires-2
-join-requires-2 c κs = search needs
+join-requires-2 c κs = tt
 
 place-requires-3 : tie.Need-place-requires-3
-place-requires-3 c κs = search needs
+place-requires-3 c κs = tt
 
 closing-at-requires : tie.Need-closing-at-requires
 closing-at-requires c κs = inside-at (c .place3 .ensures) (joined-reads (joined-reads (c .before .before .before .before .before .before .before .gap-at .ensures .1) (c .before .before .before .before .before .before .place .ensures) (c .before .before .before .before .join .ensures) (c .before .before .before .before .before .mark-at .ensures)) (c .before .before .before .place2 .ensures) (c .before .join2 .ensures) (c .before .before .pattern-at .ensures .1 .stored .read))
 
 join-requires-3 : tie.Need-join-requires-3
-join-requires-3 c κs = search needs
+join-requires-3 c κs = tt
 
 returns : tie.Need-returns
 unfolding entryOf

@@ -1,5 +1,4 @@
 -- The fields are those of the definition, with no addresses.
-use borrow.Author.Needs.{needs}
 use Rattle.option_values.proofs.parsed.plain.Statement.{statement}
 use Rattle.option_values.proofs.parsed.plain.Tie as tie
 

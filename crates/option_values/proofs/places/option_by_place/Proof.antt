@@ -1,7 +1,6 @@
 use Rattle.definitions.specs.Options.{optionTable}
 use Rattle.option_values.specs.Parsing.{nthForm}
 use Rattle.option_values.proofs.Plainly.{plain-parses, nth-fair}
-use borrow.Author.Needs.{needs}
 use Rattle.option_values.proofs.places.option_by_place.Statement.{statement}
 use Rattle.option_values.proofs.places.option_by_place.Tie as tie
 
@@ -21,7 +20,7 @@ plain-option-requires : tie.Need-plain-option-requires
 plain-option-requires c κs = (c .before .before .pre .0, c .before .before .pre .3, c .match .rest .0 .0 .0 .1, c .match .rest .0 .0 .1, c .match .rest .0 .1, c .match .rest .1)
 
 plain-requires : tie.Need-plain-requires
-plain-requires c κs = search needs
+plain-requires c κs = tt
 
 returns : tie.Need-returns
 unfolding nthForm optionTable

@@ -1,12 +1,11 @@
 use mathlib.Core.Path.{sym, _∙_}
 use native.Mathlib.Omega.{arith}
 use Rattle.option_operators.proofs.Choices.{led, not-led, behind-in}
-use borrow.Author.Needs.{needs}
 use Rattle.options.proofs.commas.comma_reference_at.Statement.{statement}
 use Rattle.options.proofs.commas.comma_reference_at.Tie as tie
 
 stands-requires : tie.Need-stands-requires
-stands-requires c κs = search needs
+stands-requires c κs = tt
 
 add-reference-at : tie.Need-add-reference-at
 add-reference-at c = omega (arith, behind-in 44 (c .before .before .before .args .s .now) (c .before .before .before .args .at) (sym (c .before .stands .ensures) ∙ c .if1 .taken))

@@ -1,21 +1,20 @@
-use mathlib.Core.Path.{sym, _∙_}
+use mathlib.Core.Path.{refl, sym, _∙_}
 use native.Mathlib.Omega.{arith}
 use Rattle.option_operators.proofs.Choices.{led, not-led, behind-in}
 use Rattle.scan_pieces.proofs.Wording.{says-reads}
 use Rattle.forms.specs.Bytes.{text}
 use mathlib.Core.Bool.{true}
-use borrow.Author.Needs.{needs}
 use Rattle.options.proofs.commas.relative_at.Statement.{statement}
 use Rattle.options.proofs.commas.relative_at.Tie as tie
 
 stands-requires : tie.Need-stands-requires
-stands-requires c κs = search needs
+stands-requires c κs = tt
 
 add-word-at : tie.Need-add-word-at
 add-word-at c = omega (arith, behind-in 44 (c .before .before .before .args .s .now) (c .before .before .before .args .at) (sym (c .before .stands .ensures) ∙ c .if1 .taken))
 
 slice-aggregate-word-at : tie.Need-slice-aggregate-word-at
-slice-aggregate-word-at c = search needs
+slice-aggregate-word-at c = refl
 
 word-at-requires : tie.Need-word-at-requires
 word-at-requires c κs = behind-in 44 _ _ (sym (c .before .before .stands .ensures) ∙ c .before .if1 .taken)

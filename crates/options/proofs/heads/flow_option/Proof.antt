@@ -9,22 +9,22 @@ gap-at-requires : tie.Need-gap-at-requires
 gap-at-requires c κs = search needs
 
 place-requires : tie.Need-place-requires
-place-requires c κs = search needs
+place-requires c κs = tt
 
 flow-at-requires : tie.Need-flow-at-requires
 flow-at-requires c κs = inside-at (c .place .ensures) (c .before .gap-at .ensures .1)
 
 join-requires : tie.Need-join-requires
-join-requires c κs = search needs
+join-requires c κs = tt
 
 place-requires-2 : tie.Need-place-requires-2
-place-requires-2 c κs = search needs
+place-requires-2 c κs = tt
 
 closing-at-requires : tie.Need-closing-at-requires
 closing-at-requires c κs = inside-at (c .place2 .ensures) (joined-reads (c .before .before .before .before .gap-at .ensures .1) (c .before .before .before .place .ensures) (c .before .join .ensures) (c .before .before .flow-at .ensures))
 
 join-requires-2 : tie.Need-join-requires-2
-join-requires-2 c κs = search needs
+join-requires-2 c κs = tt
 
 returns : tie.Need-returns
 unfolding entryOf

@@ -9,22 +9,22 @@ gap-at-requires : tie.Need-gap-at-requires
 gap-at-requires c κs = search needs
 
 place-requires : tie.Need-place-requires
-place-requires c κs = search needs
+place-requires c κs = tt
 
 protocol-at-requires : tie.Need-protocol-at-requires
 protocol-at-requires c κs = inside-at (c .place .ensures) (c .before .gap-at .ensures .1)
 
 join-requires : tie.Need-join-requires
-join-requires c κs = search needs
+join-requires c κs = tt
 
 place-requires-2 : tie.Need-place-requires-2
-place-requires-2 c κs = search needs
+place-requires-2 c κs = tt
 
 closing-at-requires : tie.Need-closing-at-requires
 closing-at-requires c κs = inside-at (c .place2 .ensures) (joined-reads (c .before .before .before .before .gap-at .ensures .1) (c .before .before .before .place .ensures) (c .before .join .ensures) (c .before .before .protocol-at .ensures .0))
 
 join-requires-2 : tie.Need-join-requires-2
-join-requires-2 c κs = search needs
+join-requires-2 c κs = tt
 
 cast-t11 : tie.Need-cast-t11
 cast-t11 c = search needs

@@ -10,31 +10,31 @@ gap-at-requires : tie.Need-gap-at-requires
 gap-at-requires c κs = search needs
 
 place-requires : tie.Need-place-requires
-place-requires c κs = search needs
+place-requires c κs = tt
 
 number-at-requires : tie.Need-number-at-requires
 number-at-requires c κs = (inside-at (c .place .ensures) (c .before .gap-at .ensures .1), omega arith)
 
 join-requires : tie.Need-join-requires
-join-requires c κs = search needs
+join-requires c κs = tt
 
 place-requires-2 : tie.Need-place-requires-2
-place-requires-2 c κs = search needs
+place-requires-2 c κs = tt
 
 comma-reference-at-requires : tie.Need-comma-reference-at-requires
 comma-reference-at-requires c κs = inside-at (c .place2 .ensures) (joined-reads (c .before .before .before .before .gap-at .ensures .1) (c .before .before .before .place .ensures) (c .before .join .ensures) (c .before .before .number-at .ensures .0))
 
 join-requires-2 : tie.Need-join-requires-2
-join-requires-2 c κs = search needs
+join-requires-2 c κs = tt
 
 place-requires-3 : tie.Need-place-requires-3
-place-requires-3 c κs = search needs
+place-requires-3 c κs = tt
 
 closing-at-requires : tie.Need-closing-at-requires
 closing-at-requires c κs = inside-at (c .place3 .ensures) (joined-reads (joined-reads (c .before .before .before .before .before .before .before .gap-at .ensures .1) (c .before .before .before .before .before .before .place .ensures) (c .before .before .before .before .join .ensures) (c .before .before .before .before .before .number-at .ensures .0)) (c .before .before .before .place2 .ensures) (c .before .join2 .ensures) (c .before .before .comma-reference-at .ensures))
 
 join-requires-3 : tie.Need-join-requires-3
-join-requires-3 c κs = search needs
+join-requires-3 c κs = tt
 
 cast-number : tie.Need-cast-number
 cast-number c = search needs

@@ -10,49 +10,49 @@ gap-at-requires : tie.Need-gap-at-requires
 gap-at-requires c κs = search needs
 
 place-requires : tie.Need-place-requires
-place-requires c κs = search needs
+place-requires c κs = tt
 
 mask-at-requires : tie.Need-mask-at-requires
 mask-at-requires c κs = (inside-at (c .place .ensures) (c .before .gap-at .ensures .1), let l = c .before .before .before .pre .1 in omega arith)
 
 join-requires : tie.Need-join-requires
-join-requires c κs = search needs
+join-requires c κs = tt
 
 place-requires-2 : tie.Need-place-requires-2
-place-requires-2 c κs = search needs
+place-requires-2 c κs = tt
 
 comparison-at-requires : tie.Need-comparison-at-requires
 comparison-at-requires c κs = inside-at (c .place2 .ensures) (joined-reads (c .before .before .before .before .gap-at .ensures .1) (c .before .before .before .place .ensures) (c .before .join .ensures) (c .before .before .mask-at .ensures .0))
 
 join-requires-2 : tie.Need-join-requires-2
-join-requires-2 c κs = search needs
+join-requires-2 c κs = tt
 
 place-requires-3 : tie.Need-place-requires-3
-place-requires-3 c κs = search needs
+place-requires-3 c κs = tt
 
 spaces-at-requires : tie.Need-spaces-at-requires
 spaces-at-requires c κs = inside-at (c .place3 .ensures) (joined-reads (joined-reads (c .before .before .before .before .before .before .before .gap-at .ensures .1) (c .before .before .before .before .before .before .place .ensures) (c .before .before .before .before .join .ensures) (c .before .before .before .before .before .mask-at .ensures .0)) (c .before .before .before .place2 .ensures) (c .before .join2 .ensures) (c .before .before .comparison-at .ensures))
 
 join-requires-3 : tie.Need-join-requires-3
-join-requires-3 c κs = search needs
+join-requires-3 c κs = tt
 
 place-requires-4 : tie.Need-place-requires-4
-place-requires-4 c κs = search needs
+place-requires-4 c κs = tt
 
 numeral-at-requires : tie.Need-numeral-at-requires
 numeral-at-requires c κs = (inside-at (c .place4 .ensures) (joined-reads (joined-reads (joined-reads (c .before .before .before .before .before .before .before .before .before .before .gap-at .ensures .1) (c .before .before .before .before .before .before .before .before .before .place .ensures) (c .before .before .before .before .before .before .before .join .ensures) (c .before .before .before .before .before .before .before .before .mask-at .ensures .0)) (c .before .before .before .before .before .before .place2 .ensures) (c .before .before .before .before .join2 .ensures) (c .before .before .before .before .before .comparison-at .ensures)) (c .before .before .before .place3 .ensures) (c .before .join3 .ensures) (c .before .before .spaces-at .ensures .1)), let l = c .before .before .before .before .before .before .before .before .before .before .before .before .pre .1 in omega arith)
 
 join-requires-4 : tie.Need-join-requires-4
-join-requires-4 c κs = search needs
+join-requires-4 c κs = tt
 
 place-requires-5 : tie.Need-place-requires-5
-place-requires-5 c κs = search needs
+place-requires-5 c κs = tt
 
 closing-at-requires : tie.Need-closing-at-requires
 closing-at-requires c κs = inside-at (c .place5 .ensures) (joined-reads (joined-reads (joined-reads (joined-reads (c .before .before .before .before .before .before .before .before .before .before .before .before .before .gap-at .ensures .1) (c .before .before .before .before .before .before .before .before .before .before .before .before .place .ensures) (c .before .before .before .before .before .before .before .before .before .before .join .ensures) (c .before .before .before .before .before .before .before .before .before .before .before .mask-at .ensures .0)) (c .before .before .before .before .before .before .before .before .before .place2 .ensures) (c .before .before .before .before .before .before .before .join2 .ensures) (c .before .before .before .before .before .before .before .before .comparison-at .ensures)) (c .before .before .before .before .before .before .place3 .ensures) (c .before .before .before .before .join3 .ensures) (c .before .before .before .before .before .spaces-at .ensures .1)) (c .before .before .before .place4 .ensures) (c .before .join4 .ensures) (c .before .before .numeral-at .ensures .0))
 
 join-requires-5 : tie.Need-join-requires-5
-join-requires-5 c κs = search needs
+join-requires-5 c κs = tt
 
 cast-mask : tie.Need-cast-mask
 cast-mask c = let l = c .before .before .before .before .before .before .before .before .before .before .before .before .before .before .before .before .before .before .pre .1 in omega (arith, c .before .before .before .before .before .before .before .before .before .before .before .before .before .before .mask-at .ensures .1)

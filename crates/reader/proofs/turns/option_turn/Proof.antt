@@ -39,7 +39,7 @@ enter-requires c κs = let P = c .before .before .before .before .before .option
     record { said = c .before .before .before .before .before .before .before .before .before .before .before .pre .said; al = P .al; b = P .b; holds = c .before .before .before .before .before .before .before .before .before .before .before .pre .holds; beside = record { addresses = P .kept; bytes = P .stored; fits = (let u = c .before .before .before .before .before .before .before .before .before .before .before .pre .behind in let l = c .before .before .before .before .before .before .before .before .before .before .before .pre .short in omega (arith, u, l, g .0, w, z)); apart = P .apart _ q } }
 
 turn-by-requires : tie.Need-turn-by-requires
-turn-by-requires c κs = search needs
+turn-by-requires c κs = tt
 
 enum-told : tie.Need-enum-told
 enum-told c = search needs

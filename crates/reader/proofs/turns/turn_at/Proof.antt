@@ -13,7 +13,7 @@ add-closing-turn : tie.Need-add-closing-turn
 add-closing-turn c = search needs
 
 closing-turn-requires : tie.Need-closing-turn-requires
-closing-turn-requires c κs = search needs
+closing-turn-requires c κs = tt
 
 returns : tie.Need-returns
 returns c = λ said held behind. subst (λ (t : Turn). GoesTo (c .before .before .before .before .args .s .now) said (c .before .before .before .before .args .at) t (c .before .before .before .before .args .st)) (sym (c .closing-turn .ensures)) (goes-close (c .before .before .before .before .args .s .now) (c .before .before .before .before .args .at) (c .before .before .before .before .pre .inside) said (c .before .before .before .before .args .st) held behind (c .before .if1 .taken))

@@ -9,37 +9,37 @@ enum-told : tie.Need-enum-told
 enum-told c = search needs
 
 is-between-requires : tie.Need-is-between-requires
-is-between-requires c κs = search needs
+is-between-requires c κs = tt
 
 enum-told-2 : tie.Need-enum-told-2
 enum-told-2 c = search needs
 
 is-between-requires-2 : tie.Need-is-between-requires-2
-is-between-requires-2 c κs = search needs
+is-between-requires-2 c κs = tt
 
 enum-told-3 : tie.Need-enum-told-3
 enum-told-3 c = search needs
 
 is-hex-requires : tie.Need-is-hex-requires
-is-hex-requires c κs = search needs
+is-hex-requires c κs = tt
 
 enum-told-4 : tie.Need-enum-told-4
 enum-told-4 c = search needs
 
 is-quotable-requires : tie.Need-is-quotable-requires
-is-quotable-requires c κs = search needs
+is-quotable-requires c κs = tt
 
 enum-told-5 : tie.Need-enum-told-5
 enum-told-5 c = search needs
 
 is-name-byte-requires : tie.Need-is-name-byte-requires
-is-name-byte-requires c κs = search needs
+is-name-byte-requires c κs = tt
 
 enum-told-6 : tie.Need-enum-told-6
 enum-told-6 c = search needs
 
 is-between-requires-3 : tie.Need-is-between-requires-3
-is-between-requires-3 c κs = search needs
+is-between-requires-3 c κs = tt
 
 returns : tie.Need-returns
 unfolding has

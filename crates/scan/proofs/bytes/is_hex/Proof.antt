@@ -1,26 +1,25 @@
 use Rattle.scan.proofs.Tests.{in-this, in-later, in-last}
 use Rattle.forms.specs.Form.{has}
 use mathlib.Core.Path.{sym, _∙_}
-use borrow.Author.Needs.{needs}
 use Rattle.scan.proofs.bytes.is_hex.Statement.{statement}
 use Rattle.scan.proofs.bytes.is_hex.Tie as tie
 
 is-between-requires : tie.Need-is-between-requires
-is-between-requires c κs = search needs
+is-between-requires c κs = tt
 
 returns : tie.Need-returns
 unfolding has
 returns c = simp (sym (c .before .is-between .ensures) ∙ c .if1 .taken)
 
 is-between-requires-2 : tie.Need-is-between-requires-2
-is-between-requires-2 c κs = search needs
+is-between-requires-2 c κs = tt
 
 returns-2 : tie.Need-returns-2
 unfolding has
 returns-2 c = in-later _ _ (sym (c .before .before .before .is-between .ensures) ∙ c .before .before .if1 .left) (in-this _ _ (sym (c .before .is-between2 .ensures) ∙ c .if2 .taken))
 
 is-between-requires-3 : tie.Need-is-between-requires-3
-is-between-requires-3 c κs = search needs
+is-between-requires-3 c κs = tt
 
 returns-3 : tie.Need-returns-3
 unfolding has

@@ -1,25 +1,24 @@
 use borrow.Author.Tests.{le-leb, lt-leb}
 use Rattle.definitions.specs.Numbers.{digitValue}
-use borrow.Author.Needs.{needs}
 use Rattle.scan.proofs.numbers.digit_value.Statement.{statement}
 use Rattle.scan.proofs.numbers.digit_value.Tie as tie
 
 less-requires : tie.Need-less-requires
-less-requires c κs = search needs
+less-requires c κs = tt
 
 returns : tie.Need-returns
 unfolding digitValue
 returns c = rw (le-leb _ _ (c .before .if1 .taken)) (c .less .ensures)
 
 less-requires-2 : tie.Need-less-requires-2
-less-requires-2 c κs = search needs
+less-requires-2 c κs = tt
 
 returns-2 : tie.Need-returns-2
 unfolding digitValue
 returns-2 c = rw (lt-leb _ _ (c .before .before .if1 .left), le-leb _ _ (c .before .if2 .taken)) (c .less2 .ensures)
 
 less-requires-3 : tie.Need-less-requires-3
-less-requires-3 c κs = search needs
+less-requires-3 c κs = tt
 
 returns-3 : tie.Need-returns-3
 unfolding digitValue

@@ -1,7 +1,6 @@
 use lib.ListN.{getD}
 use mathlib.Core.Path.{refl, _∙_}
 use native.Mathlib.Omega.{arith}
-use borrow.Author.Needs.{needs}
 use Prim.Native.Nat.{_-_, _≤_}
 use Rattle.scan.proofs.Counting.{Sum, sum-on, sum-out, digit-le, product-fits}
 use Rattle.scan.proofs.numbers.value_of.Statement.{statement}
@@ -20,7 +19,7 @@ shared-slice-read-b : tie.Need-shared-slice-read-b Inv-loop μ-loop
 shared-slice-read-b c = let p = c .before .before .before .before .pre in omega (arith, p .1)
 
 digit-value-requires : tie.Need-digit-value-requires Inv-loop μ-loop
-digit-value-requires c κs = search needs
+digit-value-requires c κs = tt
 
 mul-cap : tie.Need-mul-cap Inv-loop μ-loop
 mul-cap c = omega (arith, product-fits (c .before .before .before .loop .v) (c .before .before .before .before .before .args .base) 0 (c .before .before .before .loop .inv .1 .small) (c .before .before .before .before .before .pre .3) (omega arith))
@@ -29,7 +28,7 @@ add-cap : tie.Need-add-cap Inv-loop μ-loop
 add-cap c = let d = c .digit-value .ensures in omega (arith, product-fits (c .before .before .before .loop .v) (c .before .before .before .before .before .args .base) (c .digit-value .result) (c .before .before .before .loop .inv .1 .small) (c .before .before .before .before .before .pre .3) (omega (arith, d, digit-le (getD (c .before .before .before .before .before .args .s .now) (c .before .before .before .loop .i) 0), c .before .shared-slice-known2 .given (c .before .before .before .loop .i))))
 
 cap-requires : tie.Need-cap-requires Inv-loop μ-loop
-cap-requires c κs = search needs
+cap-requires c κs = tt
 
 add-i : tie.Need-add-i Inv-loop μ-loop
 add-i c = omega arith

@@ -2,18 +2,17 @@ use mathlib.Core.Path.{sym, _∙_}
 use native.Mathlib.Omega.{arith}
 use mathlib.Core.List.{[], _∷_}
 use Rattle.scan_pieces.proofs.AtPlace.{begins-in}
-use borrow.Author.Needs.{needs}
 use Rattle.scan_pieces.proofs.numbers.is_hex_mark.Statement.{statement}
 use Rattle.scan_pieces.proofs.numbers.is_hex_mark.Tie as tie
 
 stands-requires : tie.Need-stands-requires
-stands-requires c κs = search needs
+stands-requires c κs = tt
 
 add-starts : tie.Need-add-starts
 add-starts c = omega (arith, begins-in ((48, 48) ∷ []) (c .before .before .before .args .s .now) (c .before .before .before .args .at) (sym (c .before .stands .ensures) ∙ c .if1 .taken))
 
 starts-requires : tie.Need-starts-requires
-starts-requires c κs = search needs
+starts-requires c κs = tt
 
 returns : tie.Need-returns
 returns c = rw (sym (c .before .before .stands .ensures) ∙ c .before .if1 .taken) (c .starts .ensures)

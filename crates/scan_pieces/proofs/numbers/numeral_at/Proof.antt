@@ -6,7 +6,7 @@ use Rattle.scan_pieces.proofs.numbers.numeral_at.Statement.{statement}
 use Rattle.scan_pieces.proofs.numbers.numeral_at.Tie as tie
 
 is-hex-mark-requires : tie.Need-is-hex-mark-requires
-is-hex-mark-requires c κs = search needs
+is-hex-mark-requires c κs = tt
 
 add-digits-at : tie.Need-add-digits-at
 add-digits-at c = search needs

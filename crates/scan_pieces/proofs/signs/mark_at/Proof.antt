@@ -2,12 +2,11 @@ use mathlib.Core.Path.{sym, _∙_}
 use Rattle.scan_pieces.proofs.AtPlace.{begins-in, mark-yes, mark-no}
 use native.Mathlib.Omega.{arith}
 use mathlib.Core.List.{[], _∷_}
-use borrow.Author.Needs.{needs}
 use Rattle.scan_pieces.proofs.signs.mark_at.Statement.{statement}
 use Rattle.scan_pieces.proofs.signs.mark_at.Tie as tie
 
 stands-requires : tie.Need-stands-requires
-stands-requires c κs = search needs
+stands-requires c κs = tt
 
 add-t6 : tie.Need-add-t6
 add-t6 c = omega (arith, begins-in ((c .before .before .before .args .b, c .before .before .before .args .b) ∷ []) (c .before .before .before .args .s .now) (c .before .before .before .args .at) (sym (c .before .stands .ensures) ∙ c .if1 .taken))

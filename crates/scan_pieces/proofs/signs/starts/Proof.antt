@@ -8,7 +8,7 @@ shared-slice-read-b : tie.Need-shared-slice-read-b
 shared-slice-read-b c = search needs
 
 in-case-requires : tie.Need-in-case-requires
-in-case-requires c κs = search needs
+in-case-requires c κs = tt
 
 returns : tie.Need-returns
 returns c = c .in-case .ensures ∙ sym (begins-at _ _ _ (c .before .before .if1 .taken))

@@ -3,7 +3,6 @@ use Rattle.scan.specs.Classes.{caseClass}
 use lib.ListN.{getD}
 use mathlib.Core.Path.{sym, _∙_}
 use native.Mathlib.Omega.{arith}
-use borrow.Author.Needs.{needs}
 use borrow.Author.Tests.{not-true, not-false}
 use Prim.Native.Nat.{_-_}
 use lib.ListN.{length}
@@ -24,7 +23,7 @@ shared-slice-read-y : tie.Need-shared-slice-read-y Inv-loop μ-loop
 shared-slice-read-y c = omega arith
 
 starts-requires : tie.Need-starts-requires Inv-loop μ-loop
-starts-requires c κs = search needs
+starts-requires c κs = tt
 
 returns : tie.Need-returns Inv-loop μ-loop
 returns c = word-halt _ _ _ _ _ (c .before .before .before .before .loop .inv) (c .before .before .before .loop-test .taken) (sym (c .before .starts .ensures) ∙ not-true _ (c .if1 .taken))

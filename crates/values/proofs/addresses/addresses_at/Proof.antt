@@ -7,7 +7,7 @@ use Rattle.values.proofs.addresses.addresses_at.Statement.{statement}
 use Rattle.values.proofs.addresses.addresses_at.Tie as tie
 
 stands-requires : tie.Need-stands-requires
-stands-requires c κs = search needs
+stands-requires c κs = tt
 
 add-list-at : tie.Need-add-list-at
 add-list-at c = search needs
@@ -16,19 +16,19 @@ list-at-requires : tie.Need-list-at-requires
 list-at-requires c κs = begun-in ((91, 91) ∷ []) _ _ (sym (c .before .stands .ensures) ∙ c .if1 .taken)
 
 place-requires : tie.Need-place-requires
-place-requires c κs = search needs
+place-requires c κs = tt
 
 sign-at-requires : tie.Need-sign-at-requires
 sign-at-requires c κs = search needs
 
 join-requires : tie.Need-join-requires
-join-requires c κs = search needs
+join-requires c κs = tt
 
 address-at-requires : tie.Need-address-at-requires
 address-at-requires c κs = search needs
 
 one-kept-requires : tie.Need-one-kept-requires
-one-kept-requires c κs = search needs
+one-kept-requires c κs = tt
 
 returns : tie.Need-returns
 returns c = bracket-read _ _ (c .before .before .before .before .before .before .before .before .pre) (sym (c .before .before .before .before .before .before .stands .ensures) ∙ c .before .before .before .before .before .if1 .taken) (c .before .before .before .before .list-at .ensures) (c .before .before .place .ensures) (c .before .sign-at .ensures) (c .join .ensures)

@@ -6,13 +6,13 @@ enum-known-c : tie.Need-enum-known-c
 enum-known-c c = search needs
 
 stands-requires : tie.Need-stands-requires
-stands-requires c κs = search needs
+stands-requires c κs = tt
 
 enum-known-c-2 : tie.Need-enum-known-c-2
 enum-known-c-2 c = search needs
 
 stands-requires-2 : tie.Need-stands-requires-2
-stands-requires-2 c κs = search needs
+stands-requires-2 c κs = tt
 
 enum-told : tie.Need-enum-told
 enum-told c = search needs

@@ -1,5 +1,4 @@
 -- The address in the first place of a list of none.
-use borrow.Author.Needs.{needs}
 use Rattle.values.proofs.addresses.one_kept.Statement.{statement}
 use Rattle.values.proofs.addresses.one_kept.Tie as tie
 

@@ -8,7 +8,7 @@ shared-slice-read-b : tie.Need-shared-slice-read-b
 shared-slice-read-b c = search needs
 
 in-class-requires : tie.Need-in-class-requires
-in-class-requires c κs = search needs
+in-class-requires c κs = tt
 
 returns : tie.Need-returns
 returns c = c .in-class .ensures ∙ sym (begins-at _ _ _ (c .before .before .if1 .taken))

@@ -7,7 +7,7 @@ use Rattle.values.proofs.blocks.pair_at.Statement.{statement}
 use Rattle.values.proofs.blocks.pair_at.Tie as tie
 
 is-hex-at-requires : tie.Need-is-hex-at-requires
-is-hex-at-requires c κs = search needs
+is-hex-at-requires c κs = tt
 
 returns : tie.Need-returns
 returns c = pair-none _ _ (c .before .before .before .pre) (sym (c .before .is-hex-at .ensures) ∙ not-true _ (c .if1 .taken))
@@ -16,7 +16,7 @@ add-is-hex-at : tie.Need-add-is-hex-at
 add-is-hex-at c = search needs
 
 is-hex-at-requires-2 : tie.Need-is-hex-at-requires-2
-is-hex-at-requires-2 c κs = search needs
+is-hex-at-requires-2 c κs = tt
 
 add-t8 : tie.Need-add-t8
 add-t8 c = search needs

@@ -33,7 +33,7 @@ spaces-at-requires : tie.Need-spaces-at-requires Inv-loop μ-loop
 spaces-at-requires c κs = pair-end _ _ _ (c .before .before .before .before .before .before .before .pre) (c .before .before .before .before .before .loop .inv) (c .before .before .before .before .pair-at .ensures) (c .before .before .c .given .1)
 
 is-hex-at-requires : tie.Need-is-hex-at-requires Inv-loop μ-loop
-is-hex-at-requires c κs = search needs
+is-hex-at-requires c κs = tt
 
 returns-2 : tie.Need-returns-2 Inv-loop μ-loop
 returns-2 c = pairs-last _ _ _ (c .before .before .before .before .before .before .before .before .before .before .pre) (c .before .before .before .before .before .before .before .before .loop .inv) (c .before .before .before .before .before .before .before .pair-at .ensures) (c .before .before .before .before .before .c .given .1) (c .before .before .spaces-at .ensures .1) (c .before .before .before .put .ensures) (sym (c .before .is-hex-at .ensures) ∙ not-true _ (c .if1 .taken))

@@ -7,13 +7,13 @@ byte-at-requires : tie.Need-byte-at-requires
 byte-at-requires c κs = search needs
 
 place-requires : tie.Need-place-requires
-place-requires c κs = search needs
+place-requires c κs = tt
 
 sign-at-requires : tie.Need-sign-at-requires
 sign-at-requires c κs = search needs
 
 join-requires : tie.Need-join-requires
-join-requires c κs = search needs
+join-requires c κs = tt
 
 returns : tie.Need-returns
 returns c = dotted-read _ _ (c .before .before .before .before .before .pre) (c .before .before .before .byte-at .ensures) (c .before .before .place .ensures) (c .before .sign-at .ensures) (c .join .ensures)

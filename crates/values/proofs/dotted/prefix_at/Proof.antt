@@ -8,7 +8,7 @@ use Rattle.values.proofs.dotted.prefix_at.Statement.{statement}
 use Rattle.values.proofs.dotted.prefix_at.Tie as tie
 
 stands-requires : tie.Need-stands-requires
-stands-requires c κs = search needs
+stands-requires c κs = tt
 
 add-byte-at : tie.Need-add-byte-at
 add-byte-at c = search needs

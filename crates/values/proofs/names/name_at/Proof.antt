@@ -7,7 +7,7 @@ quoted-at-requires : tie.Need-quoted-at-requires
 quoted-at-requires c κs = search needs
 
 limited-requires : tie.Need-limited-requires
-limited-requires c κs = search needs
+limited-requires c κs = tt
 
 returns : tie.Need-returns
 returns c = name-read _ _ _ _ _ _ (c .before .before .before .pre) (c .before .quoted-at .ensures) (c .limited .ensures)

@@ -7,25 +7,25 @@ sign-at-requires : tie.Need-sign-at-requires
 sign-at-requires c κs = search needs
 
 place-requires : tie.Need-place-requires
-place-requires c κs = search needs
+place-requires c κs = tt
 
 run-of-requires : tie.Need-run-of-requires
 run-of-requires c κs = search needs
 
 passed-requires : tie.Need-passed-requires
-passed-requires c κs = search needs
+passed-requires c κs = tt
 
 join-requires : tie.Need-join-requires
-join-requires c κs = search needs
+join-requires c κs = tt
 
 place-requires-2 : tie.Need-place-requires-2
-place-requires-2 c κs = search needs
+place-requires-2 c κs = tt
 
 sign-at-requires-2 : tie.Need-sign-at-requires-2
 sign-at-requires-2 c κs = quoted-place _ _ _ _ (c .before .before .before .before .before .sign-at .ensures) (c .before .before .before .before .place .ensures) (c .before .before .before .run-of .ensures) (c .before .before .passed .ensures) (c .before .join .ensures) (c .place2 .ensures)
 
 join-requires-2 : tie.Need-join-requires-2
-join-requires-2 c κs = search needs
+join-requires-2 c κs = tt
 
 sub-t12 : tie.Need-sub-t12
 sub-t12 c = search needs

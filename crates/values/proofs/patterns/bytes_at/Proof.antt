@@ -27,7 +27,7 @@ returns : tie.Need-returns Inv-loop μ-loop
 returns c = elements-halt _ _ _ (c .before .before .before .before .before .pre) (c .before .before .before .loop .inv) (c .before .before .element-at .ensures) (c .match .keys2)
 
 goes-on-requires : tie.Need-goes-on-requires Inv-loop μ-loop
-goes-on-requires c κs = search needs
+goes-on-requires c κs = tt
 
 returns-2 : tie.Need-returns-2 Inv-loop μ-loop
 returns-2 c = elements-last _ _ _ (c .before .before .before .before .before .before .before .before .before .pre) (c .before .before .before .before .before .before .before .loop .inv) (c .before .before .before .before .before .before .element-at .ensures) (c .before .before .before .c .given .1) (sym (c .before .goes-on .ensures) ∙ not-true _ (c .if1 .taken))

@@ -8,7 +8,7 @@ use Rattle.values.proofs.patterns.element_at.Statement.{statement}
 use Rattle.values.proofs.patterns.element_at.Tie as tie
 
 is-plain-at-requires : tie.Need-is-plain-at-requires
-is-plain-at-requires c κs = search needs
+is-plain-at-requires c κs = tt
 
 shared-slice-read-b : tie.Need-shared-slice-read-b
 shared-slice-read-b c = begins-in plainBytes _ _ (sym (c .before .before .is-plain-at .ensures) ∙ c .before .if1 .taken)

@@ -3,18 +3,17 @@ use mathlib.Core.Path.{sym, _∙_}
 use Rattle.values.proofs.Either.{begins-first, begins-second}
 use Rattle.definitions.specs.Forms.{plainBytes}
 use mathlib.Core.List.{[], _∷_}
-use borrow.Author.Needs.{needs}
 use Rattle.values.proofs.patterns.goes_on.Statement.{statement}
 use Rattle.values.proofs.patterns.goes_on.Tie as tie
 
 is-plain-at-requires : tie.Need-is-plain-at-requires
-is-plain-at-requires c κs = search needs
+is-plain-at-requires c κs = tt
 
 returns : tie.Need-returns
 returns c = begins-first plainBytes ((124, 124) ∷ []) (drop (c .before .before .before .args .at) (c .before .before .before .args .s .now)) (sym (c .before .is-plain-at .ensures) ∙ c .if1 .taken)
 
 stands-requires : tie.Need-stands-requires
-stands-requires c κs = search needs
+stands-requires c κs = tt
 
 returns-2 : tie.Need-returns-2
 returns-2 c = begins-second plainBytes ((124, 124) ∷ []) (drop (c .before .before .before .before .args .at) (c .before .before .before .before .args .s .now)) (sym (c .before .before .is-plain-at .ensures) ∙ c .before .if1 .left) (c .stands .ensures)

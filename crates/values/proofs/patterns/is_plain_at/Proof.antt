@@ -8,7 +8,7 @@ shared-slice-read-b : tie.Need-shared-slice-read-b
 shared-slice-read-b c = search needs
 
 is-plain-requires : tie.Need-is-plain-requires
-is-plain-requires c κs = search needs
+is-plain-requires c κs = tt
 
 returns : tie.Need-returns
 returns c = c .is-plain .ensures ∙ sym (begins-at _ _ _ (c .before .before .if1 .taken))
