@@ -20,7 +20,7 @@ use Rattle.definitions.specs.declared.packet.Last.{Last}
 use Rattle.definitions.specs.declared.packet.Placement.{Placement}
 use Rattle.definitions.specs.References.{lastAfter}
 use Rattle.definitions.specs.Windows.{lastEnd}
-use Rattle.definitions.specs.Items.{Kind, patternFirst, patternsOf, behindItem}
+use Rattle.definitions.specs.Tables.{Kind, patternFirst, patternsOf, behindItem}
 use Rattle.definitions.specs.WellFormed.{bytesOf}
 use Rattle.definitions.specs.Fields.{View}
 use Rattle.definitions.specs.Tests.{testHolds}
@@ -34,8 +34,9 @@ use Rattle.search_outcomes.specs.declared.Outcome.{Outcome}
 use Rattle.search_outcomes.specs.Outcomes.{nothing}
 use Rattle.search_chosen.specs.Choosing.{push, answer}
 use Rattle.search_chosen.proofs.Answering.{answer-nothing}
-use Rattle.search_items.specs.declared.Question.{Question}
-use Rattle.search_items.specs.Items.{itemsLeft, Small, Ready, Trying}
+use Rattle.questions.specs.declared.Question.{Question}
+use Rattle.questions.specs.Questions.{itemsLeft, slot0}
+use Rattle.search_items.specs.Items.{Small, Ready, Trying}
 
 -- ---- what is wanted
 
@@ -82,16 +83,12 @@ module _ (all : List Slot) (sl : Slot) (sls : List Slot) (u : all ≡ sl ∷ sls
     unfolding patternsOf bytesOf
     bytes-pattern = rw (u, e)
 
--- the slot at a place of the items in use, and those behind it; `slot0` is what the logic has behind the array's end
-abbrev pub slot0 : Slot
-slot0 = record { item = item.Unused; addresses = [] }
-
 -- an array field of structs is held element by element, so its length is told of a map
 pub length-mapped : {A B : Type 0} (f : A → B) (l : List A) (n : ℕ) → length (map f l) ≡ n → length l ≡ n
 length-mapped f l n e = sym (length-map l f) ∙ e
 
-pub left-here : (q : Question) (k : ℕ) → k < q .count → q .count ≤ length (q .items) → itemsLeft q k ≡ getD (q .items) k slot0 ∷ itemsLeft q (k + 1)
-left-here q k h g = first-here (q .items) (q .count) k slot0 h g
+pub left-here : (q : Question) (k : ℕ) (sl : Slot) → sl ≡ getD (q .items) k slot0 → k < q .count → q .count ≤ length (q .items) → itemsLeft q k ≡ sl ∷ itemsLeft q (k + 1)
+left-here q k sl e h g = rw e (first-here (q .items) (q .count) k slot0 h g)
 
 pub left-out : (q : Question) (k : ℕ) → q .count ≤ k → itemsLeft q k ≡ []
 left-out q k h = first-out (q .items) (q .count) k h

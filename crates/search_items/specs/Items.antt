@@ -1,22 +1,17 @@
 -- What the search over the items rests on. Document 01, section "Meaning".
 use Prim.Native.Nat.{ℕ, _+_, _≤_, _<_}
 use mathlib.Core.List.{List}
-use lib.ListN.{length, take, drop}
+use lib.ListN.{length}
 use Rattle.definitions.specs.declared.table.Pattern.{Pattern}
 use Rattle.definitions.specs.declared.table.Slot.{Slot}
 use Rattle.definitions.specs.declared.packet.Last.{Last}
 use Rattle.definitions.specs.declared.packet.Placement.{Placement}
 use Rattle.definitions.specs.Limits.{patternsMost}
-use Rattle.definitions.specs.Items.{patternsOf}
+use Rattle.definitions.specs.Tables.{patternsOf}
 use Rattle.definitions.specs.WellFormed.{bytesOf}
 use Rattle.definitions.specs.Windows.{lastEnd}
 use Rattle.definitions.specs.Placements.{wanted, positives}
 use Rattle.window_spans.specs.Spans.{sizeBound}
-use Rattle.search_items.specs.declared.Question.{Question}
-
--- the items in use from the k-th on
-abbrev pub itemsLeft : Question → ℕ → List Slot
-itemsLeft q k = drop k (take (q .count) (q .items))
 
 -- lengths and places stay far below what a number holds: of pattern bytes b, a payload s and a decoded buffer d
 pub record Small (b s d : List ℕ) (l : Last) : Type 0 where

@@ -7,38 +7,27 @@ ghost use Rattle.definitions.specs.Limits.{itemsMost};
 ghost use Rattle.definitions.specs.Placements.{placed, wanted, placements};
 ghost use Rattle.fields.specs.Seen.{seen};
 ghost use Rattle.search_chosen.specs.Choosing.{answer};
-ghost use Rattle.search_items.specs.Items.{itemsLeft, Ready, Trying};
-use definitions::limits::ITEMS;
-use definitions::limits::PATTERNS;
-use definitions::packet::Facts;
-use definitions::packet::FieldMap;
-use definitions::packet::Last;
-use definitions::packet::Placement;
-use definitions::table::Item;
-use definitions::table::Pattern;
-use definitions::table::Slot;
-use fields::field_of;
-use fields::is_present;
-use meaning::negated::negated_holds;
-use meaning::test_holds;
+ghost use Rattle.questions.specs.Questions.{itemsLeft};
+ghost use Rattle.search_items.specs.Items.{Ready, Trying};
 use search_chosen::at_end;
 use search_chosen::last_at;
 use search_chosen::start_from;
 use search_chosen::stays;
 use search_chosen::with_start;
+use definitions::packet::Last;
+use definitions::packet::Placement;
+use definitions::table::Item;
+use definitions::table::Pattern;
+use fields::field_of;
+use fields::is_present;
+use meaning::negated::negated_holds;
+use meaning::test_holds;
 use search_outcomes::Outcome;
 use search_outcomes::no_match;
+use questions::Question;
+use questions::slot_at;
 use window_spans::starts::window;
 use windows::bytes::stands_at;
-
-// What a search asks, the same for every item: a table's items, what is seen of the packet, and the starts of the placement to pass.
-pub struct Question {
-    pub items: [Slot; ITEMS],
-    pub count: usize,
-    pub facts: Facts,
-    pub map: FieldMap,
-    pub bound: [usize; PATTERNS],
-}
 
 // The first placement of the items from k on, behind the starts in acc; where `tight`, the first behind those to pass. `bytes` are the pattern
 // bytes from item k's on, `last` is the last positive pattern before it.
@@ -61,7 +50,7 @@ pub fn from_item<'a>(
     }
     let facts = q.facts;
     let map = q.map;
-    let slot = q.items[k];
+    let slot = slot_at(q, k);
     let item = slot.item;
     let Item::Pattern(p) = item else {
         let addresses = slot.addresses;

@@ -7,6 +7,7 @@ use native.Mathlib.Omega.{arith}
 use lib.ListN.{length, drop, getD}
 use borrow.Author.Needs.{length-unmapped}
 use borrow.Author.Tests.{not-true, not-false}
+use Rattle.definitions.specs.declared.table.Slot.{Slot}
 use Rattle.definitions.specs.declared.packet.Last.{Last}
 use Rattle.definitions.specs.Limits.{itemsMost, patternsMost}
 use Rattle.definitions.specs.Lists.{keep}
@@ -17,8 +18,8 @@ use Rattle.windows.proofs.Listing.{from, standing}
 use Rattle.fields.specs.Seen.{seen}
 use Rattle.meaning.proofs.Placing.{measured}
 use Rattle.search_chosen.specs.Choosing.{answer}
-use Rattle.search_items.specs.Items.{itemsLeft}
-use Rattle.search_items.proofs.Stepping.{length-mapped, ownOf, restOf, slot0, left-here, left-out, wanted-test, wanted-nowhere, wanted-placed, ready-test, pattern-stored, pattern-bounded, ready-nowhere, ready-placed, trying-bounded, ready-next, test-yes, test-no, nowhere-yes, nowhere-no, placed-first, behind-last}
+use Rattle.questions.specs.Questions.{itemsLeft, slot0}
+use Rattle.search_items.proofs.Stepping.{length-mapped, ownOf, restOf, left-here, left-out, wanted-test, wanted-nowhere, wanted-placed, ready-test, pattern-stored, pattern-bounded, ready-nowhere, ready-placed, trying-bounded, ready-next, test-yes, test-no, nowhere-yes, nowhere-no, placed-first, behind-last}
 use Rattle.search_items.proofs.Trials.{try-absent, try-begin, ahead, try-done, try-no, tried, or-found, or-missing}
 use Prim.Native.Nat.{ℕ, _+_, _-_, _≤_, _<_}
 use borrow.Fn.Kinds.{In}
@@ -33,6 +34,7 @@ use Rattle.fields.proofs.field_of.Reads as field-of-reads
 use Rattle.fields.proofs.is_present.Reads as is-present-reads
 use Rattle.meaning.proofs.negated.negated_holds.Reads as negated-holds-reads
 use Rattle.meaning.proofs.test_holds.Reads as test-holds-reads
+use Rattle.questions.proofs.slot_at.Reads as slot-at-reads
 use Rattle.search_chosen.proofs.at_end.Reads as at-end-reads
 use Rattle.search_chosen.proofs.last_at.Reads as last-at-reads
 use Rattle.search_outcomes.proofs.no_match.Reads as no-match-reads
@@ -70,6 +72,8 @@ abbrev from-item-claims : ℕ → from-item-lts.Claims
 from-item-claims t = (
   at-end-reads.Asked,
   at-end-reads.Learnt,
+  slot-at-reads.Asked,
+  slot-at-reads.Learnt,
   test-holds-reads.Asked,
   test-holds-reads.Learnt,
   no-match-reads.Asked,
@@ -107,11 +111,11 @@ try-starts-claims t = (
 )
 
 -- the item at hand, and those behind it
-slots-here : (t : ℕ) (a : from-item-lts.Start (from-item-claims t) (from-item-at t) from-item.Post) → a .args .k < a .args .t1 .count
-    → itemsLeft (a .args .t1) (a .args .k) ≡ getD (a .args .t1 .items) (a .args .k) slot0 ∷ itemsLeft (a .args .t1) (a .args .k + 1)
-slots-here t a h =
-    let long : length (a .args .t1 .items) ≡ itemsMost = length-mapped _ (a .args .t1 .items) itemsMost (a .good .0 .1 .1 .0 .1 .0 .1) in
-    left-here (a .args .t1) (a .args .k) h (omega (arith, a .pre .1 .0, long))
+slots-here : (t : ℕ) (a : from-item-lts.Start (from-item-claims t) (from-item-at t) from-item.Post) (sl : Slot) → sl ≡ getD (a .args .q .items) (a .args .k) slot0
+    → a .args .k < a .args .q .count → itemsLeft (a .args .q) (a .args .k) ≡ sl ∷ itemsLeft (a .args .q) (a .args .k + 1)
+slots-here t a sl e h =
+    let long : length (a .args .q .items) ≡ itemsMost = length-mapped _ (a .args .q .items) itemsMost (a .good .0 .1 .1 .0 .1 .0 .1) in
+    left-here (a .args .q) (a .args .k) sl e h (omega (arith, a .pre .1 .0, long))
 
 from-item-at-end-requires : (t : ℕ) → from-item-lts.Need-at-end-requires (from-item-claims t) (from-item-at t) from-item.Post
 from-item-at-end-requires t c κs = tt
@@ -119,15 +123,12 @@ from-item-at-end-requires t c κs = tt
 from-item-returns : (t : ℕ) → from-item-lts.Need-returns (from-item-claims t) (from-item-at t) from-item.Post
 from-item-returns t c =
     let x = c .before .before .before .before .before .args in
-    let passed = drop (x .acc .count) (x .t1 .bound) in
-    behind-last (seen (x .t1 .facts) (x .payload .now) (x .decoded .now) (x .t1 .map)) (x .last) (x .acc) (x .tight) passed (itemsLeft (x .t1) (x .k)) (x .bytes .now)
-    (c .at-end .result) (left-out (x .t1) (x .k) (c .before .if1 .taken)) (c .at-end .ensures passed)
+    let passed = drop (x .acc .count) (x .q .bound) in
+    behind-last (seen (x .q .facts) (x .payload .now) (x .decoded .now) (x .q .map)) (x .last) (x .acc) (x .tight) passed (itemsLeft (x .q) (x .k)) (x .bytes .now)
+    (c .at-end .result) (left-out (x .q) (x .k) (c .before .if1 .taken)) (c .at-end .ensures passed)
 
-from-item-mul-slot : (t : ℕ) → from-item-lts.Need-mul-slot (from-item-claims t) (from-item-at t) from-item.Post
-from-item-mul-slot t c = omega (arith, c .before .before .before .before .before .before .pre .1 .0)
-
-from-item-element-copy-out-slot : (t : ℕ) → from-item-lts.Need-element-copy-out-slot (from-item-claims t) (from-item-at t) from-item.Post
-from-item-element-copy-out-slot t c = omega (arith, c .before .before .before .before .before .before .pre .1 .0)
+from-item-slot-at-requires : (t : ℕ) → from-item-lts.Need-slot-at-requires (from-item-claims t) (from-item-at t) from-item.Post
+from-item-slot-at-requires t c κs = omega (arith, c .before .before .before .before .before .before .pre .1 .0, c .before .before .if1 .left)
 
 from-item-enum-known-item : (t : ℕ) → from-item-lts.Need-enum-known-item (from-item-claims t) (from-item-at t) from-item.Post
 from-item-enum-known-item t c = c .match .keys1
@@ -142,12 +143,12 @@ from-item-returns-2 : (t : ℕ) → from-item-lts.Need-returns-2 (from-item-clai
 from-item-returns-2 t c =
     let a = c .before .before .before .before .before .before .before .before .before .before .before .before in
     let x = a .args in
-    let all = itemsLeft (x .t1) (x .k) in
-    let sl = getD (x .t1 .items) (x .k) slot0 in
-    let sls = itemsLeft (x .t1) (x .k + 1) in
-    let u : all ≡ sl ∷ sls = slots-here t a (c .before .before .before .before .before .before .before .before .if1 .left) in
-    let v = seen (x .t1 .facts) (x .payload .now) (x .decoded .now) (x .t1 .map) in
-    let passed = drop (x .acc .count) (x .t1 .bound) in
+    let all = itemsLeft (x .q) (x .k) in
+    let sl = c .before .before .before .before .before .slot-at .result in
+    let sls = itemsLeft (x .q) (x .k + 1) in
+    let u : all ≡ sl ∷ sls = slots-here t a sl (c .before .before .before .before .before .slot-at .ensures) (c .before .before .before .before .before .before .before .before .if1 .left) in
+    let v = seen (x .q .facts) (x .payload .now) (x .decoded .now) (x .q .map) in
+    let passed = drop (x .acc .count) (x .q .bound) in
     test-no v (x .last) (x .acc) (x .tight) passed (wanted all (x .bytes .now)) (wanted sls (x .bytes .now)) (c .no-match .result) (sl .item) (sl .addresses) (wanted-test all sl sls u (x .bytes .now) (c .before .before .before .before .match .keys2))
     (c .before .before .test-holds .result) (c .before .before .test-holds .ensures) (c .before .if2 .taken) (c .no-match .ensures)
 
@@ -158,22 +159,22 @@ from-item-from-item-requires : (t : ℕ) → from-item-lts.Need-from-item-requir
 from-item-from-item-requires t c κs =
     let a = c .before .before .before .before .before .before .before .before .before .before .before in
     let x = a .args in
-    let all = itemsLeft (x .t1) (x .k) in
-    let sl = getD (x .t1 .items) (x .k) slot0 in
-    let sls = itemsLeft (x .t1) (x .k + 1) in
-    let u : all ≡ sl ∷ sls = slots-here t a (c .before .before .before .before .before .before .before .if1 .left) in
+    let all = itemsLeft (x .q) (x .k) in
+    let sl = c .before .before .before .before .slot-at .result in
+    let sls = itemsLeft (x .q) (x .k + 1) in
+    let u : all ≡ sl ∷ sls = slots-here t a sl (c .before .before .before .before .slot-at .ensures) (c .before .before .before .before .before .before .before .if1 .left) in
     (omega (arith, c .before .before .before .before .before .before .before .before .before .before .before .pre .0, c .before .before .before .before .before .before .before .if1 .left), (a .pre .1 .0, ready-test all sl sls u (x .bytes .now) (x .payload .now) (x .decoded .now) (x .last) (x .acc) (a .pre .1 .1) (c .before .before .before .match .keys2)))
 
 from-item-returns-3 : (t : ℕ) → from-item-lts.Need-returns-3 (from-item-claims t) (from-item-at t) from-item.Post
 from-item-returns-3 t c =
     let a = c .before .before .before .before .before .before .before .before .before .before .before .before in
     let x = a .args in
-    let all = itemsLeft (x .t1) (x .k) in
-    let sl = getD (x .t1 .items) (x .k) slot0 in
-    let sls = itemsLeft (x .t1) (x .k + 1) in
-    let u : all ≡ sl ∷ sls = slots-here t a (c .before .before .before .before .before .before .before .before .if1 .left) in
-    let v = seen (x .t1 .facts) (x .payload .now) (x .decoded .now) (x .t1 .map) in
-    let passed = drop (x .acc .count) (x .t1 .bound) in
+    let all = itemsLeft (x .q) (x .k) in
+    let sl = c .before .before .before .before .before .slot-at .result in
+    let sls = itemsLeft (x .q) (x .k + 1) in
+    let u : all ≡ sl ∷ sls = slots-here t a sl (c .before .before .before .before .before .slot-at .ensures) (c .before .before .before .before .before .before .before .before .if1 .left) in
+    let v = seen (x .q .facts) (x .payload .now) (x .decoded .now) (x .q .map) in
+    let passed = drop (x .acc .count) (x .q .bound) in
     test-yes v (x .last) (x .acc) (x .tight) passed (wanted all (x .bytes .now)) (wanted sls (x .bytes .now)) (c .from-item .result) (sl .item) (sl .addresses) (wanted-test all sl sls u (x .bytes .now) (c .before .before .before .before .match .keys2))
     (c .before .before .test-holds .result) (c .before .before .test-holds .ensures) (c .before .if2 .left) (c .from-item .ensures)
 
@@ -187,30 +188,30 @@ from-item-part-own-end : (t : ℕ) → from-item-lts.Need-part-own-end (from-ite
 from-item-part-own-end t c =
     let a = c .before .before .before .before .before .before .before .before .before .before in
     let x = a .args in
-    let all = itemsLeft (x .t1) (x .k) in
-    let sl = getD (x .t1 .items) (x .k) slot0 in
-    let sls = itemsLeft (x .t1) (x .k + 1) in
-    let u : all ≡ sl ∷ sls = slots-here t a (c .before .before .before .before .before .before .if1 .left) in
+    let all = itemsLeft (x .q) (x .k) in
+    let sl = c .before .before .before .slot-at .result in
+    let sls = itemsLeft (x .q) (x .k + 1) in
+    let u : all ≡ sl ∷ sls = slots-here t a sl (c .before .before .before .slot-at .ensures) (c .before .before .before .before .before .before .if1 .left) in
     omega (arith, pattern-stored all sl sls u (x .bytes .now) (x .payload .now) (x .decoded .now) (x .last) (x .acc) (a .pre .1 .1) (c .before .item .given .0 .0) (c .before .item .given .1))
 
 from-item-sub-rest : (t : ℕ) → from-item-lts.Need-sub-rest (from-item-claims t) (from-item-at t) from-item.Post
 from-item-sub-rest t c =
     let a = c .before .before .before .before .before .before .before .before .before .before .before in
     let x = a .args in
-    let all = itemsLeft (x .t1) (x .k) in
-    let sl = getD (x .t1 .items) (x .k) slot0 in
-    let sls = itemsLeft (x .t1) (x .k + 1) in
-    let u : all ≡ sl ∷ sls = slots-here t a (c .before .before .before .before .before .before .before .if1 .left) in
+    let all = itemsLeft (x .q) (x .k) in
+    let sl = c .before .before .before .before .slot-at .result in
+    let sls = itemsLeft (x .q) (x .k + 1) in
+    let u : all ≡ sl ∷ sls = slots-here t a sl (c .before .before .before .before .slot-at .ensures) (c .before .before .before .before .before .before .before .if1 .left) in
     omega (arith, pattern-stored all sl sls u (x .bytes .now) (x .payload .now) (x .decoded .now) (x .last) (x .acc) (a .pre .1 .1) (c .before .before .item .given .0 .0) (c .before .before .item .given .1))
 
 from-item-part-rest-start : (t : ℕ) → from-item-lts.Need-part-rest-start (from-item-claims t) (from-item-at t) from-item.Post
 from-item-part-rest-start t c =
     let a = c .before .before .before .before .before .before .before .before .before .before .before in
     let x = a .args in
-    let all = itemsLeft (x .t1) (x .k) in
-    let sl = getD (x .t1 .items) (x .k) slot0 in
-    let sls = itemsLeft (x .t1) (x .k + 1) in
-    let u : all ≡ sl ∷ sls = slots-here t a (c .before .before .before .before .before .before .before .if1 .left) in
+    let all = itemsLeft (x .q) (x .k) in
+    let sl = c .before .before .before .before .slot-at .result in
+    let sls = itemsLeft (x .q) (x .k + 1) in
+    let u : all ≡ sl ∷ sls = slots-here t a sl (c .before .before .before .before .slot-at .ensures) (c .before .before .before .before .before .before .before .if1 .left) in
     omega (arith, pattern-stored all sl sls u (x .bytes .now) (x .payload .now) (x .decoded .now) (x .last) (x .acc) (a .pre .1 .1) (c .before .before .item .given .0 .0) (c .before .before .item .given .1))
 
 from-item-part-rest-end : (t : ℕ) → from-item-lts.Need-part-rest-end (from-item-claims t) (from-item-at t) from-item.Post
@@ -220,22 +221,22 @@ from-item-try-starts-requires : (t : ℕ) → from-item-lts.Need-try-starts-requ
 from-item-try-starts-requires t c κs =
     let a = c .before .before .before .before .before .before .before .before .before .before .before .before .before .before in
     let x = a .args in
-    let all = itemsLeft (x .t1) (x .k) in
-    let sl = getD (x .t1 .items) (x .k) slot0 in
-    let sls = itemsLeft (x .t1) (x .k + 1) in
-    let u : all ≡ sl ∷ sls = slots-here t a (c .before .before .before .before .before .before .before .before .before .before .if1 .left) in
+    let all = itemsLeft (x .q) (x .k) in
+    let sl = c .before .before .before .before .before .before .before .slot-at .result in
+    let sls = itemsLeft (x .q) (x .k + 1) in
+    let u : all ≡ sl ∷ sls = slots-here t a sl (c .before .before .before .before .before .before .before .slot-at .ensures) (c .before .before .before .before .before .before .before .before .before .before .if1 .left) in
     (omega (arith, c .before .before .before .before .before .before .before .before .before .before .before .before .before .before .pre .0, c .before .before .before .before .before .before .before .before .before .before .if1 .left), (c .before .before .before .before .before .before .before .before .before .before .if1 .left, a .pre .1 .0, ready-placed all sl sls u (x .bytes .now) (x .payload .now) (x .decoded .now) (x .last) (x .acc) (a .pre .1 .1) (c .before .before .before .before .before .item .given .0 .0) (c .before .before .before .before .before .item .given .1) (not-true _ (c .if3 .taken))))
 
 from-item-returns-4 : (t : ℕ) → from-item-lts.Need-returns-4 (from-item-claims t) (from-item-at t) from-item.Post
 from-item-returns-4 t c =
     let a = c .before .before .before .before .before .before .before .before .before .before .before .before .before .before .before in
     let x = a .args in
-    let all = itemsLeft (x .t1) (x .k) in
-    let sl = getD (x .t1 .items) (x .k) slot0 in
-    let sls = itemsLeft (x .t1) (x .k + 1) in
-    let u : all ≡ sl ∷ sls = slots-here t a (c .before .before .before .before .before .before .before .before .before .before .before .if1 .left) in
-    let v = seen (x .t1 .facts) (x .payload .now) (x .decoded .now) (x .t1 .map) in
-    let passed = drop (x .acc .count) (x .t1 .bound) in
+    let all = itemsLeft (x .q) (x .k) in
+    let sl = c .before .before .before .before .before .before .before .before .slot-at .result in
+    let sls = itemsLeft (x .q) (x .k + 1) in
+    let u : all ≡ sl ∷ sls = slots-here t a sl (c .before .before .before .before .before .before .before .before .slot-at .ensures) (c .before .before .before .before .before .before .before .before .before .before .before .if1 .left) in
+    let v = seen (x .q .facts) (x .payload .now) (x .decoded .now) (x .q .map) in
+    let passed = drop (x .acc .count) (x .q .bound) in
     let p = c .before .before .before .before .before .before .item .given .0 .0 in
     let e = c .before .before .before .before .before .before .item .given .1 in
     placed-first v (x .last) (x .acc) (x .tight) passed (wanted all (x .bytes .now)) (placed p (ownOf (x .bytes .now) (p .len)) ∷ wanted sls (restOf (x .bytes .now) (p .len))) (c .try-starts .result)
@@ -245,10 +246,10 @@ from-item-negated-holds-requires : (t : ℕ) → from-item-lts.Need-negated-hold
 from-item-negated-holds-requires t c κs =
     let a = c .before .before .before .before .before .before .before .before .before .before .before .before .before .before in
     let x = a .args in
-    let all = itemsLeft (x .t1) (x .k) in
-    let sl = getD (x .t1 .items) (x .k) slot0 in
-    let sls = itemsLeft (x .t1) (x .k + 1) in
-    let u : all ≡ sl ∷ sls = slots-here t a (c .before .before .before .before .before .before .before .before .before .before .if1 .left) in
+    let all = itemsLeft (x .q) (x .k) in
+    let sl = c .before .before .before .before .before .before .before .slot-at .result in
+    let sls = itemsLeft (x .q) (x .k + 1) in
+    let u : all ≡ sl ∷ sls = slots-here t a sl (c .before .before .before .before .before .before .before .slot-at .ensures) (c .before .before .before .before .before .before .before .before .before .before .if1 .left) in
     pattern-bounded all sl sls u (x .bytes .now) (x .payload .now) (x .decoded .now) (x .last) (x .acc) (a .pre .1 .1) (c .before .before .before .before .before .item .given .0 .0) (c .before .before .before .before .before .item .given .1)
 
 from-item-no-match-requires-2 : (t : ℕ) → from-item-lts.Need-no-match-requires-2 (from-item-claims t) (from-item-at t) from-item.Post
@@ -258,16 +259,16 @@ from-item-returns-5 : (t : ℕ) → from-item-lts.Need-returns-5 (from-item-clai
 from-item-returns-5 t c =
     let a = c .before .before .before .before .before .before .before .before .before .before .before .before .before .before .before .before .before in
     let x = a .args in
-    let all = itemsLeft (x .t1) (x .k) in
-    let sl = getD (x .t1 .items) (x .k) slot0 in
-    let sls = itemsLeft (x .t1) (x .k + 1) in
-    let u : all ≡ sl ∷ sls = slots-here t a (c .before .before .before .before .before .before .before .before .before .before .before .before .before .if1 .left) in
-    let v = seen (x .t1 .facts) (x .payload .now) (x .decoded .now) (x .t1 .map) in
-    let passed = drop (x .acc .count) (x .t1 .bound) in
+    let all = itemsLeft (x .q) (x .k) in
+    let sl = c .before .before .before .before .before .before .before .before .before .before .slot-at .result in
+    let sls = itemsLeft (x .q) (x .k + 1) in
+    let u : all ≡ sl ∷ sls = slots-here t a sl (c .before .before .before .before .before .before .before .before .before .before .slot-at .ensures) (c .before .before .before .before .before .before .before .before .before .before .before .before .before .if1 .left) in
+    let v = seen (x .q .facts) (x .payload .now) (x .decoded .now) (x .q .map) in
+    let passed = drop (x .acc .count) (x .q .bound) in
     let p = c .before .before .before .before .before .before .before .before .item .given .0 .0 in
     let e = c .before .before .before .before .before .before .before .before .item .given .1 in
     nowhere-no v (x .last) (x .acc) (x .tight) passed (wanted all (x .bytes .now)) (wanted sls (restOf (x .bytes .now) (p .len))) (c .no-match2 .result) p (ownOf (x .bytes .now) (p .len)) (wanted-nowhere all sl sls u (x .bytes .now) p e (not-false _ (c .before .before .before .if3 .left)))
-    (c .before .before .negated-holds .result) (c .before .before .negated-holds .ensures (x .t1 .facts)) (c .before .if4 .taken) (c .no-match2 .ensures)
+    (c .before .before .negated-holds .result) (c .before .before .negated-holds .ensures (x .q .facts)) (c .before .if4 .taken) (c .no-match2 .ensures)
 
 from-item-add-from-item-2 : (t : ℕ) → from-item-lts.Need-add-from-item-2 (from-item-claims t) (from-item-at t) from-item.Post
 from-item-add-from-item-2 t c = omega (arith, c .before .before .before .before .before .before .before .before .before .before .before .before .before .before .before .before .pre .1 .0, c .before .before .before .before .before .before .before .before .before .before .before .before .if1 .left)
@@ -276,26 +277,26 @@ from-item-from-item-requires-2 : (t : ℕ) → from-item-lts.Need-from-item-requ
 from-item-from-item-requires-2 t c κs =
     let a = c .before .before .before .before .before .before .before .before .before .before .before .before .before .before .before .before in
     let x = a .args in
-    let all = itemsLeft (x .t1) (x .k) in
-    let sl = getD (x .t1 .items) (x .k) slot0 in
-    let sls = itemsLeft (x .t1) (x .k + 1) in
-    let u : all ≡ sl ∷ sls = slots-here t a (c .before .before .before .before .before .before .before .before .before .before .before .before .if1 .left) in
+    let all = itemsLeft (x .q) (x .k) in
+    let sl = c .before .before .before .before .before .before .before .before .before .slot-at .result in
+    let sls = itemsLeft (x .q) (x .k + 1) in
+    let u : all ≡ sl ∷ sls = slots-here t a sl (c .before .before .before .before .before .before .before .before .before .slot-at .ensures) (c .before .before .before .before .before .before .before .before .before .before .before .before .if1 .left) in
     (omega (arith, c .before .before .before .before .before .before .before .before .before .before .before .before .before .before .before .before .pre .0, c .before .before .before .before .before .before .before .before .before .before .before .before .if1 .left), (a .pre .1 .0, ready-nowhere all sl sls u (x .bytes .now) (x .payload .now) (x .decoded .now) (x .last) (x .acc) (a .pre .1 .1) (c .before .before .before .before .before .before .before .item .given .0 .0) (c .before .before .before .before .before .before .before .item .given .1) (not-false _ (c .before .before .if3 .left))))
 
 from-item-returns-6 : (t : ℕ) → from-item-lts.Need-returns-6 (from-item-claims t) (from-item-at t) from-item.Post
 from-item-returns-6 t c =
     let a = c .before .before .before .before .before .before .before .before .before .before .before .before .before .before .before .before .before in
     let x = a .args in
-    let all = itemsLeft (x .t1) (x .k) in
-    let sl = getD (x .t1 .items) (x .k) slot0 in
-    let sls = itemsLeft (x .t1) (x .k + 1) in
-    let u : all ≡ sl ∷ sls = slots-here t a (c .before .before .before .before .before .before .before .before .before .before .before .before .before .if1 .left) in
-    let v = seen (x .t1 .facts) (x .payload .now) (x .decoded .now) (x .t1 .map) in
-    let passed = drop (x .acc .count) (x .t1 .bound) in
+    let all = itemsLeft (x .q) (x .k) in
+    let sl = c .before .before .before .before .before .before .before .before .before .before .slot-at .result in
+    let sls = itemsLeft (x .q) (x .k + 1) in
+    let u : all ≡ sl ∷ sls = slots-here t a sl (c .before .before .before .before .before .before .before .before .before .before .slot-at .ensures) (c .before .before .before .before .before .before .before .before .before .before .before .before .before .if1 .left) in
+    let v = seen (x .q .facts) (x .payload .now) (x .decoded .now) (x .q .map) in
+    let passed = drop (x .acc .count) (x .q .bound) in
     let p = c .before .before .before .before .before .before .before .before .item .given .0 .0 in
     let e = c .before .before .before .before .before .before .before .before .item .given .1 in
     nowhere-yes v (x .last) (x .acc) (x .tight) passed (wanted all (x .bytes .now)) (wanted sls (restOf (x .bytes .now) (p .len))) (c .from-item2 .result) p (ownOf (x .bytes .now) (p .len)) (wanted-nowhere all sl sls u (x .bytes .now) p e (not-false _ (c .before .before .before .if3 .left)))
-    (c .before .before .negated-holds .result) (c .before .before .negated-holds .ensures (x .t1 .facts)) (c .before .if4 .left) (c .from-item2 .ensures)
+    (c .before .before .negated-holds .result) (c .before .before .negated-holds .ensures (x .q .facts)) (c .before .if4 .left) (c .from-item2 .ensures)
 
 abbrev try-starts-Inv-loop : try-starts-lts.InvT-loop
 try-starts-Inv-loop q k p own rest payload decoded last acc tight f j b nocase to at₀ at =
@@ -455,8 +456,7 @@ pub +from-item+try-starts-spec : {M : Type 1} → statement M
     from-item.Post
     (from-item-at-end-requires t)
     (from-item-returns t)
-    (from-item-mul-slot t)
-    (from-item-element-copy-out-slot t)
+    (from-item-slot-at-requires t)
     (from-item-enum-known-item t)
     (from-item-test-holds-requires t)
     (from-item-no-match-requires t)

@@ -1,0 +1,2 @@
+-- What the contracts over a question cite besides the definitions.
+pub mod Questions
