@@ -12,12 +12,12 @@ use definitions::packet::Facts;
 use definitions::packet::FieldMap;
 use definitions::packet::Last;
 use definitions::table::Table;
-use search_items::from_item;
 use meaning::heads::head_holds;
+use search_items::from_item;
 use search_outcomes::Outcome;
 use search_outcomes::empty;
 use search_outcomes::no_match;
-use questions::Question;
+use search_question::Question;
 
 // THE SEARCH: the first of the list of placements; where `tight`, the first behind the one with the starts in `bound`.
 pub fn find<'a>(

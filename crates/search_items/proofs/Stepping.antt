@@ -20,7 +20,7 @@ use Rattle.definitions.specs.declared.packet.Last.{Last}
 use Rattle.definitions.specs.declared.packet.Placement.{Placement}
 use Rattle.definitions.specs.References.{lastAfter}
 use Rattle.definitions.specs.Windows.{lastEnd}
-use Rattle.definitions.specs.Tables.{Kind, patternFirst, patternsOf, behindItem}
+use Rattle.definitions.specs.Items.{Kind, patternFirst, patternsOf, behindItem}
 use Rattle.definitions.specs.WellFormed.{bytesOf}
 use Rattle.definitions.specs.Fields.{View}
 use Rattle.definitions.specs.Tests.{testHolds}
@@ -34,8 +34,8 @@ use Rattle.search_outcomes.specs.declared.Outcome.{Outcome}
 use Rattle.search_outcomes.specs.Outcomes.{nothing}
 use Rattle.search_chosen.specs.Choosing.{push, answer}
 use Rattle.search_chosen.proofs.Answering.{answer-nothing}
-use Rattle.questions.specs.declared.Question.{Question}
-use Rattle.questions.specs.Questions.{itemsLeft, slot0}
+use Rattle.search_question.specs.declared.Question.{Question}
+use Rattle.search_question.specs.Questions.{itemsLeft, slot0}
 use Rattle.search_items.specs.Items.{Small, Ready, Trying}
 
 -- ---- what is wanted

@@ -7,7 +7,7 @@ use Rattle.definitions.specs.declared.table.Slot.{Slot}
 use Rattle.definitions.specs.declared.packet.Last.{Last}
 use Rattle.definitions.specs.declared.packet.Placement.{Placement}
 use Rattle.definitions.specs.Limits.{patternsMost}
-use Rattle.definitions.specs.Tables.{patternsOf}
+use Rattle.definitions.specs.Items.{patternsOf}
 use Rattle.definitions.specs.WellFormed.{bytesOf}
 use Rattle.definitions.specs.Windows.{lastEnd}
 use Rattle.definitions.specs.Placements.{wanted, positives}

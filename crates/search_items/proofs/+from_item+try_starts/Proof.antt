@@ -18,7 +18,7 @@ use Rattle.windows.proofs.Listing.{from, standing}
 use Rattle.fields.specs.Seen.{seen}
 use Rattle.meaning.proofs.Placing.{measured}
 use Rattle.search_chosen.specs.Choosing.{answer}
-use Rattle.questions.specs.Questions.{itemsLeft, slot0}
+use Rattle.search_question.specs.Questions.{itemsLeft, slot0}
 use Rattle.search_items.proofs.Stepping.{length-mapped, ownOf, restOf, left-here, left-out, wanted-test, wanted-nowhere, wanted-placed, ready-test, pattern-stored, pattern-bounded, ready-nowhere, ready-placed, trying-bounded, ready-next, test-yes, test-no, nowhere-yes, nowhere-no, placed-first, behind-last}
 use Rattle.search_items.proofs.Trials.{try-absent, try-begin, ahead, try-done, try-no, tried, or-found, or-missing}
 use Prim.Native.Nat.{ℕ, _+_, _-_, _≤_, _<_}
@@ -34,7 +34,7 @@ use Rattle.fields.proofs.field_of.Reads as field-of-reads
 use Rattle.fields.proofs.is_present.Reads as is-present-reads
 use Rattle.meaning.proofs.negated.negated_holds.Reads as negated-holds-reads
 use Rattle.meaning.proofs.test_holds.Reads as test-holds-reads
-use Rattle.questions.proofs.slot_at.Reads as slot-at-reads
+use Rattle.search_question.proofs.slot_at.Reads as slot-at-reads
 use Rattle.search_chosen.proofs.at_end.Reads as at-end-reads
 use Rattle.search_chosen.proofs.last_at.Reads as last-at-reads
 use Rattle.search_outcomes.proofs.no_match.Reads as no-match-reads

@@ -4,7 +4,7 @@ use mathlib.Core.List.{List, []}
 use lib.ListN.{take, drop}
 use Rattle.definitions.specs.declared.table.Item.the-variants as item
 use Rattle.definitions.specs.declared.table.Slot.{Slot}
-use Rattle.questions.specs.declared.Question.{Question}
+use Rattle.search_question.specs.declared.Question.{Question}
 
 -- the items in use from the k-th on
 abbrev pub itemsLeft : Question → ℕ → List Slot

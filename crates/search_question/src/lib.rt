@@ -3,7 +3,7 @@ ghost use mathlib.Core.Path.{_≡_};
 ghost use Prim.Native.Nat.{_<_};
 ghost use lib.ListN.{getD};
 ghost use Rattle.definitions.specs.Limits.{itemsMost};
-ghost use Rattle.questions.specs.Questions.{slot0};
+ghost use Rattle.search_question.specs.Questions.{slot0};
 use definitions::limits::ITEMS;
 use definitions::limits::PATTERNS;
 use definitions::packet::Facts;

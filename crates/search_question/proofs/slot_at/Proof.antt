@@ -1,8 +1,8 @@
 -- The place lies in the array.
 use mathlib.Core.Path.{refl}
 use native.Mathlib.Omega.{arith}
-use Rattle.questions.proofs.slot_at.Statement.{statement}
-use Rattle.questions.proofs.slot_at.Tie as tie
+use Rattle.search_question.proofs.slot_at.Statement.{statement}
+use Rattle.search_question.proofs.slot_at.Tie as tie
 
 mul-result : tie.Need-mul-result
 mul-result c = omega arith
