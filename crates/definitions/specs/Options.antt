@@ -1,4 +1,4 @@
--- The options and their names. Section "Text", the table's first column.
+-- The options and their names, and the frame of a text. Section "Text", the table's first column.
 use Prim.Native.Nat.{ℕ, _+_}
 use Prim.Native.String.{String}
 use mathlib.Core.Bool.{Bool, _||_}

@@ -1,3 +1,2 @@
 -- How many items and patterns a table has.
 pub mod Forming
-pub mod Passing

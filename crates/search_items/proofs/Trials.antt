@@ -16,7 +16,7 @@ use Rattle.definitions.specs.Lists.{keep}
 use Rattle.definitions.specs.References.{lastAfter}
 use Rattle.definitions.specs.Fields.{present, fieldOf}
 use Rattle.definitions.specs.Placements.{Wanted, placed, upFrom, spread, liesIn, starts, placements}
-use Rattle.formed.proofs.Passing.{drop-here}
+use Rattle.list_walks.proofs.Passing.{drop-here}
 use Rattle.window_spans.specs.declared.Window.{Window}
 use Rattle.window_spans.specs.Spans.{Spans, placesOf}
 use Rattle.windows.proofs.Listing.{from, standing, passed, places-window}
