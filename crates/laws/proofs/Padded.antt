@@ -1,10 +1,10 @@
--- Storing behind what a padded array holds makes the padded array of the longer list: by where the stored element meets the padding.
+-- Storing behind what a padded array holds makes the padded array of the longer list: by where the stored element meets the padding. And its length.
 use mathlib.Core.Path.{_≡_, sym, ap, _∙_}
 use mathlib.Core.List.{List, [], _∷_, _++_, append-nil}
 use Prim.Native.Nat.{ℕ, suc, _+_, _-_, _≤_, _<_}
 use native.Mathlib.Omega.{arith}
 use native.Mathlib.Numerals.{add-one}
-use lib.ListN.{length, getD, take, drop, set, replicate, length-append, length-drop, length-set, List·getD-append}
+use lib.ListN.{length, getD, take, drop, set, replicate, length-append, length-drop, length-set, length-replicate, List·getD-append}
 use lib.Seq.{sets, append-snoc, set-append-seam, set-append-left, take-suc, length-take-le, getD-drop}
 use Rattle.definitions.specs.Lists.{padded}
 
@@ -30,6 +30,16 @@ module _ {A : Type 0} (n : ℕ) (x : A) where
 
   pub padded-at : (l : List A) (i : ℕ) (d : A) → i < length l → getD (padded n x l) i d ≡ getD l i d
   padded-at l i d h = List·getD-append l (replicate (n - length l) x) d i h
+
+  -- a list that fits fills the array exactly, and one that does not makes it longer
+  padded-length : (l : List A) → length (padded n x l) ≡ length l + (n - length l)
+  padded-length l = length-append l (replicate (n - length l) x) ∙ ap (λ i. length l + i) (length-replicate (n - length l) x)
+
+  pub padded-full : (l : List A) → length l ≤ n → length (padded n x l) ≡ n
+  padded-full l h = omega (arith, h, padded-length l)
+
+  pub padded-holds : (l : List A) → length (padded n x l) ≡ n → length l ≤ n
+  padded-holds l e = omega (arith, e, padded-length l)
 
 -- one byte more of a part of a list
 pub padded-part : (n : ℕ) (s : List ℕ) (from i : ℕ) → i < n → from + i < length s

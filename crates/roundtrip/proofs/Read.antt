@@ -24,7 +24,8 @@ use Rattle.syntax.proofs.Counting.{options-tests}
 use Rattle.syntax.proofs.Exact.{syntax-exactly, read-exactly}
 use Rattle.roundtrip.proofs.Counts.{few-addresses}
 use Rattle.roundtrip.proofs.Formed.{options-fit, options-bytes, Entries, entries-formed, entries-named, entries-slotted}
-use Rattle.roundtrip.proofs.Shape.{padded-holds, table-shaped}
+use Rattle.roundtrip.proofs.Shape.{table-shaped}
+use Rattle.laws.proofs.Padded.{padded-holds}
 
 -- ---- texts of the grammar
 

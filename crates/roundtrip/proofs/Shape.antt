@@ -1,11 +1,10 @@
 -- The table of entries has the shape of a table if name, pattern bytes, slots and each test's addresses fit into their arrays: a list in an array with
 -- room for it fills the array exactly, and a list that does not fit makes it longer.
-use mathlib.Core.Path.{_≡_, refl, ap, _∙_}
+use mathlib.Core.Path.{_≡_, refl}
 use mathlib.Core.Bool.{Bool, true}
 use mathlib.Core.List.{List, [], _∷_}
-use Prim.Native.Nat.{ℕ, _+_, _-_, _≤_}
-use native.Mathlib.Omega.{arith}
-use lib.ListN.{length, length-append, length-replicate, replicate}
+use Prim.Native.Nat.{ℕ, _-_, _≤_}
+use lib.ListN.{length, replicate}
 use lib.Dec.{eqb}
 use borrow.Author.Tests.{eq-eqb, eqb-true, leb-true}
 use Rattle.definitions.specs.declared.table.Slot.{Slot}
@@ -15,20 +14,9 @@ use Rattle.definitions.specs.Lists.{all?, padded}
 use Rattle.definitions.specs.Entries.{Entry, Name, Protocol, Flow, Test, Pattern, Modified}
 use Rattle.definitions.specs.Tables.{nameIn, noAddress, slotOf, noSlot, slotsIn, bytesIn, tableOf}
 use Rattle.definitions.specs.WellFormed.{Shaped}
+use Rattle.laws.proofs.Padded.{padded-full}
 use Rattle.roundtrip.proofs.Alls.{all-none, all-more, all-head, all-tail, all-append, all-replicate, all-of, all-each}
 use Rattle.roundtrip.proofs.Counts.{fewAddresses}
-
--- ---- an array with room behind what it holds
-
-module _ {A : Type 0} (n : ℕ) (x : A) (l : List A) where
-  padded-length : length (padded n x l) ≡ length l + (n - length l)
-  padded-length = length-append l (replicate (n - length l) x) ∙ ap (λ i. length l + i) (length-replicate (n - length l) x)
-
-  pub padded-full : length l ≤ n → length (padded n x l) ≡ n
-  padded-full h = omega (arith, h, padded-length)
-
-  pub padded-holds : length (padded n x l) ≡ n → length l ≤ n
-  padded-holds e = omega (arith, e, padded-length)
 
 -- ---- each slot has its addresses
 
