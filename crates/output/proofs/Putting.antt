@@ -6,7 +6,9 @@ use native.Mathlib.Numerals.{add-one}
 use native.Mathlib.Nat.{not-suc-le-zero, le-of-suc-le-suc}
 use lib.ListN.{length, set, getD, drop, length-set, drop-of-length-le}
 use lib.Seq.{drop-cons}
-use Rattle.output.specs.Puts.{counted, puts, Puts}
+use native.Mathlib.Omega.{arith}
+use borrow.Author.Tests.{lt-ltb}
+use Rattle.output.specs.Puts.{countedMost, counted, puts, Puts}
 
 -- ---- one byte
 
@@ -23,6 +25,27 @@ set-past (x ∷ out) (suc at) b h = ap (λ (l : List ℕ). x ∷ l) (set-past ou
 pub one-past : {out : List ℕ} {at b next : ℕ} → length out ≤ at → next ≡ counted at → Puts out at (b ∷ []) out next
 unfolding puts
 one-past {out = out} {at = at} {b = b} {next = next} h e = record { is = ap (λ (l : List ℕ). (l, next)) (sym (set-past out at b h)) ∙ ap (λ (n : ℕ). (set out at b, n)) e }
+
+pub counted-one : (at : ℕ) → at < countedMost → counted at ≡ suc at
+unfolding counted
+counted-one at h = rw (lt-ltb at countedMost h)
+
+-- a byte that has room and is counted
+pub one-kept : (out : List ℕ) (at b : ℕ) → at < countedMost → Puts out at (b ∷ []) (set out at b) (suc at)
+one-kept out at b h = one-put (sym (counted-one at h))
+
+-- bytes past the end are counted only
+pub all-past : (out : List ℕ) (at : ℕ) (l : List ℕ) → length out ≤ at → at + length l ≤ countedMost → Puts out at l out (at + length l)
+unfolding puts
+all-past out at [] h g = record { is = let e : at + 0 ≡ at = omega arith in ap (λ (n : ℕ). (out, n)) e }
+all-past out at (b ∷ l) h g =
+    let e : suc at + length l ≡ at + suc (length l) = omega arith in
+    record {
+      is =
+          ap (λ (n : ℕ). (out, n)) (sym e)
+          ∙ all-past out (suc at) l (omega (arith, h)) (omega (arith, g)) .is
+          ∙ sym (rw (set-past out at b h, counted-one at (omega (arith, g))));
+    }
 
 -- ---- parts
 

@@ -7,10 +7,11 @@ use native.Mathlib.Nat.{le-refl, le-trans, le-of-lt}
 use lib.Dec.{leb, ltb}
 use lib.ListN.{length, set, take, drop, length-append}
 use lib.Seq.{sets, sets-eq, take-set-le, take-at, length-take-le}
-use borrow.Author.Tests.{le-leb, leb-true, leb-false, lt-ltb, le-ltb, ltb-true, ltb-false}
+use borrow.Author.Tests.{le-leb, leb-true, leb-false, le-ltb, ltb-true, ltb-false}
 use Rattle.forms.proofs.Bools.{by-cases}
 use Rattle.output.specs.Puts.{countedMost, counted, puts, Puts}
 use Rattle.output.specs.Clipped.{atMost}
+use Rattle.output.proofs.Putting.{counted-one}
 
 pub most-of : (n most : ℕ) → n ≤ most → atMost n most ≡ n
 unfolding atMost
@@ -19,10 +20,6 @@ most-of n most h = rw (le-leb n most h)
 pub most-full : (n most : ℕ) → most ≤ n → atMost n most ≡ most
 unfolding atMost
 most-full n most h = by-cases (leb n most) (λ t. rw t (omega (arith, h, leb-true n most t))) (λ f. rw f)
-
-counted-on : (at : ℕ) → at < countedMost → counted at ≡ suc at
-unfolding counted
-counted-on at h = rw (lt-ltb at countedMost h)
 
 counted-full : (at : ℕ) → countedMost ≤ at → counted at ≡ at
 unfolding counted
@@ -37,7 +34,7 @@ puts-count out at (b ∷ l) h =
     (λ t.
     let g : at < countedMost = ltb-true at countedMost t in
     let e : suc at + length l ≡ at + suc (length l) = omega arith in
-    ap (λ (k : ℕ). puts (set out at b) k l .1) (counted-on at g) ∙ puts-count (set out at b) (suc at) l g ∙ ap (λ (n : ℕ). atMost n countedMost) e)
+    ap (λ (k : ℕ). puts (set out at b) k l .1) (counted-one at g) ∙ puts-count (set out at b) (suc at) l g ∙ ap (λ (n : ℕ). atMost n countedMost) e)
     (λ f.
     let g : countedMost ≤ at = ltb-false at countedMost f in
     ap (λ (k : ℕ). puts (set out at b) k l .1) (counted-full at g)
@@ -48,7 +45,7 @@ puts-count out at (b ∷ l) h =
 puts-sets : (out : List ℕ) (at : ℕ) (l : List ℕ) → at + length l ≤ countedMost → puts out at l .0 ≡ sets out at l
 unfolding puts
 puts-sets out at [] h = refl
-puts-sets out at (b ∷ l) h = ap (λ (k : ℕ). puts (set out at b) k l .0) (counted-on at (omega (arith, h))) ∙ puts-sets (set out at b) (suc at) l (omega (arith, h))
+puts-sets out at (b ∷ l) h = ap (λ (k : ℕ). puts (set out at b) k l .0) (counted-one at (omega (arith, h))) ∙ puts-sets (set out at b) (suc at) l (omega (arith, h))
 
 -- bytes that have room in the buffer stand there, and nothing else is touched
 pub puts-buffer : (out : List ℕ) (at : ℕ) (l : List ℕ) → at + length l ≤ length out → at + length l ≤ countedMost → puts out at l .0 ≡ (take at out ++ l) ++ drop (at + length l) out

@@ -2,9 +2,11 @@
 pub mod limits;
 
 ghost use mathlib.Core.List.{[], _∷_};
+ghost use Prim.Native.Nat.{_+_, _≤_};
+ghost use lib.ListN.{length};
 ghost use Rattle.definitions.specs.House.{decimal};
 ghost use mathlib.Core.Path.{_≡_};
-ghost use Rattle.output.specs.Puts.{counted, Puts};
+ghost use Rattle.output.specs.Puts.{countedMost, counted, Puts};
 
 // So many bytes are counted: no sum wraps, whatever is put.
 pub const COUNTED: usize = 4294967295;
@@ -26,8 +28,21 @@ pub fn put(out: &mut [u8], at: usize, b: u8) -> usize
     next_place(at)
 }
 
-// A word.
-pub fn put_word(out: &mut [u8], at: usize, w: &[u8]) -> usize
+// A word that has room: no place is looked at before it is written.
+fn put_whole(out: &mut [u8], at: usize, w: &[u8]) -> usize
+    requires { ⌜ (at + length (now w) ≤ length (now out)) × (at + length (now w) ≤ countedMost) ⌝ }
+    ensures { λ r. ⌜ Puts (now (out .entry)) at (now (w .entry)) (now (out .exit)) r ⌝ }
+{
+    let mut i = 0;
+    while i < w.len() {
+        out[at + i] = w[i];
+        i += 1;
+    }
+    at + i
+}
+
+// A word, byte by byte.
+fn put_each(out: &mut [u8], at: usize, w: &[u8]) -> usize
     ensures { λ r. ⌜ Puts (now (out .entry)) at (now (w .entry)) (now (out .exit)) r ⌝ }
 {
     let mut next = at;
@@ -37,6 +52,25 @@ pub fn put_word(out: &mut [u8], at: usize, w: &[u8]) -> usize
         i += 1;
     }
     next
+}
+
+// A word. Nearly all have room, or lie past the end as a whole, where they are counted only.
+pub fn put_word(out: &mut [u8], at: usize, w: &[u8]) -> usize
+    ensures { λ r. ⌜ Puts (now (out .entry)) at (now (w .entry)) (now (out .exit)) r ⌝ }
+{
+    let room = out.len();
+    let n = w.len();
+    if at <= COUNTED {
+        if n <= COUNTED - at {
+            if room <= at {
+                return at + n;
+            }
+            if n <= room - at {
+                return put_whole(out, at, w);
+            }
+        }
+    }
+    put_each(out, at, w)
 }
 
 // A number in decimal, without leading zeros.

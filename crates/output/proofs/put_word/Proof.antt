@@ -1,58 +1,49 @@
--- Byte by byte: what is still to be put from here on is the word from the loop's place on.
-use mathlib.Core.Path.{_≡_, refl, sym, _∙_}
-use Prim.Native.Nat.{_-_, _≤_}
+-- Past the end the word is counted only (`all-past`); else as the two callees put it.
 use native.Mathlib.Omega.{arith}
-use lib.ListN.{length, drop}
-use Rattle.output.specs.Puts.{puts}
-use Rattle.output.proofs.Putting.{put-on, put-all, same-length as same}
+use Rattle.output.proofs.Putting.{all-past, same-length as same}
+use borrow.Author.Needs.{needs}
 use Rattle.output.proofs.put_word.Statement.{statement}
 use Rattle.output.proofs.put_word.Tie as tie
 
-abbrev Inv-loop : tie.InvT-loop
-Inv-loop out₀ at w next₀ i₀ out next i = (i ≤ length w) × (puts out₀ next₀ w ≡ puts out next (drop i w))
+add-result : tie.Need-add-result
+add-result c = search needs
 
-abbrev μ-loop : tie.MeasureT-loop
-μ-loop out₀ at w next₀ i₀ out next i = length w - i
+returns : tie.Need-returns
+returns c =
+    let x = c .before .before .before .before .before .args in
+    all-past (x .out .now) (x .at) (x .w .now) (c .if3 .taken) (omega arith)
 
-loop-holds : tie.Need-loop-holds Inv-loop μ-loop
-loop-holds c = (omega arith, refl)
+sub-if4 : tie.Need-sub-if4
+sub-if4 c = search needs
 
-shared-slice-read-put : tie.Need-shared-slice-read-put Inv-loop μ-loop
-shared-slice-read-put c = omega arith
+put-whole-requires : tie.Need-put-whole-requires
+put-whole-requires c κs = (omega arith, omega arith)
 
-put-requires : tie.Need-put-requires Inv-loop μ-loop
-put-requires c κs = tt
+returns-2 : tie.Need-returns-2
+returns-2 c = search needs
 
-add-i : tie.Need-add-i Inv-loop μ-loop
-add-i c = omega arith
+same-length : tie.Need-same-length
+same-length c = same (returns-2 c)
 
-loop-less : tie.Need-loop-less Inv-loop μ-loop
-loop-less c = omega arith
+put-each-requires : tie.Need-put-each-requires
+put-each-requires c κs = tt
 
-loop-again : tie.Need-loop-again Inv-loop μ-loop
-loop-again c = (
-  omega arith,
-  c .before .before .before .before .before .before .loop .inv .1
-      ∙ put-on (c .before .before .before .before .before .before .loop .out) (c .before .before .before .before .before .before .loop .next) (c .before .before .before .before .before .before .before .before .before .args .w .now) (c .before .before .before .before .before .before .loop .i) (c .before .before .before .before .before .loop-test .taken) (c .before .before .put .ensures),
-)
+returns-3 : tie.Need-returns-3
+returns-3 c = search needs
 
-returns : tie.Need-returns Inv-loop μ-loop
-returns c = record { is = sym (c .before .loop .inv .1 ∙ put-all (c .before .loop .out) (c .before .loop .next) (c .before .before .before .before .args .w .now) (c .before .loop .i) (c .loop-test .left)) }
-
-same-length : tie.Need-same-length Inv-loop μ-loop
-same-length c = same (returns c)
+same-length-2 : tie.Need-same-length-2
+same-length-2 c = same (returns-3 c)
 
 pub put-word-spec : {M : Type 1} → statement M
 put-word-spec =
     tie.close
     (tie.spec
-    Inv-loop
-    μ-loop
-    loop-holds
-    shared-slice-read-put
-    put-requires
-    add-i
-    loop-less
-    loop-again
+    add-result
+    returns
+    sub-if4
+    put-whole-requires
     same-length
-    returns)
+    returns-2
+    put-each-requires
+    same-length-2
+    returns-3)
