@@ -56,9 +56,11 @@ pub fn answer_text(out: &mut [u8], at: usize, s: &[u8]) -> usize
 {
     let reading = read(s);
     let outcome = reading.outcome;
-    let table = reading.table;
     match outcome {
-        ReadOutcome::Accepted => put_table(out, at, table),
+        ReadOutcome::Accepted => {
+            let table = reading.table;
+            put_table(out, at, table)
+        }
         ReadOutcome::Refused(r, place) => put_refused(out, at, r, place),
     }
 }

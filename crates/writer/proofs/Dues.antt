@@ -2,11 +2,11 @@
 use mathlib.Core.Path.{_≡_, sym, ap, _∙_}
 use mathlib.Core.Bool.{true, false}
 use mathlib.Core.List.{List, _++_}
-use Prim.Native.Nat.{ℕ, _+_, _≤_, _<_}
+use Prim.Native.Nat.{ℕ, _+_, _-_, _≤_, _<_}
 use native.Mathlib.Omega.{arith}
-use native.Mathlib.Nat.{zero-add, le-of-lt}
+use native.Mathlib.Nat.{zero-add, sub-zero, le-of-lt}
 use lib.Dec.{leb}
-use lib.ListN.{length, drop}
+use lib.ListN.{length, take, drop}
 use borrow.Author.Tests.{lt-ltb, le-ltb, leb-true, leb-false}
 use Rattle.forms.proofs.Bools.{by-cases}
 use Rattle.definitions.specs.declared.table.Table.{Table}
@@ -21,7 +21,7 @@ use Rattle.definitions.specs.Writing.{writingDue, writtenIf, bufferIf, writes, 
 use Rattle.roundtrip.proofs.Buffer.{house-written}
 use Rattle.output.specs.Puts.{countedMost, Puts}
 use Rattle.output.specs.Clipped.{atMost}
-use Rattle.output.proofs.Whole.{most-of, most-full, puts-count, puts-buffer}
+use Rattle.output.proofs.Whole.{most-of, most-full, puts-count, puts-buffer, placed-whole}
 
 -- a house text is measured: its length, or the most that is counted
 abbrev Measures : Table → ℕ → Type 0
@@ -50,6 +50,12 @@ module _ (t : Table) where
       by-cases (leb len countedMost)
       (λ s. e ∙ most-of len countedMost (leb-true len countedMost s))
       (λ f. absurd (let z : ⊥ = omega (arith, e ∙ most-full len countedMost (le-of-lt (leb-false len countedMost f)), h) in z))
+
+  -- put into room that it fits, it can be taken from there
+  pub taken-back : {room after : List ℕ} {r : ℕ} → Puts room 0 (houseText t) after r → r ≤ limits01 .house → length room ≡ limits01 .house
+      → houseText t ≡ take (r - 0) (drop 0 after)
+  taken-back {room = room} {after = after} {r = r} p h g =
+      sym (ap (λ (k : ℕ). take k after) (sub-zero r) ∙ placed-whole room 0 p (omega (arith, h)) (omega (arith, h, g)))
 
   module _ (out : List ℕ) where
     -- the answer and the buffer, by what is due

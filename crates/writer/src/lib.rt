@@ -8,23 +8,26 @@ use definitions::limits::HOUSE_BYTES;
 use definitions::table::Table;
 use formed::well_formed;
 use house::put_house;
+use output::put_word;
 
-// The text is measured by putting it into a buffer too short for any; only where nothing is due, it is put into the one that is lent.
-fn write_measured(t: Table, scratch: &mut [u8], out: &mut [u8]) -> Writing
+// The text is put into room of its own, of the length that it may have, which also measures it; where nothing is due, it is copied into the buffer that is
+// lent.
+fn write_measured(t: Table, room: &mut [u8; HOUSE_BYTES], out: &mut [u8]) -> Writing
     ensures { λ r. ⌜ r ≡ writes limits01 t (now (out .entry)) ⌝ }
     ensures { λ _. ⌜ now (out .exit) ≡ bufferAfter limits01 t (now (out .entry)) ⌝ }
 {
     if !well_formed(t) {
         return Writing::Refused(Refusal::IllFormed);
     }
-    let n = put_house(scratch, t);
+    let n = put_house(room, t);
     if HOUSE_BYTES < n {
         return Writing::Refused(Refusal::HouseLength);
     }
     if out.len() < n {
         return Writing::Refused(Refusal::ShortBuffer);
     }
-    let len = put_house(out, t);
+    let all = &room[..];
+    let len = put_word(out, 0, &all[0..n]);
     Writing::Written(len)
 }
 
@@ -34,6 +37,6 @@ pub fn write(t: Table, out: &mut [u8]) -> Writing
     ensures { λ r. ⌜ r ≡ writes limits01 t (now (out .entry)) ⌝ }
     ensures { λ _. ⌜ now (out .exit) ≡ bufferAfter limits01 t (now (out .entry)) ⌝ }
 {
-    let mut one = [0u8; 1];
-    write_measured(t, &mut one, out)
+    let mut room = [0u8; HOUSE_BYTES];
+    write_measured(t, &mut room, out)
 }

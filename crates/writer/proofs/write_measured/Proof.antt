@@ -1,8 +1,9 @@
--- By what was tested and measured.
+-- By what was tested and measured; the text is copied from the room that it was measured in (`taken-back`).
 use mathlib.Core.Path.{sym, _∙_}
+use borrow.Author.Needs.{needs}
 use borrow.Author.Tests.{not-true, not-false}
-use Rattle.writer.proofs.Dues.{measures, ill-formed, too-long, too-short, written}
-use Rattle.output.proofs.Putting.{same-length as same}
+use Rattle.output.proofs.Putting.{told}
+use Rattle.writer.proofs.Dues.{measures, ill-formed, too-long, too-short, taken-back, written}
 use Rattle.writer.proofs.write_measured.Statement.{statement}
 use Rattle.writer.proofs.write_measured.Tie as tie
 
@@ -10,34 +11,51 @@ well-formed-requires : tie.Need-well-formed-requires
 well-formed-requires c κs = tt
 
 returns : tie.Need-returns
-returns c = ill-formed (c .before .before .before .before .args .t) (c .before .before .before .before .args .out .now) (sym (c .before .well-formed .ensures) ∙ not-true _ (c .if1 .taken))
+returns c =
+    let x = c .before .before .before .args in
+    ill-formed (x .t) (x .out .now) (sym (c .before .well-formed .ensures) ∙ not-true _ (c .if1 .taken))
 
 put-house-requires : tie.Need-put-house-requires
 put-house-requires c κs = tt
 
-same-length : tie.Need-same-length
-same-length c = same (c .before .before .before .put-house .ensures)
-
 returns-2 : tie.Need-returns-2
-returns-2 c = too-long (c .before .before .before .before .before .before .before .before .before .args .t) (c .before .before .before .before .before .before .before .before .before .args .out .now) (sym (c .before .before .before .before .before .before .well-formed .ensures) ∙ not-false _ (c .before .before .before .before .before .if1 .left)) (c .before .before .before .put-house .result) (measures (c .before .before .before .before .before .before .before .before .before .args .t) (c .before .before .before .put-house .ensures)) (c .if2 .taken)
-
-same-length-2 : tie.Need-same-length-2
-same-length-2 c = same (c .before .before .before .before .put-house .ensures)
+returns-2 c =
+    let x = c .before .before .before .before .before .before .args in
+    let put = c .before .put-house in
+    let formed = sym (c .before .before .before .before .well-formed .ensures) ∙ not-false _ (c .before .before .before .if1 .left) in
+    too-long (x .t) (x .out .now) formed (put .result) (measures (x .t) (put .ensures)) (c .if2 .taken)
 
 returns-3 : tie.Need-returns-3
-returns-3 c = too-short (c .before .before .before .before .before .before .before .before .before .before .args .t) (c .before .before .before .before .before .before .before .before .before .before .args .out .now) (sym (c .before .before .before .before .before .before .before .well-formed .ensures) ∙ not-false _ (c .before .before .before .before .before .before .if1 .left)) (c .before .before .before .before .put-house .result) (measures (c .before .before .before .before .before .before .before .before .before .before .args .t) (c .before .before .before .before .put-house .ensures)) (c .before .if2 .left) (c .if3 .taken)
+returns-3 c =
+    let x = c .before .before .before .before .before .before .before .args in
+    let put = c .before .before .put-house in
+    let formed = sym (c .before .before .before .before .before .well-formed .ensures) ∙ not-false _ (c .before .before .before .before .if1 .left) in
+    too-short (x .t) (x .out .now) formed (put .result) (measures (x .t) (put .ensures)) (c .before .if2 .left) (c .if3 .taken)
 
-put-house-requires-2 : tie.Need-put-house-requires-2
-put-house-requires-2 c κs = tt
+sub-put-word : tie.Need-sub-put-word
+sub-put-word c = search needs
 
-same-length-3 : tie.Need-same-length-3
-same-length-3 c = same (c .before .before .before .before .before .before .before .before .put-house .ensures)
+part-put-word-start : tie.Need-part-put-word-start
+part-put-word-start c = search needs
 
-same-length-4 : tie.Need-same-length-4
-same-length-4 c = same (c .before .before .put-house2 .ensures)
+part-put-word-end : tie.Need-part-put-word-end
+part-put-word-end c = search needs
+
+put-word-requires : tie.Need-put-word-requires
+put-word-requires c κs = tt
 
 returns-4 : tie.Need-returns-4
-returns-4 c = written (c .before .before .before .before .before .before .before .before .before .before .before .before .before .before .args .t) (c .before .before .before .before .before .before .before .before .before .before .before .before .before .before .args .out .now) (sym (c .before .before .before .before .before .before .before .before .before .before .before .well-formed .ensures) ∙ not-false _ (c .before .before .before .before .before .before .before .before .before .before .if1 .left)) (c .before .before .before .before .before .before .before .before .put-house .result) (measures (c .before .before .before .before .before .before .before .before .before .before .before .before .before .before .args .t) (c .before .before .before .before .before .before .before .before .put-house .ensures)) (c .before .before .before .before .before .if2 .left) (c .before .before .before .before .if3 .left) (c .before .before .put-house2 .ensures)
+returns-4 c =
+    let x = c .before .before .before .before .before .before .before .before .before .before .before .before .before .before .args in
+    let put = c .before .before .before .before .before .before .before .before .before .put-house in
+    let lent = c .before .before .before .before .before .before .before .before .before .before .put-house-arg .given .0 .1 in
+    let short = c .before .before .before .before .before .before .before .before .if2 .left in
+    let formed = sym (c .before .before .before .before .before .before .before .before .before .before .before .before .well-formed .ensures) ∙ not-false _ (c .before .before .before .before .before .before .before .before .before .before .before .if1 .left) in
+    written (x .t) (x .out .now) formed (put .result) (measures (x .t) (put .ensures)) short (c .before .before .before .before .before .before .before .if3 .left)
+    (told (taken-back (x .t) (put .ensures) short lent) (c .before .before .put-word .ensures))
+
+same-length : tie.Need-same-length
+same-length c = search needs
 
 pub write-measured-spec : {M : Type 1} → statement M
 write-measured-spec =
@@ -46,11 +64,11 @@ write-measured-spec =
     well-formed-requires
     returns
     put-house-requires
-    same-length
     returns-2
-    same-length-2
     returns-3
-    put-house-requires-2
-    same-length-3
-    same-length-4
+    sub-put-word
+    part-put-word-start
+    part-put-word-end
+    put-word-requires
+    same-length
     returns-4)
