@@ -4,16 +4,14 @@ use mathlib.Core.Bool.{Bool, true, false}
 use mathlib.Core.List.{List, [], _∷_, _++_, append-nil}
 use Prim.Native.Nat.{ℕ, _+_}
 use native.Mathlib.Omega.{arith}
-use lib.ListN.{length}
 use Rattle.definitions.specs.declared.table.Flow.the-variants.{Any}
 use Rattle.definitions.specs.declared.table.Pattern as patterns
 use Rattle.definitions.specs.declared.table.Slot.{Slot}
 use Rattle.forms.proofs.Bools.{or-false}
-use Rattle.definitions.specs.Lists.{any?, count, padded}
+use Rattle.definitions.specs.Lists.{any?, count}
 use Rattle.definitions.specs.Entries.{Modifier, Entry, Name, Protocol, Flow}
 use Rattle.definitions.specs.Tables.{bytesIn, slotsIn, modified}
 use Rattle.definitions.specs.Standing.{sameKind, latest}
-use Rattle.entry.specs.declared.Room.{Room}
 use Rattle.reader_state.specs.declared.Given.{Given}
 use Rattle.reader_state.specs.declared.State.{State}
 use Rattle.reader_state.specs.State.{modifierAmong, givenIn}
@@ -22,12 +20,11 @@ use Rattle.enter.proofs.Behind.{or-true, any-append, count-append, byte
 -- ---- two states whose fields are equal
 
 pub record Alike (a b : State) : Type 0 where
-  pub name : a .name ≡ b .name
+  pub from : a .from ≡ b .from
   pub len : a .len ≡ b .len
   pub protocol : a .protocol ≡ b .protocol
   pub flow : a .flow ≡ b .flow
-  pub room : a .room ≡ b .room
-  pub items : a .items ≡ b .items
+  pub used : a .used ≡ b .used
   pub count : a .count ≡ b .count
   pub given : a .given ≡ b .given
   pub patterns : a .patterns ≡ b .patterns
@@ -38,12 +35,11 @@ pub record Alike (a b : State) : Type 0 where
 pub alike : (a b : State) → Alike a b → a ≡ b
 alike a b k = λ i.
     record {
-      name = k .name i;
+      from = k .from i;
       len = k .len i;
       protocol = k .protocol i;
       flow = k .flow i;
-      room = k .room i;
-      items = k .items i;
+      used = k .used i;
       count = k .count i;
       given = k .given i;
       patterns = k .patterns i;
@@ -51,10 +47,6 @@ alike a b k = λ i.
       last = k .last i;
       dashes = k .dashes i;
     }
-
-pub alike-room : (room : ℕ) (a b : List ℕ) → a ≡ b
-    → _≡_ {A = Room} (record { bytes = padded room 0 a; used = length a }) (record { bytes = padded room 0 b; used = length b })
-alike-room room a b e = ap (λ (l : List ℕ). record { bytes = padded room 0 l; used = length l }) e
 
 abbrev pub givenBy : Bool → Bool → Bool → List Modifier → Given
 givenBy n p f ms =

@@ -5,6 +5,7 @@ pub mod Behind
 pub mod LastPattern
 pub mod Alike
 pub mod Steps
+pub mod Items
 pub mod OneMore
 pub mod Outcomes
 pub mod Right

@@ -8,15 +8,19 @@ use lib.ListN.{length}
 use lib.Dec.{eqb, eqb·suc-zero}
 use Rattle.forms.proofs.Bools.{by-cases}
 use Rattle.definitions.specs.Limits.{limits01, patternsMost, testsMost, itemsMost}
-use Rattle.definitions.specs.Lists.{any?, keep, keepOne, count}
+use Rattle.definitions.specs.Lists.{any?, keep, keepOne, count, padded}
+use Rattle.definitions.specs.declared.table.Slot.{Slot}
 use Rattle.definitions.specs.Entries.{Entry}
+use Rattle.definitions.specs.Tables.{nameIn, bytesIn, slotsIn, noSlot}
 use Rattle.definitions.specs.Standing.{isTest, isPattern}
 use Rattle.definitions.specs.Reading.{Said, entriesOf}
 use Rattle.reader_state.specs.declared.State.{State}
-use Rattle.reader_state.specs.State.{dashesOf, lastPlace, stateFrom, saidAlso, Holds}
+use Rattle.reader_state.specs.State.{dashesOf, lastPlace, stateFrom, saidAlso, NameAt, Holds}
 use Rattle.reader_state.specs.Sound.{Sound}
 use Rattle.enter.proofs.Behind.{keep-append, slots-length, last-none}
 use Rattle.enter.proofs.LastPattern.{last-is}
+use Rattle.laws.proofs.Padded.{padded-full}
+use Rattle.enter.proofs.Items.{itemsOf}
 
 -- ---- a test that some element passes, and how many do
 
@@ -59,14 +63,21 @@ dashes-length (d ∷ said) = dash-kept (isPattern (d .entry)) d _ _ (dashes-leng
 
 -- ---- what holds
 
--- behind one option more, from its entry, its dash and the counts
-pub holds-also : (said : List Said) (dash : ℕ) (e : Entry) (ds : List ℕ) (st : State) → dashesOf (saidAlso said dash e) ≡ ds
-    → st ≡ stateFrom (limits01 .room) (entriesOf said ++ (e ∷ [])) ds → count isPattern (entriesOf said ++ (e ∷ [])) ≤ patternsMost
-    → count isTest (entriesOf said ++ (e ∷ [])) ≤ testsMost
-    → Holds (saidAlso said dash e) st
-holds-also said dash e ds st d k p t =
+-- behind one option more: from the state with it, its name, bytes and items, and the counts
+pub holds-also : (s : List ℕ) (said : List Said) (dash : ℕ) (e : Entry) (ds : List ℕ) (st : State) (bytes : List ℕ) (items : List Slot)
+    → dashesOf (saidAlso said dash e) ≡ ds
+    → st ≡ stateFrom (st .from) (entriesOf said ++ (e ∷ [])) ds
+    → NameAt s (st .from) (st .len) (nameIn (entriesOf said ++ (e ∷ [])))
+    → bytes ≡ padded (limits01 .room) 0 (bytesIn (entriesOf said ++ (e ∷ [])))
+    → items ≡ itemsOf (entriesOf said ++ (e ∷ []))
+    → count isPattern (entriesOf said ++ (e ∷ [])) ≤ patternsMost → count isTest (entriesOf said ++ (e ∷ [])) ≤ testsMost
+    → Holds s (saidAlso said dash e) st bytes items
+holds-also s said dash e ds st bytes items d k n b i p t =
     record {
       is = k ∙ sym (rw (entries-also said dash e, d));
+      named = rw (entries-also said dash e) n;
+      stored = rw (entries-also said dash e) b;
+      slots = rw (entries-also said dash e) i;
       patterns = rw (entries-also said dash e) p;
       tests = rw (entries-also said dash e) t;
     }
@@ -78,8 +89,24 @@ few es p t =
     (λ f. omega (arith, last-none es f))
 
 -- what the code's stores and sums rest on
-pub sound : (said : List Said) (st : State) → Holds said st → Sound st
+pub sound : {s : List ℕ} {said : List Said} {st : State} {bytes : List ℕ} {items : List Slot} → Holds s said st bytes items → Sound st
 unfolding stateFrom
-sound said st h =
+sound {said = said} h =
     subst (λ (s : State). Sound s) (sym (h .is))
     (record { count = slots-length (entriesOf said); patterns = h .patterns; tests = h .tests; last = few (entriesOf said) (h .patterns) (h .tests) })
+
+-- ---- the arrays beside the state are full
+
+module _ {s : List ℕ} {said : List Said} {st : State} {bytes : List ℕ} {items : List Slot} (h : Holds s said st bytes items) where
+  pub used-is : st .used ≡ length (bytesIn (entriesOf said))
+  unfolding stateFrom
+  used-is = ap (λ (x : State). x .used) (h .is)
+
+  pub bytes-full : st .used ≤ limits01 .room → length bytes ≡ limits01 .room
+  bytes-full f = ap length (h .stored) ∙ padded-full (limits01 .room) 0 (bytesIn (entriesOf said)) (omega (arith, used-is, f))
+
+  pub items-full : length items ≡ itemsMost
+  items-full =
+      let p = h .patterns in
+      let t = h .tests in
+      ap length (h .slots) ∙ padded-full itemsMost noSlot (slotsIn (entriesOf said)) (omega (arith, slots-length (entriesOf said), p, t))

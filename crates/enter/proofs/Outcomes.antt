@@ -5,8 +5,8 @@ use mathlib.Core.Bool.{Bool, true, false}
 use mathlib.Core.List.{List, [], _∷_, _++_}
 use Prim.Native.Nat.{ℕ, _+_, _≤_, _<_}
 use native.Mathlib.Omega.{arith}
-use lib.ListN.{length, take, drop, length-drop}
-use lib.Seq.{length-take-le, take-all}
+use lib.ListN.{length, take, drop, set, length-drop}
+use lib.Seq.{sets, length-take-le, take-all}
 use lib.Dec.{eqb, ltb, leb}
 use borrow.Author.Tests.{le-ltb, ltb-false, leb-false, not-false}
 use Rattle.forms.specs.Bytes.{if_then_else_}
@@ -19,46 +19,44 @@ use Rattle.definitions.specs.declared.table.AddressTest.{AddressTest}
 use Rattle.definitions.specs.declared.table.Item.{Item}
 use Rattle.definitions.specs.declared.table.Item.the-variants as item
 use Rattle.definitions.specs.declared.table.Address.{Address}
-use Rattle.definitions.specs.Limits.{limits01, nameMost, patternsMost, testsMost, addressesMost}
+use Rattle.definitions.specs.declared.table.Slot.{Slot}
+use Rattle.definitions.specs.Limits.{limits01, nameMost, patternsMost, testsMost, itemsMost, addressesMost}
 use Rattle.definitions.specs.Lists.{any?, keep, count, padded}
 use Rattle.definitions.specs.Refusals.{refuseIf}
 use Rattle.definitions.specs.Entries.{Modifier, Context, NoCase, Distance, Within, Entry, Name, Protocol, Flow, Test, Pattern, Modified}
-use Rattle.definitions.specs.Tables.{slotOf, noAddress, bare}
+use Rattle.definitions.specs.Tables.{nameIn, bytesIn, slotsIn, slotOf, noAddress, modified, bare}
 use Rattle.definitions.specs.Standing.{isTest, isPattern, sameModifier, latest, dueFor}
 use Rattle.definitions.specs.Reading.{Said, entriesOf}
-use Rattle.entry.specs.declared.Room.{Room}
-use Rattle.entry.specs.Values.{appended}
 use Rattle.reader_state.specs.declared.State.{State}
 use Rattle.reader_state.specs.declared.Entered.{Entered}
-use Rattle.reader_state.specs.State.{dashesOf, givenIn, stateFrom, stateOf, saidAlso, Holds}
-use Rattle.reader_state.specs.Sound.{refusedIn, fineIn}
-use Rattle.enter.specs.Entering.{withName, nameEntered, protocolEntered, flowEntered}
+use Rattle.reader_state.specs.State.{dashesOf, givenIn, stateFrom, stateOf, saidAlso, NameAt, Holds, lastSlot}
+use Rattle.reader_state.specs.Sound.{refusedIn, itemAlso}
+use Rattle.enter.specs.Entering.{withName, withProtocol, withFlow, nameEntered, protocolEntered, flowEntered}
 use Rattle.enter_counted.specs.Counting.{withTest, withNewPattern, testEntered, addressesEntered, patternEntered}
-use Rattle.enter_modifiers.specs.Modifying.{modifierBy, modifierEntered, already}
-use Rattle.enter.proofs.Behind.{slots-length}
-use Rattle.enter.proofs.Alike.{count-same, count-new}
-use Rattle.enter.proofs.Steps.{name-step, protocol-step, flow-step, test-step, pattern-step, modifier-step}
+use Rattle.enter_modifiers.specs.Modifying.{withGiven, modifierBy, modifierEntered, already, givenAlso}
+use Rattle.enter.proofs.Behind.{slots-length, name-behind, name-first}
+use Rattle.enter.proofs.Alike.{count-same, count-new, bytes-same}
+use Rattle.enter.proofs.Steps.{bytes-also, name-step, protocol-step, flow-step, test-step, pattern-step, modifier-step}
+use Rattle.laws.proofs.Padded.{padded-more}
+use Rattle.enter.proofs.Items.{itemsOf, items-same, items-new, items-changed}
 use Rattle.enter.proofs.OneMore.{count-none, dashes-same, dashes-new, dashes-length, holds-also}
 
--- r is right for the entry e behind the options said
-pub record Outcome (said : List Said) (dash : ℕ) (e : Entry) (r : Entered) : Type 0 where
+-- r is right for the entry e behind the options said in the text s, where bytes are stored already and r has its own slot to put
+pub record Outcome (s : List ℕ) (said : List Said) (dash : ℕ) (e : Entry) (bytes : List ℕ) (items : List Slot) (r : Entered) : Type 0 where
   pub due : r .due ≡ dueFor (entriesOf said) e
-  pub holds : r .due ≡ Fine → Holds (saidAlso said dash e) (r .state)
+  pub holds : r .due ≡ Fine → Holds s (saidAlso said dash e) (r .state) bytes (set items (r .place) (r .slot))
 
 -- a refusal that is not due
 fine-only : (t : Bool) (x : Refusal) (d : Due) → refuseIf t x d ≡ Fine → (t ≡ false) × (d ≡ Fine)
 fine-only true x d e = let z : _≡_ {A = ℕ} 0 1 = cc in absurd (omega (arith, z))
 fine-only false x d e = (refl, e)
 
-module _ (said : List Said) (dash : ℕ) (e : Entry) where
+module _ (s : List ℕ) (said : List Said) (dash : ℕ) (e : Entry) (bytes : List ℕ) (items : List Slot) where
   outcome-if : (t : Bool) (x : Refusal) (st : State) (r : Entered) → (t ≡ true → dueFor (entriesOf said) e ≡ No x)
-      → (t ≡ false → Outcome said dash e r)
-      → Outcome said dash e (if t then refusedIn st x else r)
+      → (t ≡ false → Outcome s said dash e bytes items r)
+      → Outcome s said dash e bytes items (if t then refusedIn st x else r)
   outcome-if true x st r h k = record { due = sym (h refl); holds = λ f. let z : _≡_ {A = ℕ} 0 1 = cc in absurd (omega (arith, z)) }
   outcome-if false x st r h k = k refl
-
-  outcome-fine : (st : State) → dueFor (entriesOf said) e ≡ Fine → Holds (saidAlso said dash e) st → Outcome said dash e (fineIn st)
-  outcome-fine st d h = record { due = sym d; holds = λ f. h }
 
 already-is : (m : Modifier) (es : List Entry) → already m (givenIn es) ≡ any? (sameModifier m) (latest [] es)
 already-is (Context c) es = refl
@@ -66,100 +64,140 @@ already-is NoCase es = refl
 already-is (Distance d) es = refl
 already-is (Within w) es = refl
 
-module _ (said : List Said) (dash : ℕ) (hp : count isPattern (entriesOf said) ≤ patternsMost) (ht : count isTest (entriesOf said) ≤ testsMost) where
-  -- an entry that is not counted
-  uncounted : (e : Entry) (st : State) → isPattern e ≡ false → count isPattern (e ∷ []) ≡ 0 → count isTest (e ∷ []) ≡ 0
-      → st ≡ stateFrom (limits01 .room) (entriesOf said ++ (e ∷ [])) (dashesOf said) → Holds (saidAlso said dash e) st
-  uncounted e st d p t k =
-      holds-also said dash e (dashesOf said) st (dashes-same said dash e d) k
-      (omega (arith, count-same (entriesOf said) e isPattern p, hp))
-      (omega (arith, count-same (entriesOf said) e isTest t, ht))
+module _ (s : List ℕ) (said : List Said) (dash from : ℕ) (bytes : List ℕ) (items : List Slot) (h : Holds s said (stateOf from said) bytes items) where
+  abbrev es : List Entry
+  es = entriesOf said
 
-  pub name-outcome : (s : List ℕ) (from n : ℕ) → n ≤ nameMost → from + n ≤ length s
-      → Outcome said dash (Name (take n (drop from s))) (nameEntered s (stateOf (limits01 .room) said) from n)
-  unfolding nameEntered stateFrom dueFor keep
-  name-outcome s from n h g =
-      let x : List ℕ = take n (drop from s) in
-      let l : length x ≡ n = length-take-le n (drop from s) (omega (arith, length-drop from s)) in
-      let named : ℕ → State = withName (stateOf (limits01 .room) said) (padded nameMost 0 x) in
+  abbrev now : State
+  now = stateOf from said
+
+  few : length (slotsIn es) ≤ itemsMost
+  few = let p = h .patterns in let t = h .tests in omega (arith, slots-length es, p, t)
+
+  -- an entry that says no name leaves it where it was
+  same-name : (e : Entry) → nameIn (e ∷ []) ≡ [] → NameAt s from (length (nameIn es)) (nameIn (es ++ (e ∷ [])))
+  unfolding stateFrom
+  same-name e n = rw (name-behind es (e ∷ []) n) (h .named)
+
+  same-bytes : (e : Entry) → bytesIn (e ∷ []) ≡ [] → bytes ≡ padded (limits01 .room) 0 (bytesIn (es ++ (e ∷ [])))
+  same-bytes e b = h .stored ∙ ap (padded (limits01 .room) 0) (sym (bytes-same es e b))
+
+  -- an entry that is not counted
+  uncounted : (e : Entry) (st : State) (after : List Slot) → isPattern e ≡ false → count isPattern (e ∷ []) ≡ 0 → count isTest (e ∷ []) ≡ 0
+      → bytesIn (e ∷ []) ≡ [] → st ≡ stateFrom (st .from) (es ++ (e ∷ [])) (dashesOf said) → NameAt s (st .from) (st .len) (nameIn (es ++ (e ∷ [])))
+      → after ≡ itemsOf (es ++ (e ∷ [])) → Holds s (saidAlso said dash e) st bytes after
+  uncounted e st after d p t b k n i =
+      holds-also s said dash e (dashesOf said) st bytes after (dashes-same said dash e d) k n (same-bytes e b) i
+      (omega (arith, count-same es e isPattern p, h .patterns))
+      (omega (arith, count-same es e isTest t, h .tests))
+
+  pub name-outcome : (at n : ℕ) → n ≤ nameMost → at + n ≤ length s
+      → Outcome s said dash (Name (take n (drop at s))) bytes items (nameEntered now at n)
+  unfolding nameEntered stateFrom dueFor keep nameIn bytesIn slotsIn modified
+  name-outcome at n short inside =
+      let x : List ℕ = take n (drop at s) in
+      let l : length x ≡ n = length-take-le n (drop at s) (omega (arith, length-drop at s)) in
       record {
         due = refl;
         holds = λ f.
-            uncounted (Name x) (named n) refl refl refl (ap named (sym l) ∙ sym (name-step (limits01 .room) (entriesOf said) (dashesOf said) x (fine-only _ refusal.Again Fine f .0)));
+            let new = fine-only _ refusal.Again Fine f .0 in
+            uncounted (Name x) (withName now at n) _ refl refl refl refl
+            (ap (withName now at) (sym l) ∙ sym (name-step from es (dashesOf said) at x new))
+            (record { is = sym (name-first es (Name x ∷ []) new); inside = inside; short = short })
+            (items-same es items (h .slots) (Name x) few (λ p. refl) refl);
       }
 
-  pub protocol-outcome : (p : ℕ) → Outcome said dash (Protocol p) (protocolEntered (stateOf (limits01 .room) said) p)
-  unfolding protocolEntered stateFrom dueFor keep
+  pub protocol-outcome : (p : ℕ) → Outcome s said dash (Protocol p) bytes items (protocolEntered now p)
+  unfolding protocolEntered stateFrom dueFor keep nameIn bytesIn slotsIn modified
   protocol-outcome p =
       record {
         due = refl;
-        holds = λ f. uncounted (Protocol p) _ refl refl refl (sym (protocol-step (limits01 .room) (entriesOf said) (dashesOf said) p (fine-only _ refusal.Again Fine f .0)));
+        holds = λ f.
+            uncounted (Protocol p) (withProtocol now p) _ refl refl refl refl
+            (sym (protocol-step from es (dashesOf said) p (fine-only _ refusal.Again Fine f .0)))
+            (same-name (Protocol p) refl) (items-same es items (h .slots) (Protocol p) few (λ p. refl) refl);
       }
 
-  pub flow-outcome : (w : flows.Flow) → Outcome said dash (Flow w) (flowEntered (stateOf (limits01 .room) said) w)
-  unfolding flowEntered stateFrom dueFor keep
+  pub flow-outcome : (w : flows.Flow) → Outcome s said dash (Flow w) bytes items (flowEntered now w)
+  unfolding flowEntered stateFrom dueFor keep nameIn bytesIn slotsIn modified
   flow-outcome w =
       record {
         due = refl;
-        holds = λ f. uncounted (Flow w) _ refl refl refl (sym (flow-step (limits01 .room) (entriesOf said) (dashesOf said) w (fine-only _ refusal.Again Fine f .0)));
+        holds = λ f.
+            uncounted (Flow w) (withFlow now w) _ refl refl refl refl
+            (sym (flow-step from es (dashesOf said) w (fine-only _ refusal.Again Fine f .0)))
+            (same-name (Flow w) refl) (items-same es items (h .slots) (Flow w) few (λ p. refl) refl);
       }
 
   pub test-outcome : (it : Item) (al list : List Address) → length al ≤ addressesMost → list ≡ padded addressesMost noAddress al
-      → Outcome said dash (Test it al) (testEntered (stateOf (limits01 .room) said) it list)
-  unfolding testEntered stateFrom dueFor keep
-  test-outcome it al list h e =
-      let es : List Entry = entriesOf said in
-      let st : State = withTest (stateOf (limits01 .room) said) (record { item = it; addresses = list }) in
-      let few : ltb addressesMost (length al) ≡ false = le-ltb addressesMost (length al) h in
-      outcome-if said dash (Test it al) (leb testsMost (count isTest es)) refusal.TooMany (stateOf (limits01 .room) said) (fineIn st)
-      (λ t. rw (few, t))
+      → Outcome s said dash (Test it al) bytes items (testEntered now it list)
+  unfolding testEntered stateFrom dueFor keep nameIn bytesIn slotsIn modified
+  test-outcome it al list k e =
+      let sl : Slot = record { item = it; addresses = list } in
+      let fewer : ltb addressesMost (length al) ≡ false = le-ltb addressesMost (length al) k in
+      outcome-if s said dash (Test it al) bytes items (leb testsMost (count isTest es)) refusal.TooMany now (itemAlso now (withTest now) sl)
+      (λ t. rw (fewer, t))
       (λ f.
       let m : count isTest es < testsMost = leb-false testsMost (count isTest es) f in
-      outcome-fine said dash (Test it al) st (rw (few, f))
-      (holds-also said dash (Test it al) (dashesOf said) st (dashes-same said dash (Test it al) refl)
-      (ap (λ (l : List Address). withTest (stateOf (limits01 .room) said) (record { item = it; addresses = l })) e
-      ∙ sym (test-step (limits01 .room) es (dashesOf said) it al (omega (arith, slots-length es, hp, m))))
-      (omega (arith, count-same es (Test it al) isPattern refl, hp))
-      (omega (arith, count-new es (Test it al) isTest refl, m))))
+      record {
+        due = sym (rw (fewer, f));
+        holds = λ fine.
+            holds-also s said dash (Test it al) (dashesOf said) (withTest now) bytes _ (dashes-same said dash (Test it al) refl)
+            (sym (test-step from es (dashesOf said) it al)) (same-name (Test it al) refl) (same-bytes (Test it al) refl)
+            (ap (λ (l : List Address). set items (length (slotsIn es)) (record { item = it; addresses = l })) e
+            ∙ items-new es items (h .slots) (Test it al) (slotOf it al) (omega (arith, slots-length es, h .patterns, m)) (λ p. refl) refl)
+            (omega (arith, count-same es (Test it al) isPattern refl, h .patterns))
+            (omega (arith, count-new es (Test it al) isTest refl, m));
+      })
 
   pub addresses-outcome : (a : AddressTest) (al list : List Address) → a .count ≡ length al
       → list ≡ padded addressesMost noAddress (take addressesMost al)
-      → Outcome said dash (Test (item.Address a) al) (addressesEntered (stateOf (limits01 .room) said) a list)
+      → Outcome s said dash (Test (item.Address a) al) bytes items (addressesEntered now a list)
   unfolding addressesEntered dueFor
-  addresses-outcome a al list h e =
-      outcome-if said dash (Test (item.Address a) al) (ltb addressesMost (a .count)) refusal.TooMany (stateOf (limits01 .room) said) (testEntered (stateOf (limits01 .room) said) (item.Address a) list)
-      (λ t. rw (sym (ap (ltb addressesMost) h) ∙ t))
+  addresses-outcome a al list k e =
+      outcome-if s said dash (Test (item.Address a) al) bytes items (ltb addressesMost (a .count)) refusal.TooMany now (testEntered now (item.Address a) list)
+      (λ t. rw (sym (ap (ltb addressesMost) k) ∙ t))
       (λ f.
-      let m : length al ≤ addressesMost = omega (arith, ltb-false addressesMost (a .count) f, h) in
+      let m : length al ≤ addressesMost = omega (arith, ltb-false addressesMost (a .count) f, k) in
       test-outcome (item.Address a) al list m (e ∙ ap (padded addressesMost noAddress) (take-all addressesMost al m)))
 
-  pub pattern-outcome : (neg : Bool) (n : ℕ) (b : List ℕ) (list : List Address) (room : Room) → n ≡ length b
-      → list ≡ padded addressesMost noAddress [] → room ≡ appended (stateOf (limits01 .room) said .room) b → stateOf (limits01 .room) said .room .used + length b ≤ limits01 .room
-      → Outcome said dash (Pattern neg b) (patternEntered (stateOf (limits01 .room) said) dash neg n list room)
-  unfolding patternEntered stateFrom dueFor keep
-  pattern-outcome neg n b list room hn hl hr fits =
-      let es : List Entry = entriesOf said in
-      let now : State = stateOf (limits01 .room) said in
-      let st : State = withNewPattern now dash (record { item = item.Pattern (bare neg n); addresses = list }) room in
-      outcome-if said dash (Pattern neg b) (leb patternsMost (count isPattern es)) refusal.TooMany now (fineIn st)
+  pub pattern-outcome : (neg : Bool) (n : ℕ) (b : List ℕ) (list : List Address) (used : ℕ) → n ≡ length b → list ≡ padded addressesMost noAddress []
+      → used ≡ now .used + length b → now .used + length b ≤ limits01 .room
+      → Outcome s said dash (Pattern neg b) (sets bytes (now .used) b) items (patternEntered now dash neg n list used)
+  unfolding patternEntered stateFrom dueFor keep nameIn bytesIn slotsIn modified
+  pattern-outcome neg n b list used hn hl hu fits =
+      let sl : Slot = record { item = item.Pattern (bare neg n); addresses = list } in
+      outcome-if s said dash (Pattern neg b) (sets bytes (now .used) b) items (leb patternsMost (count isPattern es)) refusal.TooMany now
+      (itemAlso now (withNewPattern now dash used) sl)
       (λ t. rw t)
       (λ f.
       let m : count isPattern es < patternsMost = leb-false patternsMost (count isPattern es) f in
-      let e : st ≡ withNewPattern now dash (slotOf (item.Pattern (bare neg (length b))) []) (appended (now .room) b) =
-      λ i. withNewPattern now dash (record { item = item.Pattern (bare neg (hn i)); addresses = hl i }) (hr i) in
-      outcome-fine said dash (Pattern neg b) st (rw f)
-      (holds-also said dash (Pattern neg b) (dashesOf said ++ (dash ∷ [])) st (dashes-new said dash (Pattern neg b) refl)
-      (e ∙ sym (pattern-step (limits01 .room) es (dashesOf said) neg b dash (omega (arith, slots-length es, ht, m)) (omega (arith, dashes-length said, m)) (dashes-length said) fits))
-      (omega (arith, count-new es (Pattern neg b) isPattern refl, m))
-      (omega (arith, count-same es (Pattern neg b) isTest refl, ht))))
+      record {
+        due = sym (rw f);
+        holds = λ fine.
+            holds-also s said dash (Pattern neg b) (dashesOf said ++ (dash ∷ [])) (withNewPattern now dash used) (sets bytes (now .used) b) _
+            (dashes-new said dash (Pattern neg b) refl)
+            (ap (withNewPattern now dash) hu
+            ∙ sym (pattern-step from es (dashesOf said) neg b dash (omega (arith, dashes-length said, m)) (dashes-length said)))
+            (same-name (Pattern neg b) refl)
+            (ap (λ (l : List ℕ). sets l (length (bytesIn es)) b) (h .stored)
+            ∙ sym (ap (padded (limits01 .room) 0) (bytes-also es neg b) ∙ padded-more (limits01 .room) 0 b (bytesIn es) fits))
+            ((λ i. set items (length (slotsIn es)) (record { item = item.Pattern (bare neg (hn i)); addresses = hl i }))
+            ∙ items-new es items (h .slots) (Pattern neg b) (slotOf (item.Pattern (bare neg (length b))) [])
+            (omega (arith, slots-length es, h .tests, m)) (λ p. refl) refl)
+            (omega (arith, count-new es (Pattern neg b) isPattern refl, m))
+            (omega (arith, count-same es (Pattern neg b) isTest refl, h .tests));
+      })
 
-  pub modifier-outcome : (m : Modifier) → Outcome said dash (Modified m) (modifierEntered (stateOf (limits01 .room) said) m)
-  unfolding modifierBy stateFrom dueFor keep
-  modifier-outcome m =
-      let es : List Entry = entriesOf said in
+  pub modifier-outcome : (m : Modifier) (last : Slot) → last ≡ lastSlot items now → Outcome s said dash (Modified m) bytes items (modifierEntered now last m)
+  unfolding modifierBy stateFrom dueFor keep nameIn bytesIn slotsIn modified
+  modifier-outcome m last e =
       record {
         due = rw (already-is m es);
         holds = λ f.
-            let some : any? isPattern es ≡ true = not-false (any? isPattern es) (sym (count-none isPattern es) ∙ fine-only (eqb (count isPattern es) 0) refusal.Orphan _ f .0) in
-            uncounted (Modified m) _ refl refl refl (sym (modifier-step (limits01 .room) es (dashesOf said) m some));
+            let some : any? isPattern es ≡ true =
+            not-false (any? isPattern es) (sym (count-none isPattern es) ∙ fine-only (eqb (count isPattern es) 0) refusal.Orphan _ f .0) in
+            uncounted (Modified m) (withGiven now (givenAlso m (now .given))) _ refl refl refl refl
+            (sym (modifier-step from es (dashesOf said) m some)) (same-name (Modified m) refl)
+            (items-changed es items (h .slots) m _ last some e);
       }

@@ -6,40 +6,42 @@ use Prim.Native.Nat.{ℕ, _+_, _≤_, _<_}
 use lib.ListN.{length, length-append, set, length-set}
 use Rattle.definitions.specs.declared.table.Flow.the-variants.{Any}
 use Rattle.definitions.specs.declared.table.Flow as flows
-use Rattle.definitions.specs.declared.table.Pattern as patterns
 use Rattle.definitions.specs.declared.table.Item.{Item}
 use Rattle.definitions.specs.declared.table.Item.the-variants as item
 use Rattle.definitions.specs.declared.table.Address.{Address}
 use Rattle.definitions.specs.declared.table.Slot.{Slot}
-use Rattle.definitions.specs.Limits.{nameMost, patternsMost, itemsMost}
+use Rattle.definitions.specs.Limits.{patternsMost}
 use Rattle.definitions.specs.Lists.{any?, keep, count, padded}
 use Rattle.definitions.specs.Entries.{Modifier, Context, NoCase, Distance, Within, Entry, Name, Protocol, Flow, Test, Pattern, Modified}
-use Rattle.definitions.specs.Tables.{nameIn, protocolIn, flowIn, bytesIn, slotsIn, slotOf, noSlot, modified, bare, with}
+use Rattle.definitions.specs.Tables.{nameIn, protocolIn, flowIn, bytesIn, slotsIn, slotOf, modified, bare}
 use Rattle.definitions.specs.Standing.{sameKind, isTest, isPattern, latest}
-use Rattle.entry.specs.Values.{appended}
 use Rattle.reader_state.specs.declared.State.{State}
 use Rattle.reader_state.specs.State.{lastPlace, givenIn, stateFrom}
 use Rattle.enter.specs.Entering.{withName, withProtocol, withFlow}
 use Rattle.enter_counted.specs.Counting.{withTest, withNewPattern}
-use Rattle.enter_modifiers.specs.Modifying.{withPattern, givenAlso, lastSlot, lastPattern, patternOf}
-use Rattle.laws.proofs.Padded.{padded-one, padded-more, padded-set, padded-at}
+use Rattle.enter_modifiers.specs.Modifying.{withGiven, givenAlso}
+use Rattle.laws.proofs.Padded.{padded-one}
 use Rattle.enter.proofs.Behind.{name-behind, name-first, protocol-behind, protocol-first, flow-behind, flow-first, bytes-append, last-behind, last-new}
 use Rattle.enter.proofs.LastPattern.{LastIs, last-is}
-use Rattle.enter.proofs.Alike.{alike, alike-room, given-now, given-kept, any-same, any-new, count-same, count-new, bytes-same, slots-same, slots-new}
+use Rattle.enter.proofs.Alike.{alike, given-now, given-kept, any-same, any-new, count-same, count-new, bytes-same, slots-same, slots-new}
 
-module _ (room : ℕ) (es : List Entry) (ds : List ℕ) where
-  pub name-step : (x : List ℕ) → any? (sameKind (Name [])) es ≡ false
-      → stateFrom room (es ++ (Name x ∷ [])) ds ≡ withName (stateFrom room es ds) (padded nameMost 0 x) (length x)
+pub bytes-also : (es : List Entry) (neg : Bool) (b : List ℕ) → bytesIn (es ++ (Pattern neg b ∷ [])) ≡ bytesIn es ++ b
+unfolding bytesIn
+bytes-also es neg b = bytes-append es (Pattern neg b ∷ []) ∙ ap (λ (l : List ℕ). bytesIn es ++ l) (append-nil b)
+
+module _ (from : ℕ) (es : List Entry) (ds : List ℕ) where
+  -- whatever place the name before was said at: there is none
+  pub name-step : (at : ℕ) (x : List ℕ) → any? (sameKind (Name [])) es ≡ false
+      → stateFrom at (es ++ (Name x ∷ [])) ds ≡ withName (stateFrom from es ds) at (length x)
   unfolding stateFrom nameIn protocolIn flowIn bytesIn slotsIn modified any? keep latest lastPlace
-  name-step x h =
-      alike (stateFrom room (es ++ (Name x ∷ [])) ds) (withName (stateFrom room es ds) (padded nameMost 0 x) (length x))
+  name-step at x h =
+      alike (stateFrom at (es ++ (Name x ∷ [])) ds) (withName (stateFrom from es ds) at (length x))
       (record {
-        name = ap (padded nameMost 0) (name-first es (Name x ∷ []) h);
+        from = refl;
         len = ap length (name-first es (Name x ∷ []) h);
         protocol = protocol-behind es (Name x ∷ []) refl;
         flow = flow-behind es (Name x ∷ []) refl;
-        room = alike-room room _ _ (bytes-same es (Name x) refl);
-        items = ap (padded itemsMost noSlot) (slots-same es (Name x) (λ p. refl) refl);
+        used = ap length (bytes-same es (Name x) refl);
         count = ap length (slots-same es (Name x) (λ p. refl) refl);
         given = given-now es (Name x) (latest [] es)
             (any-new es (Name x) (sameKind (Name [])) refl)
@@ -52,17 +54,16 @@ module _ (room : ℕ) (es : List Entry) (ds : List ℕ) where
       })
 
   pub protocol-step : (p : ℕ) → any? (sameKind (Protocol 0)) es ≡ false
-      → stateFrom room (es ++ (Protocol p ∷ [])) ds ≡ withProtocol (stateFrom room es ds) p
+      → stateFrom from (es ++ (Protocol p ∷ [])) ds ≡ withProtocol (stateFrom from es ds) p
   unfolding stateFrom nameIn protocolIn flowIn bytesIn slotsIn modified any? keep latest lastPlace
   protocol-step p h =
-      alike (stateFrom room (es ++ (Protocol p ∷ [])) ds) (withProtocol (stateFrom room es ds) p)
+      alike (stateFrom from (es ++ (Protocol p ∷ [])) ds) (withProtocol (stateFrom from es ds) p)
       (record {
-        name = ap (padded nameMost 0) (name-behind es (Protocol p ∷ []) refl);
+        from = refl;
         len = ap length (name-behind es (Protocol p ∷ []) refl);
         protocol = protocol-first es (Protocol p ∷ []) h;
         flow = flow-behind es (Protocol p ∷ []) refl;
-        room = alike-room room _ _ (bytes-same es (Protocol p) refl);
-        items = ap (padded itemsMost noSlot) (slots-same es (Protocol p) (λ p. refl) refl);
+        used = ap length (bytes-same es (Protocol p) refl);
         count = ap length (slots-same es (Protocol p) (λ p. refl) refl);
         given = given-now es (Protocol p) (latest [] es)
             (any-same es (Protocol p) (sameKind (Name [])) refl)
@@ -75,17 +76,16 @@ module _ (room : ℕ) (es : List Entry) (ds : List ℕ) where
       })
 
   pub flow-step : (f : flows.Flow) → any? (sameKind (Flow Any)) es ≡ false
-      → stateFrom room (es ++ (Flow f ∷ [])) ds ≡ withFlow (stateFrom room es ds) f
+      → stateFrom from (es ++ (Flow f ∷ [])) ds ≡ withFlow (stateFrom from es ds) f
   unfolding stateFrom nameIn protocolIn flowIn bytesIn slotsIn modified any? keep latest lastPlace
   flow-step f h =
-      alike (stateFrom room (es ++ (Flow f ∷ [])) ds) (withFlow (stateFrom room es ds) f)
+      alike (stateFrom from (es ++ (Flow f ∷ [])) ds) (withFlow (stateFrom from es ds) f)
       (record {
-        name = ap (padded nameMost 0) (name-behind es (Flow f ∷ []) refl);
+        from = refl;
         len = ap length (name-behind es (Flow f ∷ []) refl);
         protocol = protocol-behind es (Flow f ∷ []) refl;
         flow = flow-first es (Flow f ∷ []) h;
-        room = alike-room room _ _ (bytes-same es (Flow f) refl);
-        items = ap (padded itemsMost noSlot) (slots-same es (Flow f) (λ p. refl) refl);
+        used = ap length (bytes-same es (Flow f) refl);
         count = ap length (slots-same es (Flow f) (λ p. refl) refl);
         given = given-now es (Flow f) (latest [] es)
             (any-same es (Flow f) (sameKind (Name [])) refl)
@@ -97,18 +97,17 @@ module _ (room : ℕ) (es : List Entry) (ds : List ℕ) where
         dashes = refl;
       })
 
-  pub test-step : (it : Item) (al : List Address) → length (slotsIn es) < itemsMost
-      → stateFrom room (es ++ (Test it al ∷ [])) ds ≡ withTest (stateFrom room es ds) (slotOf it al)
+  pub test-step : (it : Item) (al : List Address)
+      → stateFrom from (es ++ (Test it al ∷ [])) ds ≡ withTest (stateFrom from es ds)
   unfolding stateFrom nameIn protocolIn flowIn bytesIn slotsIn modified any? keep latest lastPlace
-  test-step it al h =
-      alike (stateFrom room (es ++ (Test it al ∷ [])) ds) (withTest (stateFrom room es ds) (slotOf it al))
+  test-step it al =
+      alike (stateFrom from (es ++ (Test it al ∷ [])) ds) (withTest (stateFrom from es ds))
       (record {
-        name = ap (padded nameMost 0) (name-behind es (Test it al ∷ []) refl);
+        from = refl;
         len = ap length (name-behind es (Test it al ∷ []) refl);
         protocol = protocol-behind es (Test it al ∷ []) refl;
         flow = flow-behind es (Test it al ∷ []) refl;
-        room = alike-room room _ _ (bytes-same es (Test it al) refl);
-        items = ap (padded itemsMost noSlot) (slots-new es (Test it al) (slotOf it al) (λ p. refl) refl) ∙ padded-one itemsMost noSlot (slotsIn es) (slotOf it al) h;
+        used = ap length (bytes-same es (Test it al) refl);
         count = ap length (slots-new es (Test it al) (slotOf it al) (λ p. refl) refl) ∙ length-append (slotsIn es) (slotOf it al ∷ []);
         given = given-kept es (Test it al) (latest [] es) refl refl refl refl;
         patterns = count-same es (Test it al) isPattern refl;
@@ -117,22 +116,18 @@ module _ (room : ℕ) (es : List Entry) (ds : List ℕ) where
         dashes = refl;
       })
 
-  pub pattern-step : (neg : Bool) (b : List ℕ) (dash : ℕ) → length (slotsIn es) < itemsMost → length ds < patternsMost → length ds ≡ count isPattern es
-      → length (bytesIn es) + length b ≤ room
-      → stateFrom room (es ++ (Pattern neg b ∷ [])) (ds ++ (dash ∷ []))
-      ≡ withNewPattern (stateFrom room es ds) dash (slotOf (item.Pattern (bare neg (length b))) []) (appended (stateFrom room es ds .room) b)
+  pub pattern-step : (neg : Bool) (b : List ℕ) (dash : ℕ) → length ds < patternsMost → length ds ≡ count isPattern es
+      → stateFrom from (es ++ (Pattern neg b ∷ [])) (ds ++ (dash ∷ [])) ≡ withNewPattern (stateFrom from es ds) dash (length (bytesIn es) + length b)
   unfolding stateFrom nameIn protocolIn flowIn bytesIn slotsIn modified any? keep latest lastPlace
-  pattern-step neg b dash h g e f =
+  pattern-step neg b dash g e =
       let sl : Slot = slotOf (item.Pattern (bare neg (length b))) [] in
-      let more : bytesIn (es ++ (Pattern neg b ∷ [])) ≡ bytesIn es ++ b = bytes-append es (Pattern neg b ∷ []) ∙ ap (λ (l : List ℕ). bytesIn es ++ l) (append-nil b) in
-      alike (stateFrom room (es ++ (Pattern neg b ∷ [])) (ds ++ (dash ∷ []))) (withNewPattern (stateFrom room es ds) dash sl (appended (stateFrom room es ds .room) b))
+      alike (stateFrom from (es ++ (Pattern neg b ∷ [])) (ds ++ (dash ∷ []))) (withNewPattern (stateFrom from es ds) dash (length (bytesIn es) + length b))
       (record {
-        name = ap (padded nameMost 0) (name-behind es (Pattern neg b ∷ []) refl);
+        from = refl;
         len = ap length (name-behind es (Pattern neg b ∷ []) refl);
         protocol = protocol-behind es (Pattern neg b ∷ []) refl;
         flow = flow-behind es (Pattern neg b ∷ []) refl;
-        room = alike-room room _ _ more ∙ (λ i. record { bytes = padded-more room 0 b (bytesIn es) f i; used = length-append (bytesIn es) b i });
-        items = ap (padded itemsMost noSlot) (slots-new es (Pattern neg b) sl (λ p. refl) refl) ∙ padded-one itemsMost noSlot (slotsIn es) sl h;
+        used = ap length (bytes-also es neg b) ∙ length-append (bytesIn es) b;
         count = ap length (slots-new es (Pattern neg b) sl (λ p. refl) refl) ∙ length-append (slotsIn es) (sl ∷ []);
         given = given-kept es (Pattern neg b) [] refl refl refl refl;
         patterns = count-new es (Pattern neg b) isPattern refl;
@@ -150,26 +145,18 @@ module _ (room : ℕ) (es : List Entry) (ds : List ℕ) where
   given-step (Within w) = given-kept es (Modified (Within w)) (Within w ∷ latest [] es) refl refl refl refl
 
   pub modifier-step : (m : Modifier) → any? isPattern es ≡ true
-      → stateFrom room (es ++ (Modified m ∷ [])) ds
-      ≡ withPattern (stateFrom room es ds) (with m (lastPattern (stateFrom room es ds))) (givenAlso m (stateFrom room es ds .given))
-  unfolding stateFrom nameIn protocolIn flowIn bytesIn any? keep lastPlace patternOf
+      → stateFrom from (es ++ (Modified m ∷ [])) ds ≡ withGiven (stateFrom from es ds) (givenAlso m (stateFrom from es ds .given))
+  unfolding stateFrom nameIn protocolIn flowIn bytesIn any? keep lastPlace
   modifier-step m h =
-      let p : patterns.Pattern = last-is es h .0 in
-      let k : LastIs es p = last-is es h .1 in
-      let st : State = stateFrom room es ds in
-      let at-last : lastSlot st ≡ slotOf (item.Pattern p) [] = padded-at itemsMost noSlot (slotsIn es) (lastPlace es) _ (k .within) ∙ k .slot _ in
-      let changed : Slot → Slot = λ sl. record { item = item.Pattern (with m (patternOf (sl .item))); addresses = sl .addresses } in
-      alike (stateFrom room (es ++ (Modified m ∷ [])) ds) (withPattern st (with m (lastPattern st)) (givenAlso m (st .given)))
+      let k : LastIs es (last-is es h .0) = last-is es h .1 in
+      let st : State = stateFrom from es ds in
+      alike (stateFrom from (es ++ (Modified m ∷ [])) ds) (withGiven st (givenAlso m (st .given)))
       (record {
-        name = ap (padded nameMost 0) (name-behind es (Modified m ∷ []) refl);
+        from = refl;
         len = ap length (name-behind es (Modified m ∷ []) refl);
         protocol = protocol-behind es (Modified m ∷ []) refl;
         flow = flow-behind es (Modified m ∷ []) refl;
-        room = alike-room room _ _ (bytes-same es (Modified m) refl);
-        items =
-            ap (padded itemsMost noSlot) (k .changed m)
-            ∙ padded-set itemsMost noSlot (slotsIn es) (lastPlace es) _ (k .within)
-            ∙ ap (λ (sl : Slot). set (padded itemsMost noSlot (slotsIn es)) (lastPlace es) (changed sl)) (sym at-last);
+        used = ap length (bytes-same es (Modified m) refl);
         count = ap length (k .changed m) ∙ length-set (slotsIn es) (lastPlace es) _;
         given = given-step m;
         patterns = count-same es (Modified m) isPattern refl;

@@ -4,15 +4,19 @@ pub mod judging;
 mod once;
 
 ghost use mathlib.Core.Path.{_≡_};
-ghost use Rattle.reader_state.specs.State.{Enterable, EnteredRight, Finishable, JudgedRight};
-ghost use Rattle.enter.specs.Entering.{Ready, valueEntered};
+ghost use Rattle.reader_state.specs.Sound.{Sound};
+ghost use Rattle.reader_state.specs.State.{Behind, EnteredRight, Finishable, JudgedRight};
+ghost use Rattle.enter.specs.Entering.{valueEntered};
 use crate::judging::judge;
 use crate::once::enter_flow;
 use crate::once::enter_name;
 use crate::once::enter_protocol;
 use definitions::answers::Reading;
 use definitions::limits::ADDRESSES;
+use definitions::limits::ITEMS;
+use definitions::limits::PATTERN_BYTES;
 use definitions::table::Address;
+use definitions::table::Slot;
 use enter_counted::enter_addresses;
 use enter_counted::enter_pattern;
 use enter_counted::enter_test;
@@ -20,56 +24,56 @@ use enter_modifiers::enter_context;
 use enter_modifiers::enter_distance;
 use enter_modifiers::enter_nocase;
 use enter_modifiers::enter_within;
-use entry::Room;
 use entry::Value;
 use reader_state::Entered;
 use reader_state::State;
 
-// The value of the option whose first dash stands at `dash`, by its kind.
+// The value of the option whose first dash stands at `dash`, by its kind; `last` is the last pattern's slot.
 fn enter_value(
-    s: &[u8],
     st: State,
+    last: Slot,
     dash: usize,
     value: Value,
     list: [Address; ADDRESSES],
-    room: Room,
+    used: usize,
 ) -> Entered
-    requires { ⌜ Ready (now s) st value ⌝ }
-    ensures { λ r. ⌜ r ≡ valueEntered (now (s .entry)) st dash value list room ⌝ }
+    requires { ⌜ Sound st ⌝ }
+    ensures { λ r. ⌜ r ≡ valueEntered st last dash value list used ⌝ }
 {
     match value {
-        Value::Name(from, n) => enter_name(s, st, from, n),
+        Value::Name(from, n) => enter_name(st, from, n),
         Value::Protocol(p) => enter_protocol(st, p),
         Value::Flow(f) => enter_flow(st, f),
         Value::Test(item) => enter_test(st, item, list),
         Value::Addresses(a) => enter_addresses(st, a, list),
-        Value::Pattern(negated, n) => enter_pattern(st, dash, negated, n, list, room),
-        Value::Context(c) => enter_context(st, c),
-        Value::NoCase => enter_nocase(st),
-        Value::Distance(d) => enter_distance(st, d),
-        Value::Within(w) => enter_within(st, w),
+        Value::Pattern(negated, n) => enter_pattern(st, dash, negated, n, list, used),
+        Value::Context(c) => enter_context(st, last, c),
+        Value::NoCase => enter_nocase(st, last),
+        Value::Distance(d) => enter_distance(st, last, d),
+        Value::Within(w) => enter_within(st, last, w),
     }
 }
 
-// One option more: what is due for it (8, 9 or 11), and, if nothing is, the state with it.
+// One option more: what is due for it (8, 9 or 11), and, if nothing is, the state with it and the slot that it puts among the items. Up to its own
+// pattern bytes `used` are in use.
 pub fn enter(
-    s: &[u8],
     st: State,
+    last: Slot,
     dash: usize,
     value: Value,
     list: [Address; ADDRESSES],
-    room: Room,
+    used: usize,
 ) -> Entered
-    requires { ⌜ Enterable (now s) st value list room ⌝ }
-    ensures { λ r. ⌜ EnteredRight (now (s .entry)) st dash value list room r ⌝ }
+    requires { ⌜ Behind st last value list used ⌝ }
+    ensures { λ r. ⌜ EnteredRight st last dash value list used r ⌝ }
 {
-    enter_value(s, st, dash, value, list, room)
+    enter_value(st, last, dash, value, list, used)
 }
 
-// The last `)` was met in a text of `n` bytes: 10 by pattern, then 12, else the table.
-pub fn finish(st: State, n: usize) -> Reading
-    requires { ⌜ Finishable st ⌝ }
-    ensures { λ r. ⌜ JudgedRight st n r ⌝ }
+// The last `)` of the text was met: 10 by pattern, then 12, else the table.
+pub fn finish(s: &[u8], st: State, bytes: [u8; PATTERN_BYTES], items: [Slot; ITEMS]) -> Reading
+    requires { ⌜ Finishable (now s) st bytes items ⌝ }
+    ensures { λ r. ⌜ JudgedRight (now (s .entry)) st bytes items r ⌝ }
 {
-    judge(st, n)
+    judge(s, st, bytes, items)
 }

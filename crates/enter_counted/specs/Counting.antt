@@ -10,41 +10,22 @@ use Rattle.definitions.specs.declared.table.AddressTest.{AddressTest}
 use Rattle.definitions.specs.declared.table.Item.{Item}
 use Rattle.definitions.specs.declared.table.Item.the-variants as item
 use Rattle.definitions.specs.declared.table.Address.{Address}
-use Rattle.definitions.specs.declared.table.Slot.{Slot}
 use Rattle.definitions.specs.Limits.{patternsMost, testsMost, addressesMost}
 use Rattle.definitions.specs.Tables.{bare}
-use Rattle.entry.specs.declared.Room.{Room}
 use Rattle.reader_state.specs.declared.Given.{Given}
 use Rattle.reader_state.specs.declared.State.{State}
 use Rattle.reader_state.specs.declared.Entered.{Entered}
-use Rattle.reader_state.specs.Sound.{refusedIn, fineIn}
+use Rattle.reader_state.specs.Sound.{refusedIn, itemAlso}
 
-abbrev pub withSlot : State → Slot → State
-withSlot st sl =
+-- one test more
+abbrev pub withTest : State → State
+withTest st =
     record {
-      name = st .name;
+      from = st .from;
       len = st .len;
       protocol = st .protocol;
       flow = st .flow;
-      room = st .room;
-      items = set (st .items) (st .count) sl;
-      count = st .count + 1;
-      given = st .given;
-      patterns = st .patterns;
-      tests = st .tests;
-      last = st .last;
-      dashes = st .dashes;
-    }
-
-abbrev pub withTest : State → Slot → State
-withTest st sl =
-    record {
-      name = st .name;
-      len = st .len;
-      protocol = st .protocol;
-      flow = st .flow;
-      room = st .room;
-      items = set (st .items) (st .count) sl;
+      used = st .used;
       count = st .count + 1;
       given = st .given;
       patterns = st .patterns;
@@ -56,7 +37,7 @@ withTest st sl =
 unfoldable pub testEntered : State → Item → List Address → Entered
 testEntered st it list =
     if leb testsMost (st .tests) then refusedIn st refusal.TooMany
-    else fineIn (withTest st (record { item = it; addresses = list }))
+    else itemAlso st (withTest st) (record { item = it; addresses = list })
 
 unfoldable pub addressesEntered : State → AddressTest → List Address → Entered
 addressesEntered st a list =
@@ -67,15 +48,15 @@ addressesEntered st a list =
 abbrev pub noModifiers : Given → Given
 noModifiers g = record { name = g .name; protocol = g .protocol; flow = g .flow; context = false; nocase = false; distance = false; within = false }
 
-abbrev pub withNewPattern : State → ℕ → Slot → Room → State
-withNewPattern st dash sl room =
+-- one pattern more, up to whose bytes so many are in use
+abbrev pub withNewPattern : State → ℕ → ℕ → State
+withNewPattern st dash used =
     record {
-      name = st .name;
+      from = st .from;
       len = st .len;
       protocol = st .protocol;
       flow = st .flow;
-      room = room;
-      items = set (st .items) (st .count) sl;
+      used = used;
       count = st .count + 1;
       given = noModifiers (st .given);
       patterns = st .patterns + 1;
@@ -84,7 +65,7 @@ withNewPattern st dash sl room =
       dashes = set (st .dashes) (st .patterns) dash;
     }
 
-unfoldable pub patternEntered : State → ℕ → Bool → ℕ → List Address → Room → Entered
-patternEntered st dash negated n list room =
+unfoldable pub patternEntered : State → ℕ → Bool → ℕ → List Address → ℕ → Entered
+patternEntered st dash negated n list used =
     if leb patternsMost (st .patterns) then refusedIn st refusal.TooMany
-    else fineIn (withNewPattern st dash (record { item = item.Pattern (bare negated n); addresses = list }) room)
+    else itemAlso st (withNewPattern st dash used) (record { item = item.Pattern (bare negated n); addresses = list })

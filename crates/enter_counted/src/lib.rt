@@ -1,9 +1,7 @@
 // Options that are counted: tests and patterns, each an item more.
 ghost use mathlib.Core.Path.{_≡_};
-ghost use Prim.Native.Nat.{_<_};
-ghost use Rattle.definitions.specs.Limits.{itemsMost};
 ghost use Rattle.reader_state.specs.Sound.{Sound};
-ghost use Rattle.enter_counted.specs.Counting.{withSlot, testEntered, addressesEntered, patternEntered};
+ghost use Rattle.enter_counted.specs.Counting.{testEntered, addressesEntered, patternEntered};
 use definitions::answers::Due;
 use definitions::answers::Refusal;
 use definitions::limits::ADDRESSES;
@@ -13,23 +11,11 @@ use definitions::table::Address;
 use definitions::table::AddressTest;
 use definitions::table::Item;
 use definitions::table::Slot;
-use entry::Room;
 use reader_state::Entered;
 use reader_state::Given;
 use reader_state::State;
 use reader_state::bare_pattern;
-
-// One item more.
-fn with_slot(st: State, slot: Slot) -> State
-    requires { ⌜ st .count < itemsMost ⌝ }
-    ensures { λ r. ⌜ r ≡ withSlot st slot ⌝ }
-{
-    let at = st.count;
-    let mut next = st;
-    next.items[at] = slot;
-    next.count = at + 1;
-    next
-}
+use reader_state::no_item;
 
 pub fn enter_test(st: State, item: Item, list: [Address; ADDRESSES]) -> Entered
     requires { ⌜ Sound st ⌝ }
@@ -37,20 +23,21 @@ pub fn enter_test(st: State, item: Item, list: [Address; ADDRESSES]) -> Entered
 {
     let tests = st.tests;
     if TESTS <= tests {
-        return Entered {
-            due: Due::No(Refusal::TooMany),
-            state: st,
-        };
+        return no_item(Due::No(Refusal::TooMany), st);
     }
     let slot = Slot {
         item,
         addresses: list,
     };
-    let mut state = with_slot(st, slot);
+    let place = st.count;
+    let mut state = st;
+    state.count = place + 1;
     state.tests = tests + 1;
     Entered {
         due: Due::Fine,
         state,
+        place,
+        slot,
     }
 }
 
@@ -60,32 +47,26 @@ pub fn enter_addresses(st: State, a: AddressTest, list: [Address; ADDRESSES]) ->
     ensures { λ r. ⌜ r ≡ addressesEntered st a list ⌝ }
 {
     if ADDRESSES < a.count {
-        return Entered {
-            due: Due::No(Refusal::TooMany),
-            state: st,
-        };
+        return no_item(Due::No(Refusal::TooMany), st);
     }
     enter_test(st, Item::Address(a), list)
 }
 
-// Its bytes are the last of `room`. No modifier is given behind it yet.
+// Its bytes are the last of the `used`. No modifier is given behind it yet.
 pub fn enter_pattern(
     st: State,
     dash: usize,
     negated: bool,
     n: usize,
     list: [Address; ADDRESSES],
-    room: Room,
+    used: usize,
 ) -> Entered
     requires { ⌜ Sound st ⌝ }
-    ensures { λ r. ⌜ r ≡ patternEntered st dash negated n list room ⌝ }
+    ensures { λ r. ⌜ r ≡ patternEntered st dash negated n list used ⌝ }
 {
     let patterns = st.patterns;
     if PATTERNS <= patterns {
-        return Entered {
-            due: Due::No(Refusal::TooMany),
-            state: st,
-        };
+        return no_item(Due::No(Refusal::TooMany), st);
     }
     let pattern = bare_pattern(negated, n);
     let slot = Slot {
@@ -102,15 +83,18 @@ pub fn enter_pattern(
         distance: false,
         within: false,
     };
-    let last = st.count;
-    let mut state = with_slot(st, slot);
-    state.room = room;
+    let place = st.count;
+    let mut state = st;
+    state.used = used;
+    state.count = place + 1;
     state.given = given;
-    state.last = last;
+    state.last = place;
     state.dashes[patterns] = dash;
     state.patterns = patterns + 1;
     Entered {
         due: Due::Fine,
         state,
+        place,
+        slot,
     }
 }

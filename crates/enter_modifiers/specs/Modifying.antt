@@ -1,8 +1,5 @@
 -- What the code does to the state for a modifier, step by step.
-use Prim.Native.Nat.{ℕ}
 use mathlib.Core.Bool.{Bool, true, false}
-use mathlib.Core.List.{[]}
-use lib.ListN.{getD, set}
 use lib.Dec.{eqb}
 use Rattle.definitions.specs.declared.answers.Refusal.the-variants as refusal
 use Rattle.definitions.specs.declared.answers.Due.the-variants.{Fine}
@@ -28,22 +25,14 @@ patternIn plainTest = bare false 0
 unfoldable pub patternOf : Item → Pattern
 patternOf it = patternIn (kindOf it)
 
--- the slot of the last pattern; what is named for past the end is what the logic takes there
-abbrev pub lastSlot : State → Slot
-lastSlot st = getD (st .items) (st .last) (record { item = item.Unused; addresses = [] })
-
-abbrev pub lastPattern : State → Pattern
-lastPattern st = patternOf (lastSlot st .item)
-
-abbrev pub withLast : State → Slot → Given → State
-withLast st sl g =
+abbrev pub withGiven : State → Given → State
+withGiven st g =
     record {
-      name = st .name;
+      from = st .from;
       len = st .len;
       protocol = st .protocol;
       flow = st .flow;
-      room = st .room;
-      items = set (st .items) (st .last) sl;
+      used = st .used;
       count = st .count;
       given = g;
       patterns = st .patterns;
@@ -52,14 +41,17 @@ withLast st sl g =
       dashes = st .dashes;
     }
 
-abbrev pub withPattern : State → Pattern → Given → State
-withPattern st p g = withLast st (record { item = item.Pattern p; addresses = lastSlot st .addresses }) g
+-- a slot with another pattern in it
+abbrev pub slotWith : Slot → Pattern → Slot
+slotWith sl p = record { item = item.Pattern p; addresses = sl .addresses }
 
-unfoldable pub modifierBy : State → Bool → Pattern → Given → Entered
-modifierBy st again p g =
+unfoldable pub modifierBy : State → Slot → Bool → Pattern → Given → Entered
+modifierBy st last again p g =
     record {
       due = refuseIf (eqb (st .patterns) 0) refusal.Orphan (refuseIf again refusal.Again Fine);
-      state = withPattern st p g;
+      state = withGiven st g;
+      place = st .last;
+      slot = slotWith last p;
     }
 
 -- whether it was given, and that it is
@@ -75,5 +67,6 @@ givenAlso NoCase g = record { name = g .name; protocol = g .protocol; flow = g .
 givenAlso (Distance d) g = record { name = g .name; protocol = g .protocol; flow = g .flow; context = g .context; nocase = g .nocase; distance = true; within = g .within }
 givenAlso (Within w) g = record { name = g .name; protocol = g .protocol; flow = g .flow; context = g .context; nocase = g .nocase; distance = g .distance; within = true }
 
-abbrev pub modifierEntered : State → Modifier → Entered
-modifierEntered st m = modifierBy st (already m (st .given)) (with m (lastPattern st)) (givenAlso m (st .given))
+-- where `last` is the slot of the last pattern
+abbrev pub modifierEntered : State → Slot → Modifier → Entered
+modifierEntered st last m = modifierBy st last (already m (st .given)) (with m (patternOf (last .item))) (givenAlso m (st .given))

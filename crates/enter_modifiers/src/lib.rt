@@ -1,10 +1,8 @@
 // Options that belong to the last pattern, each once: context, no_case, distance and within.
 ghost use mathlib.Core.Path.{_≡_};
-ghost use Prim.Native.Nat.{_<_};
-ghost use Rattle.definitions.specs.Limits.{itemsMost};
 ghost use Rattle.definitions.specs.Entries as modifier;
 ghost use Rattle.definitions.specs.Refusals.{refuseIf};
-ghost use Rattle.enter_modifiers.specs.Modifying.{patternOf, lastSlot, lastPattern, withLast, modifierBy, modifierEntered};
+ghost use Rattle.enter_modifiers.specs.Modifying.{patternOf, modifierBy, modifierEntered};
 use definitions::answers::Due;
 use definitions::answers::Refusal;
 use definitions::table::Context;
@@ -32,34 +30,6 @@ fn pattern_of(slot: Slot) -> Pattern
     p
 }
 
-fn last_slot(st: State) -> Slot
-    requires { ⌜ st .last < itemsMost ⌝ }
-    ensures { λ r. ⌜ r ≡ lastSlot st ⌝ }
-{
-    let last = st.last;
-    st.items[last]
-}
-
-fn last_pattern(st: State) -> Pattern
-    requires { ⌜ st .last < itemsMost ⌝ }
-    ensures { λ r. ⌜ r ≡ lastPattern st ⌝ }
-{
-    let slot = last_slot(st);
-    pattern_of(slot)
-}
-
-// The last pattern's slot becomes `slot`.
-fn with_last(st: State, slot: Slot, given: Given) -> State
-    requires { ⌜ st .last < itemsMost ⌝ }
-    ensures { λ r. ⌜ r ≡ withLast st slot given ⌝ }
-{
-    let last = st.last;
-    let mut next = st;
-    next.items[last] = slot;
-    next.given = given;
-    next
-}
-
 // 9 where no pattern stands before, then 8.
 fn due_for(none: bool, again: bool) -> Due
     ensures { λ r. ⌜ r ≡ refuseIf none Refusal.Orphan (refuseIf again Refusal.Again Due.Fine) ⌝ }
@@ -70,28 +40,32 @@ fn due_for(none: bool, again: bool) -> Due
     due_again(again)
 }
 
-// A modifier that makes `p` of the last pattern; `again` says that it was given already.
-fn enter_modifier(st: State, again: bool, p: Pattern, given: Given) -> Entered
-    requires { ⌜ st .last < itemsMost ⌝ }
-    ensures { λ r. ⌜ r ≡ modifierBy st again p given ⌝ }
+// A modifier that makes `p` of the last pattern, whose slot is `last`; `again` says that it was given already.
+fn enter_modifier(st: State, last: Slot, again: bool, p: Pattern, given: Given) -> Entered
+    ensures { λ r. ⌜ r ≡ modifierBy st last again p given ⌝ }
 {
     let none = st.patterns == 0;
     let due = due_for(none, again);
-    let slot = last_slot(st);
-    let addresses = slot.addresses;
-    let changed = Slot {
+    let addresses = last.addresses;
+    let slot = Slot {
         item: Item::Pattern(p),
         addresses,
     };
-    let state = with_last(st, changed, given);
-    Entered { due, state }
+    let place = st.last;
+    let mut state = st;
+    state.given = given;
+    Entered {
+        due,
+        state,
+        place,
+        slot,
+    }
 }
 
-pub fn enter_context(st: State, c: Context) -> Entered
-    requires { ⌜ st .last < itemsMost ⌝ }
-    ensures { λ r. ⌜ r ≡ modifierEntered st (modifier.Context c) ⌝ }
+pub fn enter_context(st: State, last: Slot, c: Context) -> Entered
+    ensures { λ r. ⌜ r ≡ modifierEntered st last (modifier.Context c) ⌝ }
 {
-    let p = last_pattern(st);
+    let p = pattern_of(last);
     let distance = p.distance;
     let within = p.within;
     let q = Pattern {
@@ -105,27 +79,25 @@ pub fn enter_context(st: State, c: Context) -> Entered
     let mut given = st.given;
     let again = given.context;
     given.context = true;
-    enter_modifier(st, again, q, given)
+    enter_modifier(st, last, again, q, given)
 }
 
-pub fn enter_nocase(st: State) -> Entered
-    requires { ⌜ st .last < itemsMost ⌝ }
-    ensures { λ r. ⌜ r ≡ modifierEntered st modifier.NoCase ⌝ }
+pub fn enter_nocase(st: State, last: Slot) -> Entered
+    ensures { λ r. ⌜ r ≡ modifierEntered st last modifier.NoCase ⌝ }
 {
-    let p = last_pattern(st);
+    let p = pattern_of(last);
     let mut q = p;
     q.nocase = true;
     let mut given = st.given;
     let again = given.nocase;
     given.nocase = true;
-    enter_modifier(st, again, q, given)
+    enter_modifier(st, last, again, q, given)
 }
 
-pub fn enter_distance(st: State, d: Shift) -> Entered
-    requires { ⌜ st .last < itemsMost ⌝ }
-    ensures { λ r. ⌜ r ≡ modifierEntered st (modifier.Distance d) ⌝ }
+pub fn enter_distance(st: State, last: Slot, d: Shift) -> Entered
+    ensures { λ r. ⌜ r ≡ modifierEntered st last (modifier.Distance d) ⌝ }
 {
-    let p = last_pattern(st);
+    let p = pattern_of(last);
     let context = p.context;
     let within = p.within;
     let q = Pattern {
@@ -139,14 +111,13 @@ pub fn enter_distance(st: State, d: Shift) -> Entered
     let mut given = st.given;
     let again = given.distance;
     given.distance = true;
-    enter_modifier(st, again, q, given)
+    enter_modifier(st, last, again, q, given)
 }
 
-pub fn enter_within(st: State, w: Reach) -> Entered
-    requires { ⌜ st .last < itemsMost ⌝ }
-    ensures { λ r. ⌜ r ≡ modifierEntered st (modifier.Within w) ⌝ }
+pub fn enter_within(st: State, last: Slot, w: Reach) -> Entered
+    ensures { λ r. ⌜ r ≡ modifierEntered st last (modifier.Within w) ⌝ }
 {
-    let p = last_pattern(st);
+    let p = pattern_of(last);
     let context = p.context;
     let distance = p.distance;
     let q = Pattern {
@@ -160,5 +131,5 @@ pub fn enter_within(st: State, w: Reach) -> Entered
     let mut given = st.given;
     let again = given.within;
     given.within = true;
-    enter_modifier(st, again, q, given)
+    enter_modifier(st, last, again, q, given)
 }

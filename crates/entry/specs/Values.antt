@@ -8,7 +8,6 @@ use Rattle.definitions.specs.declared.table.Item.the-variants as item
 use Rattle.definitions.specs.Entries.{Entry, Name, Protocol, Flow, Test, Pattern, Modified, Context, NoCase, Distance, Within}
 use Rattle.entry.specs.declared.Value.{Value}
 use Rattle.entry.specs.declared.Value.the-variants as value
-use Rattle.entry.specs.declared.Room.{Room}
 
 -- a value of the text s, with the addresses al and the pattern bytes b beside it
 unfoldable pub entryOf : List ℕ → Value → List Address → List ℕ → Entry
@@ -22,6 +21,14 @@ entryOf s (value.Context c) al b = Modified (Context c)
 entryOf s value.NoCase al b = Modified NoCase
 entryOf s (value.Distance d) al b = Modified (Distance d)
 entryOf s (value.Within w) al b = Modified (Within w)
+
+-- the pattern bytes so far: the bytes of a buffer, and how many of them are in use
+pub record Room : Type 0 where
+  pub bytes : List ℕ
+  pub used : ℕ
+
+abbrev pub roomOf : List ℕ → ℕ → Room
+roomOf bytes used = record { bytes = bytes; used = used }
 
 -- the bytes b behind those in use; past the end nothing is kept
 abbrev pub appended : Room → List ℕ → Room

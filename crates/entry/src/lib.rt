@@ -1,10 +1,9 @@
-// What the reader's scanning hands to its entering, by value: an option's value, and the pattern bytes read so far.
+// What the reader's scanning hands to its entering, by value: an option's value, and the addresses beside it.
 ghost use mathlib.Core.Path.{_≡_};
 ghost use lib.ListN.{replicate};
 ghost use Rattle.definitions.specs.Limits.{addressesMost};
 ghost use Rattle.definitions.specs.Tables.{noAddress};
 use definitions::limits::ADDRESSES;
-use definitions::limits::PATTERN_BYTES;
 use definitions::table::Address;
 use definitions::table::AddressTest;
 use definitions::table::Context;
@@ -13,7 +12,7 @@ use definitions::table::Item;
 use definitions::table::Reach;
 use definitions::table::Shift;
 
-// A name is told by its first byte's place in the text and its length, a pattern by its length: its bytes are the last of the room's.
+// A name is told by its first byte's place in the text and its length, a pattern by its length: its bytes are the last in use.
 // The addresses of an address test stand beside the value.
 pub enum Value {
     Name(usize, usize),
@@ -26,12 +25,6 @@ pub enum Value {
     NoCase,
     Distance(Shift),
     Within(Reach),
-}
-
-// The pattern bytes so far.
-pub struct Room {
-    pub bytes: [u8; PATTERN_BYTES],
-    pub used: usize,
 }
 
 // The addresses beside a value that has none.

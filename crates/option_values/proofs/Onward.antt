@@ -10,8 +10,6 @@ use Rattle.forms.specs.Scan.{Scan, Got, Stop, scan, over, fair}
 use Rattle.forms.specs.Place.{Read, Is, Far, No, placed, readAt}
 use Rattle.forms.proofs.Sound.{sound-loose}
 use Rattle.forms.proofs.Places.{begun}
-use Rattle.entry.specs.declared.Room.{Room}
-use Rattle.entry.specs.Values.{appended}
 use Rattle.scan_cursors.specs.declared.Cursor.{Cursor}
 use Rattle.scan_cursors.specs.declared.Cursor.the-variants.{Going, Over, Stopped}
 use Rattle.scan_cursors.specs.Reads.{readBy, joined, placeOf, Reads}
@@ -50,10 +48,6 @@ joined-going (Over p m) (Going k) n e = absurd (let z : _≡_ {A = ℕ} 0 1 = cc
 joined-going (Over p m) (Over q k) n e = absurd (let z : _≡_ {A = ℕ} 0 1 = cc in omega arith)
 joined-going (Over p m) (Stopped k) n e = absurd (let z : _≡_ {A = ℕ} 0 1 = cc in omega arith)
 joined-going (Stopped p) d n e = absurd (let z : _≡_ {A = ℕ} 0 1 = cc in omega arith)
-
--- nothing is stored
-pub stored-none : (r : Room) → r ≡ appended r []
-stored-none r = let e : r .used + 0 ≡ r .used = omega arith in ap (λ (n : ℕ). record { bytes = r .bytes; used = n }) (sym e)
 
 pub going-place : (d : Cursor) (n : ℕ) → d ≡ Going n → placeOf d ≡ n
 going-place d n e = ap placeOf e

@@ -12,15 +12,15 @@ use Rattle.definitions.specs.Options.{Option, optionTable}
 use Rattle.definitions.proofs.Fair.{allFair, options-fair}
 use Rattle.entry.specs.declared.Value.{Value}
 use Rattle.entry.specs.declared.Value.the-variants as value
-use Rattle.entry.specs.declared.Room.{Room}
-use Rattle.entry.specs.Values.{entryOf, Plain}
+use Rattle.entry.specs.Values.{roomOf, entryOf, Plain}
 use Rattle.scan_cursors.specs.declared.Cursor.the-variants.{Going}
 use Rattle.scan_cursors.specs.Reads.{Reads}
 use Rattle.options.specs.declared.valued.Valued.{Valued}
 use Rattle.reader_state.specs.State.{Apart}
+use Rattle.values.proofs.Rooms.{appended-none}
 use Rattle.option_values.specs.declared.parsed.Parsed.{Parsed}
 use Rattle.option_values.specs.Parsing.{plainParsed, Parses, nthForm}
-use Rattle.option_values.proofs.Onward.{grown-none, stored-none}
+use Rattle.option_values.proofs.Onward.{grown-none}
 
 plain-apart : (s : List ℕ) (v : Value) → Plain v → Apart s v [] []
 plain-apart s (value.Name from n) p = absurd p
@@ -34,16 +34,17 @@ plain-apart s value.NoCase p = (refl, refl)
 plain-apart s (value.Distance d) p = (refl, refl)
 plain-apart s (value.Within w) p = (refl, refl)
 
-pub plain-parses : {f : Form Entry} {s : List ℕ} {at : ℕ} {room : Room} {v : Valued} {r : Parsed} → fair f ≡ true → at ≤ length s
-    → Reads f s (Going at) (entryOf s (v .value) [] []) (v .cursor) → Plain (v .value) → r ≡ plainParsed v room → Parses f s at room r
-plain-parses {f} {s} {at} {room} {v} {r} w h q p e =
-    subst (λ (x : Parsed). Parses f s at room x) (sym e)
+pub plain-parses : {f : Form Entry} {s : List ℕ} {at : ℕ} {bytes : List ℕ} {used : ℕ} {v : Valued} {r : Parsed} → fair f ≡ true → at ≤ length s
+    → Reads f s (Going at) (entryOf s (v .value) [] []) (v .cursor) → Plain (v .value) → r ≡ plainParsed v used
+    → Parses f s at (roomOf bytes used) (roomOf bytes (r .used)) r
+plain-parses {f} {s} {at} {bytes} {used} {v} {r} w h q p e =
+    subst (λ (x : Parsed). Parses f s at (roomOf bytes used) (roomOf bytes (x .used)) x) (sym e)
     (record {
       al = [];
       b = [];
       reads = q;
       kept = refl;
-      stored = stored-none room;
+      stored = appended-none (roomOf bytes used);
       apart = λ n g. plain-apart s (v .value) p;
       grown = λ n g. grown-none w h q n g;
     })

@@ -11,24 +11,23 @@ use Rattle.definitions.specs.Entries.{Entry}
 use Rattle.definitions.specs.Forms.{nameForm}
 use Rattle.definitions.specs.Options.{Option}
 use Rattle.definitions.specs.Tables.{noAddress}
-use Rattle.entry.specs.declared.Room.{Room}
-use Rattle.entry.specs.Values.{entryOf, appended}
+use Rattle.entry.specs.Values.{Room, entryOf, appended}
 use Rattle.scan_cursors.specs.declared.Cursor.the-variants.{Going}
 use Rattle.scan_cursors.specs.Reads.{Reads}
 use Rattle.options.specs.declared.valued.Valued.{Valued}
 use Rattle.reader_state.specs.State.{Apart}
 use Rattle.option_values.specs.declared.parsed.Parsed.{Parsed}
 
-abbrev pub plainParsed : Valued → Room → Parsed
-plainParsed v room = record { value = v .value; list = replicate addressesMost noAddress; room = room; cursor = v .cursor }
+abbrev pub plainParsed : Valued → ℕ → Parsed
+plainParsed v used = record { value = v .value; list = replicate addressesMost noAddress; used = used; cursor = v .cursor }
 
--- the option of the form f behind its name at a place, the pattern bytes before it in the room
-pub record Parses (f : Form Entry) (s : List ℕ) (at : ℕ) (room : Room) (r : Parsed) : Type 0 where
+-- the option of the form f behind its name at a place, the pattern bytes before it in the room, and those behind it
+pub record Parses (f : Form Entry) (s : List ℕ) (at : ℕ) (room to : Room) (r : Parsed) : Type 0 where
   pub al : List Address
   pub b : List ℕ
   pub reads : Reads f s (Going at) (entryOf s (r .value) al b) (r .cursor)
   pub kept : r .list ≡ padded addressesMost noAddress (take addressesMost al)
-  pub stored : r .room ≡ appended room b
+  pub stored : to ≡ appended room b
   pub apart : (n : ℕ) → r .cursor ≡ Going n → Apart s (r .value) al b
   pub grown : (n : ℕ) → r .cursor ≡ Going n → at + length b ≤ n
 

@@ -1,9 +1,8 @@
-// An option read behind its name: its value, what stands beside it, and where scanning stands.
+// An option read behind its name: its value, the addresses beside it, how many pattern bytes are in use, and where scanning stands.
 ghost use mathlib.Core.Path.{_≡_};
 ghost use Rattle.option_values.specs.Parsing.{plainParsed};
 use definitions::limits::ADDRESSES;
 use definitions::table::Address;
-use entry::Room;
 use entry::Value;
 use entry::no_addresses;
 use options::valued::Valued;
@@ -12,13 +11,13 @@ use scan_cursors::Cursor;
 pub struct Parsed {
     pub value: Value,
     pub list: [Address; ADDRESSES],
-    pub room: Room,
+    pub used: usize,
     pub cursor: Cursor,
 }
 
 // A value with nothing beside it.
-pub fn plain(v: Valued, room: Room) -> Parsed
-    ensures { λ r. ⌜ r ≡ plainParsed v room ⌝ }
+pub fn plain(v: Valued, used: usize) -> Parsed
+    ensures { λ r. ⌜ r ≡ plainParsed v used ⌝ }
 {
     let list = no_addresses();
     let value = v.value;
@@ -26,7 +25,7 @@ pub fn plain(v: Valued, room: Room) -> Parsed
     Parsed {
         value,
         list,
-        room,
+        used,
         cursor,
     }
 }

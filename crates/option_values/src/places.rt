@@ -5,7 +5,7 @@ ghost use Prim.Native.Nat.{_≤_, _<_};
 ghost use lib.ListN.{length};
 ghost use Rattle.definitions.specs.Limits.{limits01};
 ghost use Rattle.definitions.specs.Options.{optionTable};
-ghost use Rattle.entry.specs.Values.{entryOf, Plain};
+ghost use Rattle.entry.specs.Values.{roomOf, entryOf, Plain};
 ghost use Rattle.scan_cursors.specs.Reads.{Reads};
 ghost use Rattle.scan_cursors.specs.declared.Cursor.the-variants.{Going};
 ghost use Rattle.names.specs.Names.{optionCount};
@@ -20,7 +20,6 @@ use definitions::limits::WORD_MOST;
 use definitions::table::HeaderField;
 use definitions::table::NumberField;
 use definitions::table::Side;
-use entry::Room;
 use options::heads::flow_option;
 use options::heads::protocol_option;
 use options::modifiers::context_option;
@@ -63,18 +62,18 @@ fn plain_option(s: &[u8], at: usize, k: usize) -> Valued
 }
 
 // The option at place k of the table, read behind its name.
-pub fn option_by_place(s: &[u8], at: usize, k: usize, room: Room) -> Parsed
-    requires { ⌜ (at ≤ length (now s)) × (length (now s) ≤ limits01 .text) × (room .used ≤ at) × (k < optionCount) ⌝ }
-    ensures { λ r. ⌜ Parses (nthForm k optionTable) (now (s .entry)) at room r ⌝ }
+pub fn option_by_place(s: &[u8], at: usize, k: usize, bytes: &mut [u8], used: usize) -> Parsed
+    requires { ⌜ (at ≤ length (now s)) × (length (now s) ≤ limits01 .text) × (used ≤ at) × (length (now bytes) ≡ limits01 .room) × (k < optionCount) ⌝ }
+    ensures { λ r. ⌜ Parses (nthForm k optionTable) (now (s .entry)) at (roomOf (now (bytes .entry)) used) (roomOf (now (bytes .exit)) (r .used)) r ⌝ }
 {
     match k {
-        0 => name_option(s, at, room),
-        3 => address_option(s, at, Side::Source, room),
-        4 => address_option(s, at, Side::Destination, room),
-        17 => pattern_option(s, at, room),
+        0 => name_option(s, at, used),
+        3 => address_option(s, at, Side::Source, used),
+        4 => address_option(s, at, Side::Destination, used),
+        17 => pattern_option(s, at, bytes, used),
         _ => {
             let v = plain_option(s, at, k);
-            plain(v, room)
+            plain(v, used)
         }
     }
 }

@@ -11,6 +11,7 @@ use lib.Dec.{eqb}
 use borrow.Author.Tests.{ne-eqb, eqb-true, eqb-false}
 use Rattle.forms.proofs.Bools.{by-cases}
 use Rattle.definitions.specs.declared.answers.Refusal.the-variants as refusal
+use Rattle.definitions.specs.declared.table.Slot.{Slot}
 use Rattle.definitions.specs.Lists.{sameBytes}
 use Rattle.definitions.specs.Options.{optionAt}
 use Rattle.definitions.specs.Reading.{Said, entriesOf, refused, taken, dashes, options}
@@ -62,22 +63,22 @@ module _ (s : List ℕ) (at : ℕ) (h : at < length s) where
 
 -- ---- what the definition's loop does at a byte
 
-module _ (s : List ℕ) (at : ℕ) (h : at < length s) (said : List Said) (st : State) (held : Holds said st) (behind : st .room .used ≤ at) where
-  pub goes-space : getD s at 0 ≡ 32 → GoesTo s said at (Next (at + 1)) st
+module _ (s : List ℕ) (at : ℕ) (h : at < length s) (said : List Said) (st : State) (bytes : List ℕ) where
+  pub goes-space : {items : List Slot} → Holds s said st bytes items → st .used ≤ at → getD s at 0 ≡ 32 → GoesTo s said at bytes (Next (at + 1)) st bytes items
   unfolding options
-  goes-space e = (said, rw (head s at h, e), held, omega arith, omega arith, omega arith)
+  goes-space held behind e = (said, rw (head s at h, e), held, omega arith, omega arith, omega arith)
 
-  pub goes-close : getD s at 0 ≡ 41 → GoesTo s said at (closingTurn (at + 1) (length s)) st
+  pub goes-close : (items : List Slot) → getD s at 0 ≡ 41 → GoesTo s said at bytes (closingTurn (at + 1) (length s)) st bytes items
   unfolding options
-  goes-close e =
+  goes-close items e =
       by-cases (eqb (at + 1) (length s))
-      (λ t. let q = eqb-true (at + 1) (length s) t in rw t (rw (head s at h, e, drop-of-length-le s {i = at + 1} (omega arith)), held))
+      (λ t. let q = eqb-true (at + 1) (length s) t in rw t (rw (head s at h, e, drop-of-length-le s {i = at + 1} (omega arith)), refl))
       (λ t. let n = eqb-false (at + 1) (length s) t in rw t (rw (head s at h, e, head s (at + 1) (omega arith))))
 
   module _ (space : getD s at 0 ≡ 32 → ⊥) (close : getD s at 0 ≡ 41 → ⊥) where
-    pub goes-nowhere : dashes (drop at s) ≡ false → GoesTo s said at (Refused refusal.NotDue at) st
+    pub goes-nowhere : (items : List Slot) → dashes (drop at s) ≡ false → GoesTo s said at bytes (Refused refusal.NotDue at) st bytes items
     unfolding options
-    goes-nowhere e = let d : dashes (getD s at 0 ∷ drop (at + 1) s) ≡ false = rw (head s at h) at e in rw (head s at h, ne-eqb (getD s at 0) 32 space, ne-eqb (getD s at 0) 41 close, d)
+    goes-nowhere items e = let d : dashes (getD s at 0 ∷ drop (at + 1) s) ≡ false = rw (head s at h) at e in rw (head s at h, ne-eqb (getD s at 0) 32 space, ne-eqb (getD s at 0) 41 close, d)
 
     to-option : dashes (drop at s) ≡ true → options s (drop at s) 0 at said ≡ taken (optionAt s at) (entriesOf said) at (λ e next. options s (drop (at + 1) s) (next - (at + 1)) (at + 1) (saidAlso said at e))
     unfolding options
@@ -93,10 +94,18 @@ module _ (s : List ℕ) (at : ℕ) (h : at < length s) (said : List Said) (st : 
         subst (λ (m : ℕ). options s (drop (at + 1) s) m (at + 1) more ≡ options s (drop n s) 0 n more) l
         (ap (λ (r : List ℕ). options s r (length x) (at + 1) more) d ∙ passed-over s x (drop n s) (at + 1) more ∙ ap (λ (m : ℕ). options s (drop n s) 0 m more) z)
 
-    pub goes-option : dashes (drop at s) ≡ true → (t : Turn) (u : State) → TurnsTo s said at t u → GoesTo s said at t u
-    goes-option e (Next n) u w = (saidAlso said at (w .0), to-option e ∙ w .1 _ ∙ passes n (saidAlso said at (w .0)) (w .4) (w .5), w .2, w .3, (let a = w .4 in omega arith), w .5)
-    goes-option e Done u w = absurd w
-    goes-option e (Refused q p) u w = to-option e ∙ w _
+    pub goes-option : (after : List ℕ) (items : List Slot) → dashes (drop at s) ≡ true → (t : Turn) (u : State) → TurnsTo s said at t u after items
+        → GoesTo s said at bytes t u after items
+    goes-option after items e (Next n) u w = (
+      saidAlso said at (w .0),
+      to-option e ∙ w .1 _ ∙ passes n (saidAlso said at (w .0)) (w .4) (w .5),
+      w .2,
+      w .3,
+      (let a = w .4 in omega arith),
+      w .5,
+    )
+    goes-option after items e Done u w = absurd w
+    goes-option after items e (Refused q p) u w = to-option e ∙ w _
 
 -- the text ends where an option or `)` is due
 pub loop-out : (s : List ℕ) (at : ℕ) (said : List Said) → length s ≤ at → options s (drop at s) 0 at said ≡ refused refusal.NotDue at

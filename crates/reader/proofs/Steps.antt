@@ -3,9 +3,11 @@ use mathlib.Core.Path.{_≡_, refl, sym, ap, _∙_, subst}
 use mathlib.Core.List.{List, [], _∷_, _++_, append-nil}
 use Prim.Native.Nat.{ℕ, _+_, _≤_}
 use native.Mathlib.Omega.{arith}
-use lib.ListN.{length, length-append}
+use lib.ListN.{length, length-append, replicate}
+use Rattle.forms.specs.Form.{Form}
 use Rattle.forms.specs.Place.{Is}
-use Rattle.definitions.specs.Limits.{limits01}
+use Rattle.definitions.specs.declared.table.Slot.{Slot}
+use Rattle.definitions.specs.Limits.{limits01, itemsMost}
 use Rattle.definitions.specs.declared.answers.Due.{Due}
 use Rattle.definitions.specs.declared.answers.Due.the-variants.{Fine, No as Not}
 use Rattle.definitions.specs.declared.answers.Refusal.the-variants as refusal
@@ -14,18 +16,20 @@ use Rattle.definitions.specs.Entries.{Entry}
 use Rattle.definitions.specs.Options.{unlisted, listed, optionAt}
 use Rattle.definitions.specs.Standing.{dueFor}
 use Rattle.definitions.specs.Lists.{keep}
-use Rattle.definitions.specs.Tables.{bytesIn}
+use Rattle.definitions.specs.Tables.{nameIn, bytesIn, slotsIn, noSlot}
 use Rattle.definitions.specs.Reading.{Said, entriesOf, Options, refused, taken}
 use Rattle.entry.specs.declared.Value.{Value}
 use Rattle.entry.specs.declared.Value.the-variants as value
-use Rattle.entry.specs.Values.{entryOf}
+use Rattle.entry.specs.Values.{Room, roomOf, entryOf}
 use Rattle.scan_cursors.specs.declared.Cursor.{Cursor}
 use Rattle.scan_cursors.specs.declared.Cursor.the-variants.{Going, Over, Stopped}
 use Rattle.scan_cursors.specs.Reads.{readBy, placeOf}
 use Rattle.reader_state.specs.declared.State.{State}
-use Rattle.reader_state.specs.State.{Holds, Apart, saidAlso, stateFrom, stateOf}
+use Rattle.reader_state.specs.State.{Holds, lastSlot, Apart, Behind, saidAlso, stateFrom, stateOf}
+use Rattle.option_values.specs.declared.parsed.Parsed.{Parsed}
+use Rattle.option_values.specs.Parsing.{Parses}
 use Rattle.enter.proofs.Behind.{bytes-append}
-use Rattle.enter.proofs.OneMore.{entries-also}
+use Rattle.enter.proofs.OneMore.{entries-also, used-is}
 use Rattle.reader.specs.Turning.{turnBy, TurnsTo}
 
 module _ (s : List ℕ) (at : ℕ) (es : List Entry) (K : Entry → ℕ → Options) where
@@ -52,26 +56,47 @@ bytes-said s value.NoCase al b a = sym (a .1)
 bytes-said s (value.Distance d) al b a = sym (a .1)
 bytes-said s (value.Within w) al b a = sym (a .1)
 
-used-is : (said : List Said) (st : State) → Holds said st → st .room .used ≡ length (bytesIn (entriesOf said))
-unfolding stateFrom
-used-is said st h = ap (λ (x : State). x .room .used) (h .is)
-
-used-also : (s : List ℕ) (said : List Said) (st u : State) (dash : ℕ) (v : Value) (al : List Address) (b : List ℕ) → Apart s v al b
-    → Holds said st → Holds (saidAlso said dash (entryOf s v al b)) u → u .room .used ≡ st .room .used + length b
-used-also s said st u dash v al b a h g =
-    used-is (saidAlso said dash (entryOf s v al b)) u g
+used-also : {s : List ℕ} {said : List Said} {st u : State} {bytes after : List ℕ} {items put : List Slot} (dash : ℕ) (v : Value) (al : List Address) (b : List ℕ) → Apart s v al b
+    → Holds s said st bytes items → Holds s (saidAlso said dash (entryOf s v al b)) u after put → u .used ≡ st .used + length b
+used-also {s} {said} dash v al b a h g =
+    used-is g
     ∙ ap (λ (l : List Entry). length (bytesIn l)) (entries-also said dash (entryOf s v al b))
     ∙ ap length (bytes-append (entriesOf said) (entryOf s v al b ∷ []) ∙ ap (λ (l : List ℕ). bytesIn (entriesOf said) ++ l) (bytes-said s v al b a))
     ∙ length-append (bytesIn (entriesOf said)) b
-    ∙ ap (λ (n : ℕ). n + length b) (sym (used-is said st h))
+    ∙ ap (λ (n : ℕ). n + length b) (sym (used-is h))
+
+-- the option is read: what its value stands behind and brings
+unfoldable pub read-behind : {f : Form Entry} {s : List ℕ} {to : ℕ} {bytes after : List ℕ} {st : State} {items : List Slot} {last : Slot} (said : List Said) (r : Parsed)
+    → Parses f s to (roomOf bytes (st .used)) (roomOf after (r .used)) r → Holds s said st bytes items → last ≡ lastSlot items st
+    → (n : ℕ) → r .cursor ≡ Going n → st .used ≤ to → n ≤ length s → length s ≤ limits01 .text
+    → Behind st last (r .value) (r .list) (r .used)
+read-behind {s = s} {bytes = bytes} {items = items} said r p h l n q behind inside short =
+    record {
+      text = s;
+      said = said;
+      bytes = bytes;
+      items = items;
+      al = p .al;
+      b = p .b;
+      holds = h;
+      latest = l;
+      beside = record {
+        addresses = p .kept;
+        counted = ap (λ (m : Room). m .used) (p .stored);
+        fits = omega (arith, behind, short, p .grown n q, inside);
+        apart = p .apart n q;
+      };
+    }
 
 -- the option is read and entered: on behind it, unless something is due
-module _ (s : List ℕ) (said : List Said) (st u : State) (at n : ℕ) (v : Value) (al : List Address) (b : List ℕ) (apart : Apart s v al b) (held : Holds said st)
-    (is : optionAt s at ≡ listed (Is (entryOf s v al b) n)) (inside : n ≤ length s) (onward : at + 2 ≤ n) (grown : st .room .used + length b ≤ n) where
-  pub turned : (due : Due) → due ≡ dueFor (entriesOf said) (entryOf s v al b) → (due ≡ Fine → Holds (saidAlso said at (entryOf s v al b)) u) → TurnsTo s said at (turnBy due at n) u
+module _ (s : List ℕ) (said : List Said) (st u : State) (bytes after : List ℕ) (items put : List Slot) (at n : ℕ) (v : Value) (al : List Address) (b : List ℕ)
+    (apart : Apart s v al b) (held : Holds s said st bytes items)
+    (is : optionAt s at ≡ listed (Is (entryOf s v al b) n)) (inside : n ≤ length s) (onward : at + 2 ≤ n) (grown : st .used + length b ≤ n) where
+  pub turned : (due : Due) → due ≡ dueFor (entriesOf said) (entryOf s v al b) → (due ≡ Fine → Holds s (saidAlso said at (entryOf s v al b)) u after put)
+      → TurnsTo s said at (turnBy due at n) u after put
   turned Fine e h =
       let g = h refl in
-      (entryOf s v al b, (λ K. rw (is, sym e)), g, (let q = used-also s said st u at v al b apart held g in omega (arith, q, grown)), onward, inside)
+      (entryOf s v al b, (λ K. rw (is, sym e)), g, (let q = used-also at v al b apart held g in omega (arith, q, grown)), onward, inside)
   turned (Not r) e h = λ K. rw (is, sym e)
 
 -- the place behind a cursor that goes on
@@ -79,6 +104,20 @@ pub going-inside : (s : List ℕ) (d : Cursor) (n : ℕ) → placeOf d ≤ lengt
 going-inside s d n h e = subst (λ (x : Cursor). placeOf x ≤ length s) e h
 
 -- before the first option
-pub fresh-holds : (st : State) → st ≡ stateOf (limits01 .room) [] → Holds [] st × (st .room .used ≤ 0)
-unfolding stateFrom bytesIn keep
-fresh-holds st e = (record { is = e; patterns = omega arith; tests = omega arith }, (let z : st .room .used ≡ 0 = ap (λ (x : State). x .room .used) e in omega (arith, z)))
+pub fresh-holds : (s : List ℕ) (st : State) (bytes : List ℕ) (items : List Slot) → st ≡ stateOf 0 [] → bytes ≡ replicate (limits01 .room) 0 → items ≡ replicate itemsMost noSlot
+    → Holds s [] st bytes items × (st .used ≤ 0)
+unfolding stateFrom nameIn bytesIn slotsIn keep
+fresh-holds s st bytes items e b i =
+    let from : st .from ≡ 0 = ap (λ (x : State). x .from) e in
+    let len : st .len ≡ 0 = ap (λ (x : State). x .len) e in
+    let used : st .used ≡ 0 = ap (λ (x : State). x .used) e in (
+      record {
+        is = e ∙ ap (λ (n : ℕ). stateOf n []) (sym from);
+        named = record { is = rw len; inside = omega (arith, from, len); short = omega (arith, len) };
+        stored = b;
+        slots = i;
+        patterns = omega arith;
+        tests = omega arith;
+      },
+      omega (arith, used),
+    )

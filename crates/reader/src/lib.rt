@@ -13,10 +13,13 @@ use crate::turns::Turn;
 use crate::turns::turn_at;
 use definitions::answers::Reading;
 use definitions::answers::Refusal;
+use definitions::limits::ITEMS;
+use definitions::limits::PATTERN_BYTES;
 use definitions::limits::TEXT_BYTES;
 use enter::finish;
 use enter::judging::refused;
 use reader_state::fresh;
+use reader_state::no_slot;
 use scan::bytes::Class;
 use scan::runs::run_of;
 
@@ -25,11 +28,14 @@ mod turns;
 // The bytes of `F-SBID(`.
 const OPENING_BYTES: usize = 7;
 
-// The options of a text, from behind `F-SBID(` on.
+// The options of a text, from behind `F-SBID(` on. The pattern bytes and the items stand here, and nowhere by value on the way of an option.
 fn read_options(s: &[u8]) -> Reading
     requires { ⌜ (length opening ≤ length (now s)) × (length (now s) ≤ limits01 .text) ⌝ }
     ensures { λ r. ⌜ r ≡ finished (limits01 .room) (now (s .entry)) (options (now (s .entry)) (drop (length opening) (now (s .entry))) 0 (length opening) []) ⌝ }
 {
+    let none = no_slot();
+    let mut bytes = [0u8; PATTERN_BYTES];
+    let mut items = [none; ITEMS];
     let mut st = fresh();
     let mut at = OPENING_BYTES;
     while at < s.len() {
@@ -37,16 +43,23 @@ fn read_options(s: &[u8]) -> Reading
         if b == b' ' {
             at += 1;
         } else {
-            let t = turn_at(s, st, at);
+            let k = st.last;
+            let last = items[k];
+            let t = turn_at(s, &mut bytes, st, last, at);
             let turn = t.turn;
-            let state = t.state;
             match turn {
                 Turn::Next(n) => {
+                    let place = t.place;
+                    if place < ITEMS {
+                        let slot = t.slot;
+                        items[place] = slot;
+                    }
+                    let state = t.state;
                     st = state;
                     at = n;
                 }
                 Turn::Done => {
-                    return finish(state, s.len());
+                    return finish(s, st, bytes, items);
                 }
                 Turn::Refused(r, p) => {
                     return refused(r, p);

@@ -3,15 +3,18 @@ ghost use mathlib.Core.Path.{_≡_};
 ghost use Prim.Native.Nat.{_<_};
 ghost use lib.ListN.{length, drop};
 ghost use Rattle.definitions.specs.Reading.{dashes};
-ghost use Rattle.reader.specs.Turning.{Turnable, Turns, turnBy, closingTurn, Placed, Goes};
+ghost use Rattle.reader.specs.Turning.{Turnable, Turns, turnBy, turnOnly, closingTurn, Placed, Goes};
 use definitions::answers::Due;
 use definitions::answers::Refusal;
+use definitions::limits::ITEMS;
 use definitions::limits::OPTIONS;
+use definitions::table::Slot;
 use enter::enter;
 use names::name_end;
 use names::name_place;
 use option_values::places::option_by_place;
 use reader_state::State;
+use reader_state::no_slot;
 use scan_cursors::Cursor;
 
 // On to a place, the end of the text, or a refusal and its place.
@@ -21,49 +24,57 @@ pub enum Turn {
     Refused(Refusal, usize),
 }
 
+// The turn, the state behind it, and the slot that it puts at a place among the items; a place past their end is none.
 pub struct Turned {
     pub turn: Turn,
     pub state: State,
+    pub place: usize,
+    pub slot: Slot,
 }
 
-// The option whose first dash stands at the place.
-fn option_turn(s: &[u8], st: State, at: usize) -> Turned
-    requires { ⌜ Turnable (now s) st at ⌝ }
-    ensures { λ r. ⌜ Turns (now (s .entry)) st at r ⌝ }
+// A turn that enters nothing.
+fn turn_only(turn: Turn, state: State) -> Turned
+    ensures { λ r. ⌜ r ≡ turnOnly turn state ⌝ }
+{
+    let slot = no_slot();
+    Turned {
+        turn,
+        state,
+        place: ITEMS,
+        slot,
+    }
+}
+
+// The option whose first dash stands at the place. Its pattern bytes are stored behind those in use; `last` is the last pattern's slot.
+fn option_turn(s: &[u8], bytes: &mut [u8], st: State, last: Slot, at: usize) -> Turned
+    requires { ⌜ Turnable (now s) (now bytes) st last at ⌝ }
+    ensures { λ r. ⌜ Turns (now (s .entry)) (now (bytes .entry)) st last at (now (bytes .exit)) r ⌝ }
 {
     let from = at + 2;
     let to = name_end(s, from);
     let k = name_place(s, from, to);
     if OPTIONS <= k {
-        return Turned {
-            turn: Turn::Refused(Refusal::NotListed, at),
-            state: st,
-        };
+        return turn_only(Turn::Refused(Refusal::NotListed, at), st);
     }
-    let room = st.room;
-    let p = option_by_place(s, to, k, room);
+    let p = option_by_place(s, to, k, bytes, st.used);
     let cursor = p.cursor;
     match cursor {
         Cursor::Going(next) => {
             let value = p.value;
             let list = p.list;
-            let after = p.room;
-            let e = enter(s, st, at, value, list, after);
+            let e = enter(st, last, at, value, list, p.used);
             let due = e.due;
             let state = e.state;
+            let slot = e.slot;
             Turned {
                 turn: turn_by(due, at, next),
                 state,
+                place: e.place,
+                slot,
             }
         }
-        Cursor::Over(_, _) => Turned {
-            turn: Turn::Refused(Refusal::Limit, at),
-            state: st,
-        },
-        Cursor::Stopped(_) => Turned {
-            turn: Turn::Refused(Refusal::Form, at),
-            state: st,
-        },
+        Cursor::Over(_, _) => turn_only(Turn::Refused(Refusal::Limit, at), st),
+        Cursor::Stopped(_) => turn_only(Turn::Refused(Refusal::Form, at), st),
     }
 }
 
@@ -78,24 +89,18 @@ fn turn_by(due: Due, at: usize, next: usize) -> Turn
 }
 
 // The last `)`, an option, or neither where one is due.
-pub fn turn_at(s: &[u8], st: State, at: usize) -> Turned
-    requires { ⌜ Placed (now s) st at ⌝ }
-    ensures { λ r. ⌜ Goes (now (s .entry)) st at r ⌝ }
+pub fn turn_at(s: &[u8], bytes: &mut [u8], st: State, last: Slot, at: usize) -> Turned
+    requires { ⌜ Placed (now s) (now bytes) st last at ⌝ }
+    ensures { λ r. ⌜ Goes (now (s .entry)) (now (bytes .entry)) st last at (now (bytes .exit)) r ⌝ }
 {
     let b = s[at];
     if b == b')' {
-        return Turned {
-            turn: closing_turn(at + 1, s.len()),
-            state: st,
-        };
+        return turn_only(closing_turn(at + 1, s.len()), st);
     }
     if dashes_at(s, at) {
-        return option_turn(s, st, at);
+        return option_turn(s, bytes, st, last, at);
     }
-    Turned {
-        turn: Turn::Refused(Refusal::NotDue, at),
-        state: st,
-    }
+    turn_only(Turn::Refused(Refusal::NotDue, at), st)
 }
 
 // Behind a `)`: the end, or a byte too many.

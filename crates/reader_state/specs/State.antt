@@ -1,25 +1,27 @@
--- The state that options make, and what the entries promise of it. The reader's room for pattern bytes is 1,024.
+-- The state that options make, with the pattern bytes and items beside it, and what the entries promise of it.
 use Prim.Native.Nat.{ℕ, suc, _+_, _≤_}
 use mathlib.Core.Path.{_≡_}
 use mathlib.Core.Bool.{Bool}
 use mathlib.Core.List.{List, [], _∷_, _++_, map}
-use lib.ListN.{length, take}
+use lib.ListN.{length, take, drop, getD, set}
+use lib.Seq.{sets}
 use lib.Dec.{eqb}
 use Rattle.forms.specs.Bytes.{if_then_else_}
 use Rattle.definitions.specs.declared.answers.Due.the-variants.{Fine}
 use Rattle.definitions.specs.declared.answers.Reading.{Reading}
 use Rattle.definitions.specs.declared.table.Address.{Address}
 use Rattle.definitions.specs.declared.table.Flow.the-variants.{Any}
+use Rattle.definitions.specs.declared.table.Item.the-variants as item
+use Rattle.definitions.specs.declared.table.Slot.{Slot}
 use Rattle.definitions.specs.Limits.{limits01, nameMost, patternsMost, testsMost, itemsMost, addressesMost}
 use Rattle.definitions.specs.Lists.{any?, keep, count, padded}
 use Rattle.definitions.specs.Entries.{Modifier, Entry, Name, Protocol, Flow, Test, Pattern, Modified}
 use Rattle.definitions.specs.Tables.{nameIn, protocolIn, flowIn, bytesIn, slotsIn, noSlot, noAddress}
 use Rattle.definitions.specs.Standing.{sameKind, isTest, isPattern, modifierNumber, latest, dueFor}
 use Rattle.definitions.specs.Reading.{Said, entriesOf, judged}
-use Rattle.entry.specs.declared.Room.{Room}
 use Rattle.entry.specs.declared.Value.{Value}
 use Rattle.entry.specs.declared.Value.the-variants as value
-use Rattle.entry.specs.Values.{entryOf, appended}
+use Rattle.entry.specs.Values.{entryOf}
 use Rattle.reader_state.specs.declared.Given.{Given}
 use Rattle.reader_state.specs.declared.State.{State}
 use Rattle.reader_state.specs.declared.Entered.{Entered}
@@ -63,16 +65,15 @@ givenIn es =
       within = modifierGiven 3 es;
     }
 
--- the state of the entries es, whose patterns have these first dashes
+-- the state of the entries es, whose patterns have these first dashes and whose name begins at a place
 unfoldable pub stateFrom : ℕ → List Entry → List ℕ → State
-stateFrom room es dashes =
+stateFrom from es dashes =
     record {
-      name = padded nameMost 0 (nameIn es);
+      from = from;
       len = length (nameIn es);
       protocol = protocolIn es;
       flow = flowIn es;
-      room = record { bytes = padded room 0 (bytesIn es); used = length (bytesIn es) };
-      items = padded itemsMost noSlot (slotsIn es);
+      used = length (bytesIn es);
       count = length (slotsIn es);
       given = givenIn es;
       patterns = count isPattern es;
@@ -81,15 +82,28 @@ stateFrom room es dashes =
       dashes = padded patternsMost 0 dashes;
     }
 
--- THE STATE of the options said, with room for so many pattern bytes
+-- THE STATE of the options said, whose name begins at a place
 abbrev pub stateOf : ℕ → List Said → State
-stateOf room said = stateFrom room (entriesOf said) (dashesOf said)
+stateOf from said = stateFrom from (entriesOf said) (dashesOf said)
 
--- it is that state, and no more was counted than a table holds
-pub record Holds (said : List Said) (st : State) : Type 0 where
-  pub is : st ≡ stateOf (limits01 .room) said
+-- a name that a table has room for stands at a place of the text s
+pub record NameAt (s : List ℕ) (from len : ℕ) (name : List ℕ) : Type 0 where
+  pub is : take len (drop from s) ≡ name
+  pub inside : from + len ≤ length s
+  pub short : len ≤ nameMost
+
+-- the options said in the text s make the state, with the pattern bytes and the items beside it, and no more was counted than a table holds
+pub record Holds (s : List ℕ) (said : List Said) (st : State) (bytes : List ℕ) (items : List Slot) : Type 0 where
+  pub is : st ≡ stateOf (st .from) said
+  pub named : NameAt s (st .from) (st .len) (nameIn (entriesOf said))
+  pub stored : bytes ≡ padded (limits01 .room) 0 (bytesIn (entriesOf said))
+  pub slots : items ≡ padded itemsMost noSlot (slotsIn (entriesOf said))
   pub patterns : count isPattern (entriesOf said) ≤ patternsMost
   pub tests : count isTest (entriesOf said) ≤ testsMost
+
+-- the slot of the last pattern; what is named for past the end is what the logic takes there
+abbrev pub lastSlot : List Slot → State → Slot
+lastSlot items st = getD items (st .last) (record { item = item.Unused; addresses = [] })
 
 -- ---- what stands beside a value
 
@@ -110,38 +124,47 @@ Apart s value.NoCase al b = Alone al b
 Apart s (value.Distance d) al b = Alone al b
 Apart s (value.Within w) al b = Alone al b
 
--- of the addresses the first eight are kept; the pattern bytes stand behind those of the state
-pub record Beside (s : List ℕ) (st : State) (v : Value) (list : List Address) (room : Room) (al : List Address) (b : List ℕ) : Type 0 where
+-- of the addresses the first eight are kept; the pattern bytes are counted behind those of the state
+pub record Beside (s : List ℕ) (st : State) (v : Value) (list : List Address) (used : ℕ) (al : List Address) (b : List ℕ) : Type 0 where
   pub addresses : list ≡ padded addressesMost noAddress (take addressesMost al)
-  pub bytes : room ≡ appended (st .room) b
-  pub fits : st .room .used + length b ≤ limits01 .room
+  pub counted : used ≡ st .used + length b
+  pub fits : st .used + length b ≤ limits01 .room
   pub apart : Apart s v al b
 
 -- ---- the entries' contracts
 
--- some options make the state, and some addresses and pattern bytes stand beside the value
-pub record Enterable (s : List ℕ) (st : State) (v : Value) (list : List Address) (room : Room) : Type 0 where
+-- what one option more stands behind and brings: some options make the state, `last` is the slot of the last pattern among them, and some addresses and
+-- pattern bytes stand beside the value
+pub record Behind (st : State) (last : Slot) (v : Value) (list : List Address) (used : ℕ) : Type 0 where
+  pub text : List ℕ
   pub said : List Said
+  pub bytes : List ℕ
+  pub items : List Slot
   pub al : List Address
   pub b : List ℕ
-  pub holds : Holds said st
-  pub beside : Beside s st v list room al b
+  pub holds : Holds text said st bytes items
+  pub latest : last ≡ lastSlot items st
+  pub beside : Beside text st v list used al b
+
+-- the entry that the value stands for
+abbrev pub entryIn : {st : State} {last : Slot} {v : Value} {list : List Address} {used : ℕ} → Behind st last v list used → Entry
+entryIn {v = v} k = entryOf (k .text) v (k .al) (k .b)
 
 -- the options said and one more
 abbrev pub saidAlso : List Said → ℕ → Entry → List Said
 saidAlso said dash e = said ++ (record { dash = dash; entry = e } ∷ [])
 
--- whichever these are: what is due for the value is what the definition says, and if nothing is, the state holds one option more
-pub record EnteredRight (s : List ℕ) (st : State) (dash : ℕ) (v : Value) (list : List Address) (room : Room) (r : Entered) : Type 0 where
-  pub due : (said : List Said) (al : List Address) (b : List ℕ) → Holds said st → Beside s st v list room al b
-      → r .due ≡ dueFor (entriesOf said) (entryOf s v al b)
-  pub holds : (said : List Said) (al : List Address) (b : List ℕ) → Holds said st → Beside s st v list room al b
-      → r .due ≡ Fine → Holds (saidAlso said dash (entryOf s v al b)) (r .state)
+-- whichever these are: what is due for the value is what the definition says, and if nothing is, the state holds one option more, with the value's bytes
+-- stored and the slot put at its place
+pub record EnteredRight (st : State) (last : Slot) (dash : ℕ) (v : Value) (list : List Address) (used : ℕ) (r : Entered) : Type 0 where
+  pub due : (k : Behind st last v list used) → r .due ≡ dueFor (entriesOf (k .said)) (entryIn k)
+  pub holds : (k : Behind st last v list used) → r .due ≡ Fine
+      → Holds (k .text) (saidAlso (k .said) dash (entryIn k)) (r .state) (sets (k .bytes) (st .used) (k .b)) (set (k .items) (r .place) (r .slot))
 
-pub record Finishable (st : State) : Type 0 where
+pub record Finishable (s : List ℕ) (st : State) (bytes : List ℕ) (items : List Slot) : Type 0 where
   pub said : List Said
-  pub holds : Holds said st
+  pub holds : Holds s said st bytes items
 
--- whichever options make the state, in whatever text of n bytes they stand
-abbrev pub JudgedRight : State → ℕ → Reading → Type 0
-JudgedRight st n r = (said : List Said) (s : List ℕ) → Holds said st → length s ≡ n → r ≡ judged (limits01 .room) s said
+-- whichever options make the state
+abbrev pub JudgedRight : List ℕ → State → List ℕ → List Slot → Reading → Type 0
+JudgedRight s st bytes items r = (said : List Said) → Holds s said st bytes items → r ≡ judged (limits01 .room) s said

@@ -1,15 +1,14 @@
-// What was read of a text so far: the table as far as it goes, with what the options to come are judged by.
+// What was read of a text so far: the table's numbers as far as they go, with what the options to come are judged by. The table's items and its pattern bytes
+// stand beside the state, where the loop over the options has them, so that an option hands on what it changes and no more.
 ghost use mathlib.Core.Path.{_≡_};
 ghost use mathlib.Core.List.{[]};
-ghost use Rattle.definitions.specs.Limits.{limits01};
 ghost use Rattle.definitions.specs.Refusals.{refuseIf};
-ghost use Rattle.definitions.specs.Tables.{bare};
+ghost use Rattle.definitions.specs.Tables.{bare, noSlot as emptySlot};
+ghost use Rattle.reader_state.specs.Sound.{withoutItem};
 ghost use Rattle.reader_state.specs.State.{stateOf};
 use definitions::answers::Due;
 use definitions::answers::Refusal;
 use definitions::limits::ITEMS;
-use definitions::limits::NAME_BYTES;
-use definitions::limits::PATTERN_BYTES;
 use definitions::limits::PATTERNS;
 use definitions::table::Context;
 use definitions::table::Distance;
@@ -18,7 +17,6 @@ use definitions::table::Item;
 use definitions::table::Pattern;
 use definitions::table::Slot;
 use definitions::table::Within;
-use entry::Room;
 use entry::no_addresses;
 
 // Which options were given that may stand once; of the modifiers, behind the last pattern.
@@ -32,15 +30,14 @@ pub struct Given {
     pub within: bool,
 }
 
-// The table so far, with what the options to come are judged by: how many patterns and tests, the last pattern's place among the items,
-// and the first dash of each pattern.
+// The table so far, its name told by the place of its first byte; with what the options to come are judged by: how many patterns and tests, the last
+// pattern's place among the items, and the first dash of each pattern.
 pub struct State {
-    pub name: [u8; NAME_BYTES],
+    pub from: usize,
     pub len: usize,
     pub protocol: u8,
     pub flow: Flow,
-    pub room: Room,
-    pub items: [Slot; ITEMS],
+    pub used: usize,
     pub count: usize,
     pub given: Given,
     pub patterns: usize,
@@ -49,25 +46,43 @@ pub struct State {
     pub dashes: [usize; PATTERNS],
 }
 
-// What is due for a value, and the state behind it; where something is due the state says nothing.
+// What is due for a value, the state behind it, and the slot that it puts at a place among the items; a place past their end is none. Where something is
+// due the others say nothing.
 pub struct Entered {
     pub due: Due,
     pub state: State,
+    pub place: usize,
+    pub slot: Slot,
+}
+
+// A slot that is not in use.
+pub fn no_slot() -> Slot
+    ensures { λ r. ⌜ r ≡ emptySlot ⌝ }
+{
+    let addresses = no_addresses();
+    Slot {
+        item: Item::Unused,
+        addresses,
+    }
+}
+
+// An option that makes no item and changes none.
+pub fn no_item(due: Due, state: State) -> Entered
+    ensures { λ r. ⌜ r ≡ withoutItem due state ⌝ }
+{
+    let slot = no_slot();
+    Entered {
+        due,
+        state,
+        place: ITEMS,
+        slot,
+    }
 }
 
 // Nothing was said.
 pub fn fresh() -> State
-    ensures { λ r. ⌜ r ≡ stateOf (limits01 .room) [] ⌝ }
+    ensures { λ r. ⌜ r ≡ stateOf 0 [] ⌝ }
 {
-    let addresses = no_addresses();
-    let slot = Slot {
-        item: Item::Unused,
-        addresses,
-    };
-    let room = Room {
-        bytes: [0u8; PATTERN_BYTES],
-        used: 0,
-    };
     let given = Given {
         name: false,
         protocol: false,
@@ -78,12 +93,11 @@ pub fn fresh() -> State
         within: false,
     };
     State {
-        name: [0u8; NAME_BYTES],
+        from: 0,
         len: 0,
         protocol: 0,
         flow: Flow::Any,
-        room,
-        items: [slot; ITEMS],
+        used: 0,
         count: 0,
         given,
         patterns: 0,

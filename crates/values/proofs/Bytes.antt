@@ -9,12 +9,10 @@ use types.Run.{OneOf}
 use denote.Enum.Declared.{tagOf}
 use Rattle.forms.specs.Scan.{begins, first}
 use Rattle.forms.specs.Pieces.{sign}
-use Rattle.definitions.specs.Limits.{limits01}
 use Rattle.definitions.specs.Numbers.{hexDigits}
 use Rattle.definitions.specs.Forms as forms
 use Rattle.definitions.specs.Forms.{spaces, hexPair, block, plainBytes, patternBytes}
-use Rattle.entry.specs.declared.Room.{Room}
-use Rattle.entry.specs.Values.{appended}
+use Rattle.entry.specs.Values.{Room, appended}
 use Rattle.scan_cursors.proofs.Cursor as cursor-type
 use Rattle.scan_cursors.specs.declared.Cursor.{Cursor}
 use Rattle.scan_cursors.specs.declared.Cursor.the-variants.{Going, Stopped}
@@ -45,8 +43,8 @@ module _ (s : List ℕ) (at : ℕ) (room : Room) (ready : Ready s at room) {here
     pub pair-end : n ≤ length s
     pair-end = told .inside
 
-    pub pair-room : to .used < limits01 .room
-    pair-room = let w = writes-ready pairWriting s at room ready u in omega (arith, w .behind, w .short, pair-end, ahead-more (w .inside) told refl)
+    pub pair-room : to .used < length (to .bytes)
+    pair-room = let w = writes-ready pairWriting s at room ready u in omega (arith, w .behind, w .short, w .full, pair-end, ahead-more (w .inside) told refl)
 
     module _ {x : List ℕ} {next : ℕ} (q : Reads spaces s (Going n) x (Going next)) where
       spaced : Reads spacedPair s (Going here) v (Going next)
@@ -104,8 +102,8 @@ module _ (s : List ℕ) (at : ℕ) (room : Room) (ready : Ready s at room) {here
 
 -- a plain byte, or a block
 module _ (s : List ℕ) (at : ℕ) (room : Room) where
-  pub plain-room : Ready s at room → begins plainBytes (drop at s) ≡ true → room .used < limits01 .room
-  plain-room w t = omega (arith, w .behind, w .short, begins-in plainBytes s at t)
+  pub plain-room : Ready s at room → begins plainBytes (drop at s) ≡ true → room .used < length (room .bytes)
+  plain-room w t = omega (arith, w .behind, w .short, w .full, begins-in plainBytes s at t)
 
   pub plain-stored : {to : Room} → begins plainBytes (drop at s) ≡ true → to ≡ appended room (getD s at 0 ∷ []) → Stores element s at room to (Going (at + 1))
   plain-stored t e = (
@@ -148,7 +146,7 @@ module _ (s : List ℕ) (at : ℕ) (room : Room) (w : Ready s at room) {x : ℕ}
   block-spaces = joined-reads r1 p1 e2 rs
 
   pub block-ready : Ready s a2 room
-  block-ready = record { inside = inside-at p2 block-spaces; short = w .short; behind = omega (arith, w .behind, block-low) }
+  block-ready = record { inside = inside-at p2 block-spaces; short = w .short; behind = omega (arith, w .behind, block-low); full = w .full }
 
   module _ {to : Room} {d : Cursor} (r : Stores pairs s a2 room to d) {c3 : Cursor} (e3 : c3 ≡ joined c2 d) {a3 : ℕ} (p3 : a3 ≡ placeOf c3) where
     block-pairs : Reads pairs s c2 (r .0) c3
@@ -172,7 +170,7 @@ module _ (s : List ℕ) (at : ℕ) (room : Room) (w : Ready s at room) {x : ℕ}
   pattern-low = omega (arith, byte-place ((34, 34) ∷ []) (w .inside) r1, p1)
 
   pub pattern-ready : Ready s a1 room
-  pattern-ready = record { inside = inside-at p1 r1; short = w .short; behind = omega (arith, w .behind, pattern-low) }
+  pattern-ready = record { inside = inside-at p1 r1; short = w .short; behind = omega (arith, w .behind, pattern-low); full = w .full }
 
   module _ {to : Room} {d : Cursor} (r : Stores patternBytes s a1 room to d) where
     counted : to .used ≡ room .used + length (r .0)

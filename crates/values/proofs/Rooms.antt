@@ -5,13 +5,12 @@ use mathlib.Core.List.{List, [], _∷_, _++_}
 use Prim.Native.Nat.{ℕ, suc, _+_, _-_, _≤_}
 use native.Mathlib.Omega.{arith}
 use lib.ListN.{length, drop, set, length-append}
-use lib.Seq.{sets}
+use lib.Seq.{sets, length-sets}
 use Rattle.forms.specs.Form.{Form}
 use Rattle.forms.specs.Scan.{empty, first, begins}
 use Rattle.forms.specs.Pieces.{some}
 use Rattle.forms.proofs.Sound.{never}
-use Rattle.entry.specs.declared.Room.{Room}
-use Rattle.entry.specs.Values.{appended}
+use Rattle.entry.specs.Values.{Room, appended}
 use Rattle.scan_cursors.specs.declared.Cursor.{Cursor}
 use Rattle.scan_cursors.specs.declared.Cursor.the-variants.{Going, Stopped}
 use Rattle.scan_cursors.specs.Reads.{Reads}
@@ -32,6 +31,14 @@ pub appended-twice : (room : Room) (a b : List ℕ) → appended (appended room 
 appended-twice room a b =
     let e : room .used + length a + length b ≡ room .used + length (a ++ b) = omega (arith, length-append a b) in
     rw (e, sets-append (room .bytes) (room .used) a b)
+
+-- bytes take the place of others
+appended-same : (room : Room) {to : Room} (b : List ℕ) → to ≡ appended room b → length (to .bytes) ≡ length (room .bytes)
+appended-same room b e = ap (λ (r : Room). length (r .bytes)) e ∙ length-sets (room .bytes) (room .used) b
+
+pub stores-same : {f : Form (List ℕ)} {s : List ℕ} {at : ℕ} {room to : Room} {d : Cursor} → Stores f s at room to d
+    → length (to .bytes) ≡ length (room .bytes)
+stores-same {room = room} r = appended-same room (r .0) (r .1 .kept)
 
 -- ---- the loop
 
@@ -65,7 +72,12 @@ module _ {A : Type 0} {f : Form A} {F : Form (List ℕ)} (W : Writing f F) (s : 
     pub writes-ready : Ready s here to
     writes-ready =
         let e : to .used ≡ room .used + length (W .bytes (u .values)) = ap (λ (r : Room). r .used) (u .kept) in
-        record { inside = u .turns .inside; short = ready .short; behind = omega (arith, e, u .grown, ready .behind) }
+        record {
+          inside = u .turns .inside;
+          short = ready .short;
+          behind = omega (arith, e, u .grown, ready .behind);
+          full = appended-same room (W .bytes (u .values)) (u .kept) ∙ ready .full;
+        }
 
     module _ (v : A) {n : ℕ} {to′ : Room} (r : Reads f s (Going here) v (Going n)) (e : to′ ≡ appended to (W .one v)) (g : here + length (W .one v) ≤ n) where
       all-kept : to′ ≡ appended room (W .bytes (u .values ++ (v ∷ [])))

@@ -7,8 +7,7 @@ use Rattle.forms.specs.Form.{Form, byte, made}
 use Rattle.forms.specs.Pieces.{skip, before, or, some, sign}
 use Rattle.definitions.specs.Limits.{limits01}
 use Rattle.definitions.specs.Forms.{spaces, hexPair, block, plainBytes, patternBytes}
-use Rattle.entry.specs.declared.Room.{Room}
-use Rattle.entry.specs.Values.{appended}
+use Rattle.entry.specs.Values.{Room, appended}
 use Rattle.scan_cursors.specs.declared.Cursor.{Cursor}
 use Rattle.scan_cursors.specs.declared.Cursor.the-variants.{Going}
 use Rattle.scan_cursors.specs.Reads.{Reads}
@@ -26,11 +25,12 @@ element = or (made (λ (b : ℕ). b ∷ []) (byte plainBytes)) block
 abbrev pub quotedBytes : Form (List ℕ)
 quotedBytes = skip (sign 34) (before patternBytes (sign 34))
 
--- no more bytes are in use than stand before the place, so that those from there on have room
+-- no more bytes are in use than stand before the place, so that those from there on have room in the buffer
 pub record Ready (s : List ℕ) (at : ℕ) (room : Room) : Type 0 where
   pub inside : at ≤ length s
   pub short : length s ≤ limits01 .text
   pub behind : room .used ≤ at
+  pub full : length (room .bytes) ≡ limits01 .room
 
 -- the bytes b are read, and stand in the room behind those that were in use
 pub record Stored (f : Form (List ℕ)) (s : List ℕ) (at : ℕ) (room : Room) (b : List ℕ) (to : Room) (d : Cursor) : Type 0 where

@@ -1,17 +1,15 @@
-// Pattern bytes in hex, stored as they are read.
+// Pattern bytes in hex, stored as they are read in a lent buffer, behind those in use.
 ghost use mathlib.Core.Path.{_≡_};
 ghost use mathlib.Core.List.{_∷_, []};
 ghost use Prim.Native.Nat.{_≤_, _<_};
 ghost use lib.ListN.{length, drop};
 ghost use Rattle.forms.specs.Scan.{begins};
-ghost use Rattle.definitions.specs.Limits.{limits01};
 ghost use Rattle.definitions.specs.Numbers.{hexDigits};
 ghost use Rattle.definitions.specs.Forms.{hexPair, block};
-ghost use Rattle.entry.specs.Values.{appended};
+ghost use Rattle.entry.specs.Values.{roomOf, appended};
 ghost use Rattle.scan_cursors.specs.Reads.{Reads};
 ghost use Rattle.scan_cursors.specs.declared.Cursor.the-variants.{Going};
 ghost use Rattle.values.specs.Storing.{pairs, Ready, Stores};
-use entry::Room;
 use scan::bytes::Class;
 use scan::bytes::in_class;
 use scan::numbers::value_of;
@@ -21,23 +19,19 @@ use scan_cursors::place;
 use scan_pieces::signs::sign_at;
 use scan_pieces::signs::spaces_at;
 
+// How many bytes are in use, and where scanning stands.
 pub struct BytesAt {
-    pub room: Room,
+    pub used: usize,
     pub cursor: Cursor,
 }
 
-// The byte behind those in use.
-pub fn put(room: Room, b: u8) -> Room
-    requires { ⌜ room .used < limits01 .room ⌝ }
-    ensures { λ r. ⌜ r ≡ appended room (b ∷ []) ⌝ }
+// The byte behind those in use; the answer counts it with them.
+pub fn put(bytes: &mut [u8], used: usize, b: u8) -> usize
+    requires { ⌜ used < length (now bytes) ⌝ }
+    ensures { λ r. ⌜ roomOf (now (bytes .exit)) r ≡ appended (roomOf (now (bytes .entry)) used) (b ∷ []) ⌝ }
 {
-    let mut bytes = room.bytes;
-    let used = room.used;
     bytes[used] = b;
-    Room {
-        bytes: bytes,
-        used: used + 1,
-    }
+    used + 1
 }
 
 fn is_hex_at(s: &[u8], at: usize) -> bool
@@ -81,26 +75,26 @@ fn pair_at(s: &[u8], at: usize) -> PairAt
 }
 
 // One or more pairs, spaces behind each.
-fn pairs_at(s: &[u8], at: usize, room: Room) -> BytesAt
-    requires { ⌜ Ready (now s) at room ⌝ }
-    ensures { λ r. ⌜ Stores pairs (now (s .entry)) at room (r .room) (r .cursor) ⌝ }
+fn pairs_at(s: &[u8], at: usize, bytes: &mut [u8], used: usize) -> BytesAt
+    requires { ⌜ Ready (now s) at (roomOf (now bytes) used) ⌝ }
+    ensures { λ r. ⌜ Stores pairs (now (s .entry)) at (roomOf (now (bytes .entry)) used) (roomOf (now (bytes .exit)) (r .used)) (r .cursor) ⌝ }
 {
     let mut here = at;
-    let mut to = room;
+    let mut to = used;
     loop {
         let p = pair_at(s, here);
         let c = p.cursor;
         let Cursor::Going(n) = c else {
             return BytesAt {
-                room: to,
+                used: to,
                 cursor: c,
             };
         };
-        to = put(to, p.byte);
+        to = put(bytes, to, p.byte);
         here = spaces_at(s, n);
         if !is_hex_at(s, here) {
             return BytesAt {
-                room: to,
+                used: to,
                 cursor: Cursor::Going(here),
             };
         }
@@ -108,24 +102,23 @@ fn pairs_at(s: &[u8], at: usize, room: Room) -> BytesAt
 }
 
 // A block between two bars.
-pub fn block_at(s: &[u8], at: usize, room: Room) -> BytesAt
-    requires { ⌜ Ready (now s) at room ⌝ }
-    ensures { λ r. ⌜ Stores block (now (s .entry)) at room (r .room) (r .cursor) ⌝ }
+pub fn block_at(s: &[u8], at: usize, bytes: &mut [u8], used: usize) -> BytesAt
+    requires { ⌜ Ready (now s) at (roomOf (now bytes) used) ⌝ }
+    ensures { λ r. ⌜ Stores block (now (s .entry)) at (roomOf (now (bytes .entry)) used) (roomOf (now (bytes .exit)) (r .used)) (r .cursor) ⌝ }
 {
     let c1 = sign_at(s, at, b'|');
     let a1 = place(c1);
     let from = spaces_at(s, a1);
     let c2 = join(c1, Cursor::Going(from));
     let a2 = place(c2);
-    let p = pairs_at(s, a2, room);
+    let p = pairs_at(s, a2, bytes, used);
     let d = p.cursor;
     let c3 = join(c2, d);
     let a3 = place(c3);
     let bar = sign_at(s, a3, b'|');
     let c4 = join(c3, bar);
-    let to = p.room;
     BytesAt {
-        room: to,
+        used: p.used,
         cursor: c4,
     }
 }

@@ -1,10 +1,11 @@
 -- What the code does is the definition by steps, and that is right for any options that make the state (`entered-right`).
-use Rattle.enter.proofs.Right.{ready, entered-right}
+use Rattle.enter.proofs.OneMore.{sound}
+use Rattle.enter.proofs.Right.{entered-right}
 use Rattle.enter.proofs.enter.Statement.{statement}
 use Rattle.enter.proofs.enter.Tie as tie
 
 enter-value-requires : tie.Need-enter-value-requires
-enter-value-requires c κs = ready _ _ _ _ _ (c .before .pre)
+enter-value-requires c κs = sound (c .pre .holds)
 
 returns : tie.Need-returns
 returns c = rw (c .enter-value .ensures) (entered-right _ _ _ _ _ _)

@@ -1,4 +1,4 @@
--- Each arm rewrites with the value it matched and cites what its callee ensures; a name lies in the text by what is required.
+-- Each arm rewrites with the value it matched and cites what its callee ensures.
 use Rattle.enter.specs.Entering.{valueEntered}
 use borrow.Author.Needs.{needs}
 use Rattle.enter.proofs.enter_value.Statement.{statement}
@@ -8,7 +8,7 @@ enum-known-value : tie.Need-enum-known-value
 enum-known-value c = search needs
 
 enter-name-requires : tie.Need-enter-name-requires
-enter-name-requires c κs = rw (c .before .value .given .1) at (c .before .before .before .before .pre .fit)
+enter-name-requires c κs = tt
 
 enum-known-value-2 : tie.Need-enum-known-value-2
 enum-known-value-2 c = search needs

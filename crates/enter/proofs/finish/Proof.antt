@@ -6,10 +6,12 @@ use Rattle.enter.proofs.finish.Statement.{statement}
 use Rattle.enter.proofs.finish.Tie as tie
 
 judge-requires : tie.Need-judge-requires
-judge-requires c κs = sound (c .pre .said) (c .args .st) (c .pre .holds)
+judge-requires c κs = let h = c .before .pre .holds in (sound h, h .named .short, h .named .inside)
 
 returns : tie.Need-returns
-returns c = λ said s h e. c .judge .ensures ∙ judged-right (c .before .args .st) (c .before .args .n) said s h e
+returns c =
+    let x = c .before .before .args in
+    λ said h. c .judge .ensures ∙ judged-right (x .s .now) (x .st) (x .bytes) (x .items) said h
 
 pub finish-spec : {M : Type 1} → statement M
 finish-spec = tie.close (tie.spec judge-requires returns)

@@ -5,9 +5,12 @@ use borrow.Author.Needs.{needs}
 use Rattle.enter_counted.proofs.enter_addresses.Statement.{statement}
 use Rattle.enter_counted.proofs.enter_addresses.Tie as tie
 
+no-item-requires : tie.Need-no-item-requires
+no-item-requires c κs = tt
+
 returns : tie.Need-returns
 unfolding addressesEntered
-returns c = simp (lt-ltb _ _ (c .if1 .taken))
+returns c = simp (lt-ltb _ _ (c .before .if1 .taken), c .no-item .ensures)
 
 enter-test-requires : tie.Need-enter-test-requires
 enter-test-requires c κs = search needs
@@ -17,4 +20,4 @@ unfolding addressesEntered
 returns-2 c = simp (le-ltb _ _ (c .before .if1 .left), c .enter-test .ensures)
 
 pub enter-addresses-spec : {M : Type 1} → statement M
-enter-addresses-spec = tie.close (tie.spec returns enter-test-requires returns-2)
+enter-addresses-spec = tie.close (tie.spec no-item-requires returns enter-test-requires returns-2)

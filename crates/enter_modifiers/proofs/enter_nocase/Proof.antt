@@ -1,16 +1,15 @@
 -- The definition at this modifier, with what the two callees ensure.
-use borrow.Author.Needs.{needs}
 use Rattle.enter_modifiers.proofs.enter_nocase.Statement.{statement}
 use Rattle.enter_modifiers.proofs.enter_nocase.Tie as tie
 
-last-pattern-requires : tie.Need-last-pattern-requires
-last-pattern-requires c κs = search needs
+pattern-of-requires : tie.Need-pattern-of-requires
+pattern-of-requires c κs = tt
 
 enter-modifier-requires : tie.Need-enter-modifier-requires
-enter-modifier-requires c κs = search needs
+enter-modifier-requires c κs = tt
 
 returns : tie.Need-returns
-returns c = simp (c .enter-modifier .ensures, c .before .before .last-pattern .ensures)
+returns c = simp (c .enter-modifier .ensures, c .before .before .pattern-of .ensures)
 
 pub enter-nocase-spec : {M : Type 1} → statement M
-enter-nocase-spec = tie.close (tie.spec last-pattern-requires enter-modifier-requires returns)
+enter-nocase-spec = tie.close (tie.spec pattern-of-requires enter-modifier-requires returns)

@@ -1,4 +1,5 @@
 -- A state with nothing said computes to the state of no options.
+use mathlib.Core.Path.{refl}
 use Rattle.reader_state.specs.State.{stateFrom, lastPlace}
 use Rattle.definitions.specs.Lists.{any?, keep}
 use Rattle.definitions.specs.Tables.{nameIn, protocolIn, flowIn, bytesIn, slotsIn}
@@ -6,12 +7,9 @@ use Rattle.definitions.specs.Standing.{latest}
 use Rattle.reader_state.proofs.fresh.Statement.{statement}
 use Rattle.reader_state.proofs.fresh.Tie as tie
 
-no-addresses-requires : tie.Need-no-addresses-requires
-no-addresses-requires c κs = tt
-
 returns : tie.Need-returns
 unfolding stateFrom nameIn protocolIn flowIn bytesIn slotsIn any? keep latest lastPlace
-returns c = rw (c .no-addresses .ensures)
+returns c = refl
 
 pub fresh-spec : {M : Type 1} → statement M
-fresh-spec = tie.close (tie.spec no-addresses-requires returns)
+fresh-spec = tie.close (tie.spec returns)

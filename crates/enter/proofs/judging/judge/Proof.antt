@@ -1,6 +1,6 @@
--- Each return rewrites with the tests that led there and with what `usable_count` ensures.
+-- Each return rewrites with the tests that led there, with what `usable_count` ensures, and at the end with what `copied` does.
 use borrow.Author.Tests.{lt-ltb, le-ltb}
-use Rattle.enter.specs.Judging.{judgedIn}
+use Rattle.enter.specs.Judging.{tableIn, judgedIn}
 use borrow.Author.Needs.{needs}
 use Rattle.enter.proofs.judging.judge.Statement.{statement}
 use Rattle.enter.proofs.judging.judge.Tie as tie
@@ -40,15 +40,15 @@ returns-3 c =
     let all-usable = le-ltb _ _ (c .before .before .before .before .before .before .if1 .left) in
     rw (← counted, all-usable, c .before .before .before .if2 .left, c .before .if3 .taken) (c .refused3 .ensures)
 
-table-of-requires : tie.Need-table-of-requires
-table-of-requires c κs = tt
+copied-requires : tie.Need-copied-requires
+copied-requires c κs = search needs
 
 returns-4 : tie.Need-returns-4
-unfolding judgedIn
+unfolding judgedIn tableIn
 returns-4 c =
     let counted = c .before .before .before .before .before .before .before .before .usable-count .ensures in
     let all-usable = le-ltb _ _ (c .before .before .before .before .before .before .if1 .left) in
-    rw (c .table-of .ensures, ← counted, all-usable, c .before .before .before .if2 .left, c .before .if3 .left)
+    rw (c .copied .ensures, ← counted, all-usable, c .before .before .before .if2 .left, c .before .if3 .left)
 
 pub judge-spec : {M : Type 1} → statement M
 judge-spec =
@@ -62,5 +62,5 @@ judge-spec =
     returns-2
     refused-requires-3
     returns-3
-    table-of-requires
+    copied-requires
     returns-4)

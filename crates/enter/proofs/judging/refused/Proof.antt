@@ -1,19 +1,14 @@
--- The table of the fresh state computes to the table of no entries.
-use Rattle.enter.specs.Judging.{tableIn}
-use Rattle.reader_state.specs.State.{stateFrom}
-use Rattle.definitions.specs.Tables.{tableOf}
+-- The table made anew computes to the table of no entries, with what `no_slot` ensures.
+use Rattle.definitions.specs.Tables.{nameIn, protocolIn, flowIn, bytesIn, slotsIn, tableOf}
 use Rattle.enter.proofs.judging.refused.Statement.{statement}
 use Rattle.enter.proofs.judging.refused.Tie as tie
 
-fresh-requires : tie.Need-fresh-requires
-fresh-requires c κs = tt
-
-table-of-requires : tie.Need-table-of-requires
-table-of-requires c κs = tt
+no-slot-requires : tie.Need-no-slot-requires
+no-slot-requires c κs = tt
 
 returns : tie.Need-returns
-unfolding tableIn tableOf stateFrom
-returns c = simp (c .table-of .ensures, c .before .fresh .ensures)
+unfolding tableOf nameIn protocolIn flowIn bytesIn slotsIn
+returns c = simp (c .no-slot .ensures)
 
 pub refused-spec : {M : Type 1} → statement M
-refused-spec = tie.close (tie.spec fresh-requires table-of-requires returns)
+refused-spec = tie.close (tie.spec no-slot-requires returns)

@@ -1,9 +1,11 @@
+-- Scanning goes from piece to piece to the end of the option, and no bytes are stored.
 use mathlib.Core.Path.{refl, sym, _∙_}
 use mathlib.Core.List.{[]}
-use Rattle.entry.specs.Values.{entryOf}
+use Rattle.entry.specs.Values.{roomOf, entryOf}
 use Rattle.scan_cursors.proofs.Readings.{made-reads, inside-at, joined-reads}
 use Rattle.options.proofs.Closing.{valued-reads}
-use Rattle.option_values.proofs.Onward.{joined-going, grown-none, stored-none}
+use Rattle.option_values.proofs.Onward.{joined-going, grown-none}
+use Rattle.values.proofs.Rooms.{appended-none}
 use Rattle.definitions.specs.Forms.{nameForm}
 use Rattle.scan_cursors.specs.Reads.{Reads}
 use Rattle.scan_cursors.specs.declared.Cursor.the-variants.{Going}
@@ -31,25 +33,38 @@ place-requires-2 : tie.Need-place-requires-2
 place-requires-2 c κs = tt
 
 closing-at-requires : tie.Need-closing-at-requires
-closing-at-requires c κs = inside-at (c .place2 .ensures) (joined-reads (c .before .before .before .before .gap-at .ensures .1) (c .before .before .before .place .ensures) (c .before .join .ensures) (c .before .before .name-at .ensures .read))
+closing-at-requires c κs =
+    let n = c .before .before in
+    let g = n .before .before in
+    inside-at (c .place2 .ensures) (joined-reads (g .gap-at .ensures .1) (n .before .place .ensures) (c .before .join .ensures) (n .name-at .ensures .read))
 
 join-requires-2 : tie.Need-join-requires-2
 join-requires-2 c κs = tt
 
 returns : tie.Need-returns
 unfolding entryOf
-returns c = let r : Reads nameForm (c .before .before .before .before .before .before .before .before .before .args .s .now) (Going (c .before .before .before .before .before .before .before .before .before .args .at)) (entryOf (c .before .before .before .before .before .before .before .before .before .args .s .now) (Name (c .before .before .before .before .name-at .result .from) (c .before .before .before .before .name-at .result .len)) [] []) (c .join2 .result) = (valued-reads (c .before .before .before .before .before .before .before .before .before .pre) (c .before .before .before .before .before .before .gap-at .ensures) (made-reads _ (joined-reads (c .before .before .before .before .before .before .gap-at .ensures .1) (c .before .before .before .before .before .place .ensures) (c .before .before .before .join .ensures) (c .before .before .before .before .name-at .ensures .read))) (c .before .before .place2 .ensures) (c .before .closing-at .ensures) (c .join2 .ensures)) in
+returns c =
+    let n = c .before .before .before .before in
+    let g = n .before .before in
+    let f = g .before .before .before in
+    let v = entryOf (f .args .s .now) (Name (n .name-at .result .from) (n .name-at .result .len)) [] [] in
+    let q = n .name-at .ensures in
+    let s = g .gap-at .ensures in
+    let m = made-reads _ (joined-reads (s .1) (n .before .place .ensures) (c .before .before .before .join .ensures) (q .read)) in
+    let r : Reads nameForm (f .args .s .now) (Going (f .args .at)) v (c .join2 .result) =
+    valued-reads (f .pre) s m (c .before .before .place2 .ensures) (c .before .closing-at .ensures) (c .join2 .ensures) in
+    λ bytes.
     record {
       al = [];
       b = [];
       reads = r;
-      kept = c .before .before .before .before .before .before .before .no-addresses .ensures;
-      stored = stored-none _;
-      apart = λ n e.
-          let g = joined-going (c .before .before .before .join .result) (c .before .closing-at .result) n (sym (c .join2 .ensures) ∙ e) in
-          let k = joined-going (c .before .before .before .before .before .before .gap-at .result) (c .before .before .before .before .name-at .result .cursor) (g .0) (sym (c .before .before .before .join .ensures) ∙ g .1) in
-          (c .before .before .before .before .name-at .ensures .low (g .0) (k .2), c .before .before .before .before .name-at .ensures .high (g .0) (k .2), c .before .before .before .before .name-at .ensures .inside, refl, refl);
-      grown = λ n e. grown-none refl (c .before .before .before .before .before .before .before .before .before .pre) r n e;
+      kept = g .before .no-addresses .ensures;
+      stored = appended-none (roomOf bytes _);
+      apart = λ k e.
+          let j = joined-going (c .before .before .before .join .result) (c .before .closing-at .result) k (sym (c .join2 .ensures) ∙ e) in
+          let i = joined-going (g .gap-at .result) (n .name-at .result .cursor) (j .0) (sym (c .before .before .before .join .ensures) ∙ j .1) in
+          (q .low (j .0) (i .2), q .high (j .0) (i .2), q .inside, refl, refl);
+      grown = λ k e. grown-none refl (f .pre) r k e;
     }
 
 pub name-option-spec : {M : Type 1} → statement M

@@ -1,13 +1,19 @@
-use Rattle.reader_state.specs.State.{Beside}
+-- The option is unlisted, stops or is over a limit as the definition's is; else it is read, entered, and the definition goes on behind it (`turned`).
 use mathlib.Core.Path.{sym, ap, _∙_, subst}
+use mathlib.Core.List.{List}
+use Prim.Native.Nat.{ℕ}
 use native.Mathlib.Omega.{arith}
+use lib.ListN.{set}
+use Rattle.definitions.specs.declared.table.Slot.{Slot}
 use Rattle.definitions.specs.Options.{listed}
-use Rattle.entry.specs.Values.{entryOf}
+use Rattle.entry.specs.Values.{Room, entryOf}
 use Rattle.scan_cursors.specs.Reads.{readBy}
+use Rattle.reader_state.specs.State.{Holds, entryIn, saidAlso}
+use Rattle.enter.proofs.OneMore.{bytes-full}
 use Rattle.reader.specs.declared.turns.Turn.{Turn}
 use Rattle.reader.specs.Turning.{TurnsTo}
 use Rattle.reader.proofs.Listed.{option-listed, option-unlisted, name-inside}
-use Rattle.reader.proofs.Steps.{taken-unlisted, taken-stopped, taken-over, turned, going-inside}
+use Rattle.reader.proofs.Steps.{taken-unlisted, taken-stopped, taken-over, read-behind, turned, going-inside}
 use borrow.Author.Needs.{needs}
 use Rattle.reader.proofs.turns.option_turn.Statement.{statement}
 use Rattle.reader.proofs.turns.option_turn.Tie as tie
@@ -19,24 +25,39 @@ name-end-requires : tie.Need-name-end-requires
 name-end-requires c κs = search needs
 
 name-place-requires : tie.Need-name-place-requires
-name-place-requires c κs = let g = name-inside _ _ (c .before .before .pre .inside) (c .name-end .ensures) in (g .0, g .1)
+name-place-requires c κs = let g = name-inside _ _ (c .before .before .before .pre .inside) (c .name-end .ensures) in (g .0, g .1)
+
+turn-only-requires : tie.Need-turn-only-requires
+turn-only-requires c κs = tt
 
 returns : tie.Need-returns
-returns c = λ said held K. taken-unlisted _ _ _ K (option-unlisted _ _ _ _ (c .before .before .name-end .ensures) (c .before .name-place .ensures) (c .if1 .taken))
+returns c =
+    λ said items held latest.
+    rw (c .turn-only .ensures)
+    (λ K. taken-unlisted _ _ _ K (option-unlisted _ _ _ _ (c .before .before .before .name-end .ensures) (c .before .before .name-place .ensures) (c .before .if1 .taken)))
 
 option-by-place-requires : tie.Need-option-by-place-requires
-option-by-place-requires c κs = let g = name-inside _ _ (c .before .before .before .before .before .pre .inside) (c .before .before .before .name-end .ensures) in (g .1, c .before .before .before .before .before .pre .short, (let u = c .before .before .before .before .before .pre .behind in omega (arith, u, g .0)), c .before .if1 .left)
+option-by-place-requires c κs =
+    let pre = c .before .before .before .before .before .before .pre in
+    let g = name-inside _ _ (pre .inside) (c .before .before .before .name-end .ensures) in
+    let u = pre .behind in
+    let i = pre .inside in
+    let l = pre .short in
+    (g .1, l, omega (arith, u, g .0), bytes-full (pre .holds) (omega (arith, u, i, l)), c .before .if1 .left)
 
 enum-known-cursor : tie.Need-enum-known-cursor
 enum-known-cursor c = search needs
 
 enter-requires : tie.Need-enter-requires
-enter-requires c κs = let P = c .before .before .before .before .before .option-by-place .ensures in
-    let q = c .before .before .before .cursor .given .1 in
-    let g = name-inside _ _ (c .before .before .before .before .before .before .before .before .before .before .before .pre .inside) (c .before .before .before .before .before .before .before .before .before .name-end .ensures) in
-    let w = P .grown _ q in
-    let z = going-inside (c .before .before .before .before .before .before .before .before .before .before .before .args .s .now) (c .before .before .before .before .before .option-by-place .result .cursor) _ (P .reads .inside) q in
-    record { said = c .before .before .before .before .before .before .before .before .before .before .before .pre .said; al = P .al; b = P .b; holds = c .before .before .before .before .before .before .before .before .before .before .before .pre .holds; beside = record { addresses = P .kept; bytes = P .stored; fits = (let u = c .before .before .before .before .before .before .before .before .before .before .before .pre .behind in let l = c .before .before .before .before .before .before .before .before .before .before .before .pre .short in omega (arith, u, l, g .0, w, z)); apart = P .apart _ q } }
+enter-requires c κs =
+    let start = c .before .before .before .before .before .before .before .before .before .before .before .before .before in
+    let pre = start .pre in
+    let read = c .before .before .before .before .before .before .option-by-place in
+    let q = c .before .before .cursor .given .1 in
+    let g = name-inside _ _ (pre .inside) (c .before .before .before .before .before .before .before .before .before .before .name-end .ensures) in
+    let z = going-inside (start .args .s .now) (read .result .cursor) _ (read .ensures .reads .inside) q in
+    let u = pre .behind in
+    read-behind (pre .said) (read .result) (read .ensures) (pre .holds) (pre .latest) _ q (omega (arith, u, g .0)) z (pre .short)
 
 turn-by-requires : tie.Need-turn-by-requires
 turn-by-requires c κs = tt
@@ -44,28 +65,66 @@ turn-by-requires c κs = tt
 enum-told : tie.Need-enum-told
 enum-told c = search needs
 
+turn-only-requires-2 : tie.Need-turn-only-requires-2
+turn-only-requires-2 c κs = tt
+
 enum-told-2 : tie.Need-enum-told-2
 enum-told-2 c = search needs
 
+turn-only-requires-3 : tie.Need-turn-only-requires-3
+turn-only-requires-3 c κs = tt
+
 returns-2 : tie.Need-returns-2
-returns-2 c = λ said held.
-    let P = c .before .before .before .before .before .before .before .before .option-by-place .ensures in
+unfolding read-behind
+returns-2 c =
+    λ said items held latest.
+    let start = c .before .before .before .before .before .before .before .before .before .before .before .before .before .before .before .before .before in
+    let x = start .args in
+    let pre = start .pre in
+    let read = c .before .before .before .before .before .before .before .before .before .before .option-by-place in
+    let P = read .ensures in
     let q = c .before .before .before .before .before .before .cursor .given .1 in
-    let g = name-inside _ _ (c .before .before .before .before .before .before .before .before .before .before .before .before .before .before .pre .inside) (c .before .before .before .before .before .before .before .before .before .before .before .before .name-end .ensures) in
+    let entered = c .before .before .before .enter in
+    let ended = c .before .before .before .before .before .before .before .before .before .before .before .before .before .before .name-end .ensures in
+    let g = name-inside _ _ (pre .inside) ended in
+    let z = going-inside (x .s .now) (read .result .cursor) _ (P .reads .inside) q in
+    let u = pre .behind in
     let w = P .grown _ q in
-    let z = going-inside (c .before .before .before .before .before .before .before .before .before .before .before .before .before .before .args .s .now) (c .before .before .before .before .before .before .before .before .option-by-place .result .cursor) _ (P .reads .inside) q in
-    let u = c .before .before .before .before .before .before .before .before .before .before .before .before .before .before .pre .behind in
-    let l = c .before .before .before .before .before .before .before .before .before .before .before .before .before .before .pre .short in
-    let side : Beside (c .before .before .before .before .before .before .before .before .before .before .before .before .before .before .args .s .now) (c .before .before .before .before .before .before .before .before .before .before .before .before .before .before .args .st) (c .before .before .before .before .before .before .before .before .option-by-place .result .value) (c .before .before .before .before .before .before .before .before .option-by-place .result .list) (c .before .before .before .before .before .before .before .before .option-by-place .result .room) (P .al) (P .b) = record { addresses = P .kept; bytes = P .stored; fits = omega (arith, u, l, g .0, w, z); apart = P .apart _ q } in
-    let i = option-listed _ _ _ _ (c .before .before .before .before .before .before .before .before .before .before .before .before .name-end .ensures) (c .before .before .before .before .before .before .before .before .before .before .before .name-place .ensures) (c .before .before .before .before .before .before .before .before .before .before .if1 .left) ∙ ap listed (sym (P .reads .reads) ∙ ap (readBy (entryOf _ (c .before .before .before .before .before .before .before .before .option-by-place .result .value) (P .al) (P .b))) q) in
-    subst (λ (t : Turn). TurnsTo (c .before .before .before .before .before .before .before .before .before .before .before .before .before .before .args .s .now) said (c .before .before .before .before .before .before .before .before .before .before .before .before .before .before .args .at) t (c .before .before .enter .result .state)) (sym (c .turn-by .ensures))
-    (turned _ said _ _ _ _ _ (P .al) (P .b) (P .apart _ q) held i z (omega (arith, g .0, w)) (omega (arith, u, g .0, w)) _ (c .before .before .enter .ensures .due said (P .al) (P .b) held side) (λ e. c .before .before .enter .ensures .holds said (P .al) (P .b) held side e))
+    let k = read-behind said (read .result) P held latest _ q (omega (arith, u, g .0)) z (pre .short) in
+    let after : List ℕ = read .last .1 .1 .1 .0 in
+    let put : List Slot = set items (entered .result .place) (entered .result .slot) in
+    let i =
+    option-listed _ _ _ _ ended (c .before .before .before .before .before .before .before .before .before .before .before .before .before .name-place .ensures) (c .before .before .before .before .before .before .before .before .before .before .before .before .if1 .left)
+    ∙ ap listed (sym (P .reads .reads) ∙ ap (readBy (entryOf _ (read .result .value) (P .al) (P .b))) q) in
+    subst (λ (t : Turn). TurnsTo (x .s .now) said (x .at) t (entered .result .state) after put) (sym (c .turn-by .ensures))
+    (turned _ said _ _ _ after items put _ _ _ (P .al) (P .b) (P .apart _ q) held i z (omega (arith, g .0, w)) (omega (arith, u, g .0, w)) _
+    (entered .ensures .due k)
+    (λ e.
+    subst (λ (l : List ℕ). Holds (x .s .now) (saidAlso said (x .at) (entryIn k)) (entered .result .state) l put)
+    (sym (ap (λ (m : Room). m .bytes) (P .stored))) (entered .ensures .holds k e)))
+
+same-length : tie.Need-same-length
+same-length c = search needs
 
 returns-3 : tie.Need-returns-3
-returns-3 c = λ said held K. let P = c .before .before .option-by-place .ensures in taken-over _ _ _ K _ _ (option-listed _ _ _ _ (c .before .before .before .before .before .before .name-end .ensures) (c .before .before .before .before .before .name-place .ensures) (c .before .before .before .before .if1 .left) ∙ ap listed (sym (P .reads .reads))) (c .enum-told .given .1)
+returns-3 c =
+    λ said items held latest.
+    let P = c .before .before .before .before .before .option-by-place .ensures in
+    let i = option-listed _ _ _ _ (c .before .before .before .before .before .before .before .before .before .name-end .ensures) (c .before .before .before .before .before .before .before .before .name-place .ensures) (c .before .before .before .before .before .before .before .if1 .left) ∙ ap listed (sym (P .reads .reads)) in
+    rw (c .turn-only2 .ensures) (λ K. taken-over _ _ _ K _ _ i (c .before .enum-told .given .1))
+
+same-length-2 : tie.Need-same-length-2
+same-length-2 c = search needs
 
 returns-4 : tie.Need-returns-4
-returns-4 c = λ said held K. let P = c .before .before .option-by-place .ensures in taken-stopped _ _ _ K _ _ (option-listed _ _ _ _ (c .before .before .before .before .before .before .name-end .ensures) (c .before .before .before .before .before .name-place .ensures) (c .before .before .before .before .if1 .left) ∙ ap listed (sym (P .reads .reads))) (c .enum-told2 .given .1)
+returns-4 c =
+    λ said items held latest.
+    let P = c .before .before .before .before .before .option-by-place .ensures in
+    let i = option-listed _ _ _ _ (c .before .before .before .before .before .before .before .before .before .name-end .ensures) (c .before .before .before .before .before .before .before .before .name-place .ensures) (c .before .before .before .before .before .before .before .if1 .left) ∙ ap listed (sym (P .reads .reads)) in
+    rw (c .turn-only3 .ensures) (λ K. taken-stopped _ _ _ K _ _ i (c .before .enum-told2 .given .1))
+
+same-length-3 : tie.Need-same-length-3
+same-length-3 c = search needs
 
 pub option-turn-spec : {M : Type 1} → statement M
 option-turn-spec =
@@ -74,13 +133,19 @@ option-turn-spec =
     add-from
     name-end-requires
     name-place-requires
+    turn-only-requires
     returns
     option-by-place-requires
     enum-known-cursor
     enter-requires
     turn-by-requires
     enum-told
+    turn-only-requires-2
     enum-told-2
+    turn-only-requires-3
+    same-length
     returns-2
+    same-length-2
     returns-3
+    same-length-3
     returns-4)

@@ -1,5 +1,5 @@
+-- A plain byte is stored as it is, and a block stores its bytes.
 use mathlib.Core.Path.{sym, _∙_}
-use native.Mathlib.Omega.{arith}
 use Rattle.values.proofs.Bytes.{plain-room, plain-stored, block-stored}
 use Rattle.scan_pieces.proofs.AtPlace.{begins-in}
 use Rattle.definitions.specs.Forms.{plainBytes}
@@ -14,19 +14,31 @@ shared-slice-read-b : tie.Need-shared-slice-read-b
 shared-slice-read-b c = begins-in plainBytes _ _ (sym (c .before .before .is-plain-at .ensures) ∙ c .before .if1 .taken)
 
 put-requires : tie.Need-put-requires
-put-requires c κs = plain-room (c .before .before .before .before .args .s .now) (c .before .before .before .before .args .at) _ (c .before .before .before .before .pre) (sym (c .before .before .is-plain-at .ensures) ∙ c .before .if1 .taken)
+put-requires c κs =
+    let f = c .before .before .before .before .before .before in
+    plain-room (f .args .s .now) (f .args .at) _ (f .pre) (sym (c .before .before .before .is-plain-at .ensures) ∙ c .before .before .if1 .taken)
 
-add-t10 : tie.Need-add-t10
-add-t10 c = omega (arith, begins-in plainBytes (c .before .before .before .before .before .args .s .now) (c .before .before .before .before .before .args .at) (sym (c .before .before .before .is-plain-at .ensures) ∙ c .before .before .if1 .taken))
+add-t13 : tie.Need-add-t13
+add-t13 c = search needs
 
 block-at-requires : tie.Need-block-at-requires
 block-at-requires c κs = search needs
 
+same-length : tie.Need-same-length
+same-length c = search needs
+
 returns : tie.Need-returns
-returns c = plain-stored _ _ _ (sym (c .before .before .before .is-plain-at .ensures) ∙ c .before .before .if1 .taken) (c .put .ensures)
+returns c =
+    let p = c .before .before .before .before .before in
+    plain-stored _ _ _ (sym (p .before .is-plain-at .ensures) ∙ p .if1 .taken) (c .before .before .put .ensures)
+
+same-length-2 : tie.Need-same-length-2
+same-length-2 c = search needs
 
 returns-2 : tie.Need-returns-2
-returns-2 c = block-stored _ _ _ (sym (c .before .before .is-plain-at .ensures) ∙ c .before .if1 .left) (c .block-at .ensures)
+returns-2 c =
+    let p = c .before .before .before .before in
+    block-stored _ _ _ (sym (p .before .is-plain-at .ensures) ∙ p .if1 .left) (c .before .before .block-at .ensures)
 
 pub element-at-spec : {M : Type 1} → statement M
 element-at-spec =
@@ -35,7 +47,9 @@ element-at-spec =
     is-plain-at-requires
     shared-slice-read-b
     put-requires
-    add-t10
+    add-t13
     block-at-requires
+    same-length
     returns
+    same-length-2
     returns-2)

@@ -6,8 +6,8 @@ use lib.ListN.{take, drop}
 use Rattle.definitions.specs.Limits.{nameMost}
 use Rattle.definitions.specs.Lists.{padded}
 use Rattle.laws.proofs.Padded.{padded-part}
-use Rattle.enter.proofs.once.copied.Statement.{statement}
-use Rattle.enter.proofs.once.copied.Tie as tie
+use Rattle.enter.proofs.judging.copied.Statement.{statement}
+use Rattle.enter.proofs.judging.copied.Tie as tie
 
 abbrev Inv-loop : tie.InvT-loop
 Inv-loop s from n name₀ i₀ name i = (i ≤ n) × (name ≡ padded nameMost 0 (take i (drop from s)))
