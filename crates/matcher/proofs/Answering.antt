@@ -1,64 +1,72 @@
--- From the outcome of a search, or the refusal that is due, to the answer of an entry.
-use mathlib.Core.Path.{_≡_, refl, ap, _∙_}
+-- From the refusal that is due, or the answer by facts and payload, to the answer of an entry.
+use mathlib.Core.Path.{_≡_, refl, sym, _∙_}
 use mathlib.Core.Bool.{false}
 use mathlib.Core.List.{List, [], _∷_}
 use Prim.Native.Nat.{ℕ}
 use Rattle.definitions.specs.declared.table.Table.{Table}
 use Rattle.definitions.specs.declared.packet.Direction.{Direction}
+use Rattle.definitions.specs.declared.packet.Facts.{Facts}
 use Rattle.definitions.specs.declared.packet.FieldMap.{FieldMap}
 use Rattle.definitions.specs.declared.packet.Placement.{Placement}
 use Rattle.definitions.specs.declared.answers.Refusal.{Refusal}
-use Rattle.definitions.specs.declared.answers.Due.the-variants.{Fine}
+use Rattle.definitions.specs.declared.answers.Due.{Due}
+use Rattle.definitions.specs.declared.answers.Due.the-variants.{Fine, No}
 use Rattle.definitions.specs.declared.answers.PacketAnswer.{PacketAnswer}
 use Rattle.definitions.specs.declared.answers.PacketAnswer.the-variants as packet
 use Rattle.definitions.specs.declared.answers.Verdict.{Verdict}
 use Rattle.definitions.specs.declared.answers.Verdict.the-variants as verdict
 use Rattle.definitions.specs.declared.answers.Answer.{Answer}
 use Rattle.definitions.specs.Lists.{keep}
-use Rattle.definitions.specs.Answers.{refusedAnswer, verdictBy, verdictDue, placementsOf, verdictAnswer, firstAnswer, nextAnswer}
+use Rattle.definitions.specs.Fields.{fieldsDue}
+use Rattle.definitions.specs.Answers.{refusedAnswer, verdictBy, verdictAnswer, firstAnswer, nextAnswer}
 use Rattle.search_outcomes.specs.declared.Outcome.{Outcome}
-use Rattle.search_outcomes.specs.Outcomes.{outcomeOf, answerOf, metBy}
+use Rattle.search_outcomes.specs.Outcomes.{outcomeOf, metBy}
 use Rattle.search_chosen.specs.Choosing.{behindIf}
 use Rattle.verdict_due.specs.Clearing.{clearance}
-use Rattle.verdict_due.proofs.Clearance.{refused-due}
-use Rattle.placement_list.proofs.Answering.{answer-head}
+use Rattle.placement_list.specs.Listing.{listIn, firstIn, nextIn}
+use Rattle.placement_list.proofs.Cleared.{Cleared, refused-due, due-here, list-here}
+use Rattle.placement_list.proofs.Answering.{keep-every}
+
+-- ---- the verdict by facts and payload; w is what the test of the fields says
 
 met-head : (l : List (List ℕ)) → metBy (outcomeOf l .found) ≡ verdictBy Fine l
 met-head [] = refl
 met-head (q ∷ l) = refl
 
-keep-every : (p : List ℕ) (l : List (List ℕ)) → keep (behindIf false p) l ≡ l
-unfolding keep
-keep-every p [] = refl
-keep-every p (q ∷ l) = ap (λ (k : List (List ℕ)). q ∷ k) (keep-every p l)
+module _ (t : Table) (f : Facts) (s d : List ℕ) (dir : Direction) (m : FieldMap) {w : Due} (ew : w ≡ fieldsDue s d m) where
+  pub fields-refused : {r : Refusal} → w ≡ No r → verdict.Refused r ≡ verdictBy (fieldsDue s d m) (listIn t f s d dir m)
+  fields-refused k = rw (sym ew ∙ k)
 
-module _ (t : Table) (p d : List ℕ) (dir : Direction) (m : FieldMap) where
-  -- ---- a refusal is due: a is what was cleared, x the answer given
+  pub verdict-found : w ≡ Fine → (b : List ℕ) {x : Outcome} → x ≡ outcomeOf (keep (behindIf false b) (listIn t f s d dir m))
+      → {v : Verdict} → v ≡ metBy (x .found) → v ≡ verdictBy (fieldsDue s d m) (listIn t f s d dir m)
+  verdict-found k b e g = g ∙ rw (sym ew ∙ k, e, keep-every b (listIn t f s d dir m)) (met-head (listIn t f s d dir m))
 
-  module _ (a : PacketAnswer) (e : a ≡ clearance t p d dir m) (r : Refusal) (k : a ≡ packet.Refused r) where
-    pub verdict-refused : verdict.Refused r ≡ verdictAnswer t p d dir m
-    unfolding verdictAnswer
-    verdict-refused = rw (refused-due t p d dir m a e r k)
+-- ---- a refusal is due: a is what was cleared, x the answer given
 
-    pub first-refused : (x : Answer) → x ≡ refusedAnswer r → x ≡ firstAnswer t p d dir m
-    unfolding firstAnswer
-    first-refused x g = rw (refused-due t p d dir m a e r k) g
+module _ (t : Table) (p d : List ℕ) (dir : Direction) (m : FieldMap) {a : PacketAnswer} (e : a ≡ clearance t p d) {r : Refusal} (k : a ≡ packet.Refused r) where
+  pub verdict-refused : verdict.Refused r ≡ verdictAnswer t p d dir m
+  unfolding verdictAnswer
+  verdict-refused = rw (refused-due t p d e k dir m)
 
-    pub next-refused : (h : Placement) (x : Answer) → x ≡ refusedAnswer r → x ≡ nextAnswer t p d dir m h
-    unfolding nextAnswer
-    next-refused h x g = rw (refused-due t p d dir m a e r k) g
+  pub first-refused : {x : Answer} → x ≡ refusedAnswer r → x ≡ firstAnswer t p d dir m
+  unfolding firstAnswer
+  first-refused g = rw (refused-due t p d e k dir m) g
 
-  -- ---- nothing is due: x is what the search found
+  pub next-refused : (h : Placement) {x : Answer} → x ≡ refusedAnswer r → x ≡ nextAnswer t p d dir m h
+  unfolding nextAnswer
+  next-refused h g = rw (refused-due t p d e k dir m) g
 
-  module _ (due : verdictDue t p d dir m ≡ Fine) (x : Outcome) where
-    module _ (b : List ℕ) (e : x ≡ outcomeOf (keep (behindIf false b) (placementsOf t p d dir m))) where
-      every : x ≡ outcomeOf (placementsOf t p d dir m)
-      every = e ∙ ap outcomeOf (keep-every b (placementsOf t p d dir m))
+-- ---- the packet is cleared: f and s are its facts and payload
 
-      pub verdict-found : (v : Verdict) → v ≡ metBy (x .found) → v ≡ verdictAnswer t p d dir m
-      unfolding verdictAnswer
-      verdict-found v g = g ∙ rw (due, every) (met-head (placementsOf t p d dir m))
+module _ {t : Table} {p d : List ℕ} {f : Facts} {s : List ℕ} (c : Cleared t p d f s) (dir : Direction) (m : FieldMap) where
+  pub verdict-here : verdictBy (fieldsDue s d m) (listIn t f s d dir m) ≡ verdictAnswer t p d dir m
+  unfolding verdictAnswer
+  verdict-here = rw (due-here c dir m, list-here c dir m)
 
-      pub first-found : (y : Answer) → y ≡ answerOf x → y ≡ firstAnswer t p d dir m
-      unfolding firstAnswer
-      first-found y g = g ∙ rw (due, every) (answer-head (placementsOf t p d dir m))
+  pub first-here : firstIn t f s d dir m ≡ firstAnswer t p d dir m
+  unfolding firstIn firstAnswer
+  first-here = rw (due-here c dir m, list-here c dir m)
+
+  pub next-here : (h : Placement) → nextIn t f s d dir m h ≡ nextAnswer t p d dir m h
+  unfolding nextIn nextAnswer
+  next-here h = rw (due-here c dir m, list-here c dir m)

@@ -1,3 +1,3 @@
--- What a cleared packet gives the search, and the answers of "next".
+-- What a cleared packet hands on, and the answers of "first" and "next".
 pub mod Cleared
 pub mod Answering

@@ -1,11 +1,10 @@
-// The list of placements of a packet for which nothing is due: its first, and the least behind a placement held.
+// The list of placements by a datagram's facts and payload: its first, and the least behind a placement held. Refusals 35 and 36 come first, in this
+// order; those before them the caller has tested.
 ghost use mathlib.Core.Path.{_≡_};
-ghost use Rattle.definitions.specs.Lists.{keep};
-ghost use Rattle.definitions.specs.Answers.{placementsOf, nextAnswer};
-ghost use Rattle.search_outcomes.specs.Outcomes.{outcomeOf};
-ghost use Rattle.search_chosen.specs.Choosing.{behindIf};
-ghost use Rattle.verdict_due.specs.Clearing.{Cleared};
+ghost use Rattle.search.specs.Searching.{Searchable};
+ghost use Rattle.placement_list.specs.Listing.{firstIn, nextIn};
 use definitions::answers::Answer;
+use definitions::answers::Due;
 use definitions::answers::Refusal;
 use definitions::limits::PATTERNS;
 use definitions::packet::Direction;
@@ -13,49 +12,54 @@ use definitions::packet::Facts;
 use definitions::packet::FieldMap;
 use definitions::packet::Placement;
 use definitions::table::Table;
-use packet::payload_of;
+use fields::fields_due;
 use positive_counts::positive_count;
 use search::find;
-use search_outcomes::Outcome;
 use search_outcomes::answered;
 use search_outcomes::refused;
 
-// The first of the list of placements, or with `tight` the first behind the starts in `bound`.
-pub fn searched<'a>(
+// Refusal 35, or the first of the list, or none.
+pub fn first_in<'a>(
     t: Table,
-    p: &'a [u8],
+    facts: Facts,
+    payload: &'a [u8],
     decoded: &'a [u8],
     dir: Direction,
     m: FieldMap,
-    facts: Facts,
-    bound: [usize; PATTERNS],
-    tight: bool,
-) -> Outcome
-    requires { ⌜ Cleared t (now p) (now decoded) dir m facts ⌝ }
-    ensures { λ r. ⌜ r ≡ outcomeOf (keep (behindIf tight bound) (placementsOf t (now (p .entry)) (now (decoded .entry)) dir m)) ⌝ }
+) -> Answer
+    requires { ⌜ Searchable t (now payload) (now decoded) ⌝ }
+    ensures { λ r. ⌜ r ≡ firstIn t facts (now (payload .entry)) (now (decoded .entry)) dir m ⌝ }
 {
-    let payload = payload_of(p, facts);
-    find(t, facts, payload, decoded, dir, m, bound, tight)
+    let due = fields_due(payload, decoded, m);
+    if let Due::No(r) = due {
+        return refused(r);
+    }
+    let x = find(t, facts, payload, decoded, dir, m, [0; PATTERNS], false);
+    answered(x)
 }
 
-// Refusal 36, or the least of the list behind the placement held.
-pub fn following<'a>(
+// Refusal 35 or 36, or the least of the list behind the placement held, or none.
+pub fn next_in<'a>(
     t: Table,
-    p: &'a [u8],
+    facts: Facts,
+    payload: &'a [u8],
     decoded: &'a [u8],
     dir: Direction,
     m: FieldMap,
-    facts: Facts,
     held: Placement,
 ) -> Answer
-    requires { ⌜ Cleared t (now p) (now decoded) dir m facts ⌝ }
-    ensures { λ r. ⌜ r ≡ nextAnswer t (now (p .entry)) (now (decoded .entry)) dir m held ⌝ }
+    requires { ⌜ Searchable t (now payload) (now decoded) ⌝ }
+    ensures { λ r. ⌜ r ≡ nextIn t facts (now (payload .entry)) (now (decoded .entry)) dir m held ⌝ }
 {
+    let due = fields_due(payload, decoded, m);
+    if let Due::No(r) = due {
+        return refused(r); // 35 comes before 36
+    }
     let items = t.items;
     if held.count != positive_count(items, t.count) {
         return refused(Refusal::EarlierCount);
     }
     let bound = held.starts;
-    let x = searched(t, p, decoded, dir, m, facts, bound, true);
+    let x = find(t, facts, payload, decoded, dir, m, bound, true);
     answered(x)
 }

@@ -1,2 +1,2 @@
--- What the contracts of `clearing` cite besides the definitions.
+-- What the contracts of `verdict_due` cite besides the definitions.
 pub mod Clearing

@@ -1,8 +1,7 @@
--- A refusal is the first due; else the search has the first of the list.
-use lib.ListN.{replicate}
-use Rattle.definitions.specs.Limits.{patternsMost}
-use Rattle.verdict_due.proofs.Clearance.{seen-cleared}
-use Rattle.matcher.proofs.Answering.{first-refused, first-found}
+-- A refusal is the first due of 20 and 30 to 34; else the first goes by facts and payload.
+use mathlib.Core.Path.{_∙_}
+use Rattle.placement_list.proofs.Cleared.{seen-cleared, searchable}
+use Rattle.matcher.proofs.Answering.{first-refused, first-here}
 use Rattle.matcher.proofs.first.Statement.{statement}
 use Rattle.matcher.proofs.first.Tie as tie
 
@@ -18,24 +17,29 @@ refused-requires c κs = tt
 enum-known-seen-2 : tie.Need-enum-known-seen-2
 enum-known-seen-2 c = c .match .keys2
 
-searched-requires : tie.Need-searched-requires
-searched-requires c κs =
-    let x = c .before .before .before .before .before .before .args in
-    seen-cleared (x .t) (x .p .now) (x .decoded .now) (x .dir) (x .m) (c .before .before .before .cleared .result) (c .before .before .before .cleared .ensures (x .dir)) _ (c .before .seen2 .given .1)
+payload-of-requires : tie.Need-payload-of-requires
+payload-of-requires c κs = tt
 
-answered-requires : tie.Need-answered-requires
-answered-requires c κs = tt
+first-in-requires : tie.Need-first-in-requires
+first-in-requires c κs =
+    let a = c .before .before .before .before in
+    let x = a .before .before .before .args in
+    let ok = seen-cleared (x .t) (x .p .now) (x .decoded .now) (a .cleared .ensures) (c .before .before .seen2 .given .1) (c .payload-of .ensures .0) in
+    searchable ok
 
 returns : tie.Need-returns
 returns c =
-    let x = c .before .before .before .before .before .before .before .args in
-    first-refused (x .t) (x .p .now) (x .decoded .now) (x .dir) (x .m) (c .before .before .before .before .cleared .result) (c .before .before .before .before .cleared .ensures (x .dir)) _ (c .before .before .seen .given .1) (c .refused .result) (c .refused .ensures)
+    let a = c .before .before .before .before in
+    let x = a .before .before .before .args in
+    first-refused (x .t) (x .p .now) (x .decoded .now) (x .dir) (x .m) (a .cleared .ensures) (c .before .before .seen .given .1) (c .refused .ensures)
 
 returns-2 : tie.Need-returns-2
 returns-2 c =
-    let x = c .before .before .before .before .before .before .before .before .args in
-    let ok = seen-cleared (x .t) (x .p .now) (x .decoded .now) (x .dir) (x .m) (c .before .before .before .before .before .cleared .result) (c .before .before .before .before .before .cleared .ensures (x .dir)) _ (c .before .before .before .seen2 .given .1) in
-    first-found (x .t) (x .p .now) (x .decoded .now) (x .dir) (x .m) (ok .due) (c .before .searched .result) (replicate patternsMost 0) (c .before .searched .ensures) (c .answered .result) (c .answered .ensures)
+    let s = c .before in
+    let a = s .before .before .before .before in
+    let x = a .before .before .before .args in
+    let ok = seen-cleared (x .t) (x .p .now) (x .decoded .now) (a .cleared .ensures) (s .before .before .seen2 .given .1) (s .payload-of .ensures .0) in
+    c .first-in .ensures ∙ first-here ok (x .dir) (x .m)
 
 pub first-spec : {M : Type 1} → statement M
 first-spec =
@@ -45,7 +49,7 @@ first-spec =
     enum-known-seen
     refused-requires
     enum-known-seen-2
-    searched-requires
-    answered-requires
+    payload-of-requires
+    first-in-requires
     returns
     returns-2)

@@ -1,6 +1,7 @@
--- A refusal is the first due of 20 and 30 to 35; else the count held decides.
-use Rattle.verdict_due.proofs.Clearance.{seen-cleared}
-use Rattle.matcher.proofs.Answering.{next-refused}
+-- A refusal is the first due of 20 and 30 to 34; else the next goes by facts and payload.
+use mathlib.Core.Path.{_∙_}
+use Rattle.placement_list.proofs.Cleared.{seen-cleared, searchable}
+use Rattle.matcher.proofs.Answering.{next-refused, next-here}
 use Rattle.matcher.proofs.next.Statement.{statement}
 use Rattle.matcher.proofs.next.Tie as tie
 
@@ -16,18 +17,29 @@ refused-requires c κs = tt
 enum-known-seen-2 : tie.Need-enum-known-seen-2
 enum-known-seen-2 c = c .match .keys2
 
-following-requires : tie.Need-following-requires
-following-requires c κs =
-    let x = c .before .before .before .before .before .before .args in
-    seen-cleared (x .t) (x .p .now) (x .decoded .now) (x .dir) (x .m) (c .before .before .before .cleared .result) (c .before .before .before .cleared .ensures (x .dir)) _ (c .before .seen2 .given .1)
+payload-of-requires : tie.Need-payload-of-requires
+payload-of-requires c κs = tt
+
+next-in-requires : tie.Need-next-in-requires
+next-in-requires c κs =
+    let a = c .before .before .before .before in
+    let x = a .before .before .before .args in
+    let ok = seen-cleared (x .t) (x .p .now) (x .decoded .now) (a .cleared .ensures) (c .before .before .seen2 .given .1) (c .payload-of .ensures .0) in
+    searchable ok
 
 returns : tie.Need-returns
 returns c =
-    let x = c .before .before .before .before .before .before .before .args in
-    next-refused (x .t) (x .p .now) (x .decoded .now) (x .dir) (x .m) (c .before .before .before .before .cleared .result) (c .before .before .before .before .cleared .ensures (x .dir)) _ (c .before .before .seen .given .1) (x .held) (c .refused .result) (c .refused .ensures)
+    let a = c .before .before .before .before in
+    let x = a .before .before .before .args in
+    next-refused (x .t) (x .p .now) (x .decoded .now) (x .dir) (x .m) (a .cleared .ensures) (c .before .before .seen .given .1) (x .held) (c .refused .ensures)
 
 returns-2 : tie.Need-returns-2
-returns-2 c = c .following .ensures
+returns-2 c =
+    let s = c .before in
+    let a = s .before .before .before .before in
+    let x = a .before .before .before .args in
+    let ok = seen-cleared (x .t) (x .p .now) (x .decoded .now) (a .cleared .ensures) (s .before .before .seen2 .given .1) (s .payload-of .ensures .0) in
+    c .next-in .ensures ∙ next-here ok (x .dir) (x .m) (x .held)
 
 pub next-spec : {M : Type 1} → statement M
 next-spec =
@@ -37,6 +49,7 @@ next-spec =
     enum-known-seen
     refused-requires
     enum-known-seen-2
-    following-requires
+    payload-of-requires
+    next-in-requires
     returns
     returns-2)

@@ -1,8 +1,7 @@
--- A refusal is the first due; else the table is met exactly if the search finds a placement.
-use lib.ListN.{replicate}
-use Rattle.definitions.specs.Limits.{patternsMost}
-use Rattle.verdict_due.proofs.Clearance.{seen-cleared}
-use Rattle.matcher.proofs.Answering.{verdict-refused, verdict-found}
+-- A refusal is the first due of 20 and 30 to 34; else the verdict goes by facts and payload.
+use mathlib.Core.Path.{_∙_}
+use Rattle.placement_list.proofs.Cleared.{seen-cleared, searchable}
+use Rattle.matcher.proofs.Answering.{verdict-refused, verdict-here}
 use Rattle.matcher.proofs.verdict.Statement.{statement}
 use Rattle.matcher.proofs.verdict.Tie as tie
 
@@ -15,24 +14,28 @@ enum-known-seen c = c .match .keys1
 enum-known-seen-2 : tie.Need-enum-known-seen-2
 enum-known-seen-2 c = c .match .keys2
 
-searched-requires : tie.Need-searched-requires
-searched-requires c κs =
-    let x = c .before .before .before .before .before .before .args in
-    seen-cleared (x .t) (x .p .now) (x .decoded .now) (x .dir) (x .m) (c .before .before .before .cleared .result) (c .before .before .before .cleared .ensures (x .dir)) _ (c .before .seen2 .given .1)
+payload-of-requires : tie.Need-payload-of-requires
+payload-of-requires c κs = tt
 
-met-requires : tie.Need-met-requires
-met-requires c κs = tt
+verdict-in-requires : tie.Need-verdict-in-requires
+verdict-in-requires c κs =
+    let a = c .before .before .before .before in
+    let x = a .before .before .before .args in
+    let ok = seen-cleared (x .t) (x .p .now) (x .decoded .now) (a .cleared .ensures) (c .before .before .seen2 .given .1) (c .payload-of .ensures .0) in
+    searchable ok
 
 returns : tie.Need-returns
 returns c =
     let x = c .before .before .before .before .before .before .args in
-    verdict-refused (x .t) (x .p .now) (x .decoded .now) (x .dir) (x .m) (c .before .before .before .cleared .result) (c .before .before .before .cleared .ensures (x .dir)) _ (c .before .seen .given .1)
+    verdict-refused (x .t) (x .p .now) (x .decoded .now) (x .dir) (x .m) (c .before .before .before .cleared .ensures) (c .before .seen .given .1)
 
 returns-2 : tie.Need-returns-2
 returns-2 c =
-    let x = c .before .before .before .before .before .before .before .before .args in
-    let ok = seen-cleared (x .t) (x .p .now) (x .decoded .now) (x .dir) (x .m) (c .before .before .before .before .before .cleared .result) (c .before .before .before .before .before .cleared .ensures (x .dir)) _ (c .before .before .before .seen2 .given .1) in
-    verdict-found (x .t) (x .p .now) (x .decoded .now) (x .dir) (x .m) (ok .due) (c .before .searched .result) (replicate patternsMost 0) (c .before .searched .ensures) (c .met .result) (c .met .ensures)
+    let s = c .before in
+    let a = s .before .before .before .before in
+    let x = a .before .before .before .args in
+    let ok = seen-cleared (x .t) (x .p .now) (x .decoded .now) (a .cleared .ensures) (s .before .before .seen2 .given .1) (s .payload-of .ensures .0) in
+    c .verdict-in .ensures ∙ verdict-here ok (x .dir) (x .m)
 
 pub verdict-spec : {M : Type 1} → statement M
 verdict-spec =
@@ -41,7 +44,7 @@ verdict-spec =
     cleared-requires
     enum-known-seen
     enum-known-seen-2
-    searched-requires
-    met-requires
+    payload-of-requires
+    verdict-in-requires
     returns
     returns-2)

@@ -1,0 +1,2 @@
+-- What the contracts of `placement_list` cite besides the definitions.
+pub mod Listing

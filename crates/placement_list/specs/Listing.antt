@@ -1,0 +1,28 @@
+-- The list of placements, its first and its next, by what is left of a packet once 20 and 30 to 34 are tested: its facts f, its payload s and the decoded
+-- buffer d. Document 01, section "Meaning".
+use mathlib.Core.List.{List}
+use Prim.Native.Nat.{ℕ}
+use Rattle.definitions.specs.declared.table.Table.{Table}
+use Rattle.definitions.specs.declared.packet.Direction.{Direction}
+use Rattle.definitions.specs.declared.packet.Facts.{Facts}
+use Rattle.definitions.specs.declared.packet.FieldMap.{FieldMap}
+use Rattle.definitions.specs.declared.packet.Placement.{Placement}
+use Rattle.definitions.specs.declared.answers.Answer.{Answer}
+use Rattle.definitions.specs.Lists.{keep}
+use Rattle.definitions.specs.Refusals.{orElse}
+use Rattle.definitions.specs.Fields.{fieldsDue}
+use Rattle.definitions.specs.Placements.{Start, behind, listed}
+use Rattle.definitions.specs.Answers.{startsOf, headOf, unless, earlierDue}
+use Rattle.fields.specs.Seen.{seen}
+
+module _ (t : Table) (f : Facts) (s d : List ℕ) (dir : Direction) (m : FieldMap) where
+  abbrev pub listIn : List (List Start)
+  listIn = listed t (seen f s d m) dir
+
+  -- 35, or the first of the list, or none
+  unfoldable pub firstIn : Answer
+  firstIn = unless (fieldsDue s d m) (headOf listIn)
+
+  -- 35, then 36, which looks at the table alone; or the least of the list behind the placement held, or none
+  unfoldable pub nextIn : Placement → Answer
+  nextIn h = unless (orElse (fieldsDue s d m) (earlierDue t s d dir m h)) (headOf (keep (behind (startsOf h)) listIn))

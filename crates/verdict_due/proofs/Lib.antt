@@ -1,2 +1,0 @@
--- What is due, test by test.
-pub mod Clearance
