@@ -1,2 +1,3 @@
--- How the list of placements follows from "first" and "next".
+-- What is left of a rising list, and the list of placements as it is written.
+pub mod Rest
 pub mod Listing

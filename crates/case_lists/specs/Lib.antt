@@ -1,3 +1,2 @@
 -- What the contracts of `case_lists` cite.
 pub mod AnswerTexts
-pub mod Following

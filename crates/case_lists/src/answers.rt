@@ -1,8 +1,6 @@
 // The answer to one ask: a placement, none, or a refusal.
-ghost use mathlib.Core.Path.{_≡_};
 ghost use Rattle.output.specs.Puts.{Puts};
 ghost use Rattle.case_lists.specs.AnswerTexts.{refusedText, answerText};
-ghost use Rattle.case_lists.specs.Following.{isPlaced};
 use crate::placements::put_placement;
 use codes::number_of;
 use definitions::answers::Answer;
@@ -11,7 +9,7 @@ use definitions::answers::Refusal;
 use output::put_decimal;
 use output::put_word;
 
-fn put_refused(out: &mut [u8], at: usize, r: Refusal) -> usize
+pub fn put_refused(out: &mut [u8], at: usize, r: Refusal) -> usize
     ensures { λ n. ⌜ Puts (now (out .entry)) at (refusedText r) (now (out .exit)) n ⌝ }
 {
     let next = put_word(out, at, b"refused ");
@@ -27,16 +25,5 @@ pub fn put_answer(out: &mut [u8], at: usize, a: Answer) -> usize
         Found::Placed => put_placement(out, at, placement),
         Found::Nothing => put_word(out, at, b"none"),
         Found::Refused(r) => put_refused(out, at, r),
-    }
-}
-
-pub fn is_placed(a: Answer) -> bool
-    ensures { λ r. ⌜ r ≡ isPlaced (a .found) ⌝ }
-{
-    let found = a.found;
-    match found {
-        Found::Placed => true,
-        Found::Nothing => false,
-        Found::Refused(_) => false,
     }
 }

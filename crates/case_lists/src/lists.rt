@@ -1,57 +1,94 @@
-// The list of placements: "first", and "next" again and again.
-ghost use mathlib.Core.List.{List};
-ghost use Prim.Native.Nat.{ℕ};
+// The list of placements: what is due is tested once, and each search is for the least behind the placement written last.
+ghost use Rattle.definitions.specs.Lists.{keep};
+ghost use Rattle.definitions.specs.Fields.{fieldsDue};
+ghost use Rattle.definitions.specs.Placements.{behind};
 ghost use Rattle.definitions.specs.Answers.{verdictDue, placementsOf};
 ghost use Rattle.output.specs.Puts.{Puts};
+ghost use Rattle.search.specs.Searching.{Searchable};
+ghost use Rattle.placement_list.specs.Listing.{listIn};
 ghost use Rattle.case_lists.specs.AnswerTexts.{placementsBehind, behindMost, listText, dueText};
-ghost use Rattle.case_lists.specs.Following.{Follows};
-use crate::answers::is_placed;
 use crate::answers::put_answer;
+use crate::answers::put_refused;
 use crate::placements::put_placement;
+use definitions::answers::Found;
+use definitions::answers::PacketAnswer;
+use definitions::limits::PATTERNS;
 use definitions::packet::Direction;
+use definitions::packet::Facts;
 use definitions::packet::FieldMap;
-use definitions::packet::Placement;
 use definitions::table::Table;
 use output::put;
 use output::put_word;
+use packet::payload_of;
+use placement_list::first_in;
+use search::find;
+use verdict_due::cleared;
 
 // So many placements are written behind the first.
 const BEHIND: usize = 999;
 
-// The placements behind one of the list.
+// The placements of the list behind some starts.
 fn put_behind<'a>(
     out: &mut [u8],
     at: usize,
     t: Table,
-    p: &'a [u8],
+    facts: Facts,
+    payload: &'a [u8],
     decoded: &'a [u8],
     dir: Direction,
     m: FieldMap,
-    first: Placement,
+    starts: [usize; PATTERNS],
 ) -> usize
-    ensures { λ r. ⌜ ((qs : List (List ℕ)) → Follows t (now (p .entry)) (now (decoded .entry)) dir m first qs → Puts (now (out .entry)) at (placementsBehind behindMost qs) (now (out .exit)) r) ⌝ }
+    requires { ⌜ Searchable t (now payload) (now decoded) ⌝ }
+    ensures { λ r. ⌜ Puts (now (out .entry)) at (placementsBehind behindMost (keep (behind starts) (listIn t facts (now (payload .entry)) (now (decoded .entry)) dir m))) (now (out .exit)) r ⌝ }
 {
-    let mut held = first;
+    let mut bound = starts;
     let mut next = at;
     let mut k = 0;
     while k < BEHIND {
-        let a = matcher::next(t, p, decoded, dir, m, held);
-        if !is_placed(a) {
+        let x = find(t, facts, payload, decoded, dir, m, bound, true);
+        if !x.found {
             return next;
         }
-        let placement = a.placement;
+        let placement = x.placement;
         next = put(out, next, 59);
         next = put_placement(out, next, placement);
-        held = placement;
+        bound = placement.starts;
         k += 1;
     }
-    let more = matcher::next(t, p, decoded, dir, m, held);
-    if !is_placed(more) {
+    let more = find(t, facts, payload, decoded, dir, m, bound, true);
+    if !more.found {
         return next;
     }
     put_word(out, next, b";...")
 }
 
+// By a datagram's facts and payload: refusal 35, or the list.
+fn put_seen<'a>(
+    out: &mut [u8],
+    at: usize,
+    t: Table,
+    facts: Facts,
+    payload: &'a [u8],
+    decoded: &'a [u8],
+    dir: Direction,
+    m: FieldMap,
+) -> usize
+    requires { ⌜ Searchable t (now payload) (now decoded) ⌝ }
+    ensures { λ r. ⌜ Puts (now (out .entry)) at (dueText (fieldsDue (now (payload .entry)) (now (decoded .entry)) m) (listText (listIn t facts (now (payload .entry)) (now (decoded .entry)) dir m))) (now (out .exit)) r ⌝ }
+{
+    let a = first_in(t, facts, payload, decoded, dir, m);
+    let found = a.found;
+    let Found::Placed = found else {
+        return put_answer(out, at, a);
+    };
+    let placement = a.placement;
+    let next = put_placement(out, at, placement);
+    let starts = placement.starts;
+    put_behind(out, next, t, facts, payload, decoded, dir, m, starts)
+}
+
+// The first refusal that is due, or the list.
 pub fn put_list<'a>(
     out: &mut [u8],
     at: usize,
@@ -63,11 +100,12 @@ pub fn put_list<'a>(
 ) -> usize
     ensures { λ r. ⌜ Puts (now (out .entry)) at (dueText (verdictDue t (now (p .entry)) (now (decoded .entry)) dir m) (listText (placementsOf t (now (p .entry)) (now (decoded .entry)) dir m))) (now (out .exit)) r ⌝ }
 {
-    let a = matcher::first(t, p, decoded, dir, m);
-    if !is_placed(a) {
-        return put_answer(out, at, a);
+    let seen = cleared(t, p, decoded);
+    match seen {
+        PacketAnswer::Refused(r) => put_refused(out, at, r),
+        PacketAnswer::Seen(facts) => {
+            let payload = payload_of(p, facts);
+            put_seen(out, at, t, facts, payload, decoded, dir, m)
+        }
     }
-    let placement = a.placement;
-    let next = put_placement(out, at, placement);
-    put_behind(out, next, t, p, decoded, dir, m, placement)
 }

@@ -1,30 +1,47 @@
-use mathlib.Core.Path.{_≡_, sym, _∙_}
-use borrow.Author.Tests.{not-true, not-false}
-use Rattle.output.proofs.Putting.{then, told, same-length as same}
-use Rattle.case_lists.proofs.Listing.{first-not, first-one}
+-- A refusal is the first due of 20 and 30 to 34; else what is still due and the list go by facts and payload.
+use Rattle.output.proofs.Putting.{told, same-length as same}
+use Rattle.placement_list.proofs.Cleared.{refused-due, seen-cleared, searchable, due-here, list-here}
 use Rattle.case_lists.proofs.lists.put_list.Statement.{statement}
 use Rattle.case_lists.proofs.lists.put_list.Tie as tie
 
-first-requires : tie.Need-first-requires
-first-requires c κs = tt
+cleared-requires : tie.Need-cleared-requires
+cleared-requires c κs = tt
 
-is-placed-requires : tie.Need-is-placed-requires
-is-placed-requires c κs = tt
+enum-known-seen : tie.Need-enum-known-seen
+enum-known-seen c = c .match .keys1
 
-put-answer-requires : tie.Need-put-answer-requires
-put-answer-requires c κs = tt
+put-refused-requires : tie.Need-put-refused-requires
+put-refused-requires c κs = tt
+
+enum-known-seen-2 : tie.Need-enum-known-seen-2
+enum-known-seen-2 c = c .match .keys2
+
+payload-of-requires : tie.Need-payload-of-requires
+payload-of-requires c κs = tt
+
+put-seen-requires : tie.Need-put-seen-requires
+put-seen-requires c κs =
+    let s = c .before in
+    let a = s .before .before .before .before in
+    let x = a .before .before .before .before .args in
+    let ok = seen-cleared (x .t) (x .p .now) (x .decoded .now) (a .cleared .ensures) (s .before .before .seen2 .given .1) (s .payload-of .ensures .0) in
+    searchable ok
 
 returns : tie.Need-returns
-returns c = told (first-not (c .before .before .before .before .before .before .before .before .before .before .args .t) (c .before .before .before .before .before .before .before .before .before .before .args .p .now) (c .before .before .before .before .before .before .before .before .before .before .args .decoded .now) (c .before .before .before .before .before .before .before .before .before .before .args .dir) (c .before .before .before .before .before .before .before .before .before .before .args .m) _ (c .before .before .before .before .before .before .first .ensures) (sym (c .before .before .before .before .before .is-placed .ensures) ∙ not-true _ (c .before .before .before .before .if1 .taken))) (c .before .before .put-answer .ensures)
-
-put-placement-requires : tie.Need-put-placement-requires
-put-placement-requires c κs = tt
-
-put-behind-requires : tie.Need-put-behind-requires
-put-behind-requires c κs = tt
+returns c =
+    let k = c .before .before .before .before .before in
+    let a = k .before .before in
+    let x = a .before .before .before .before .args in
+    let due = refused-due (x .t) (x .p .now) (x .decoded .now) (a .cleared .ensures) (k .seen .given .1) (x .dir) (x .m) in
+    told (rw due) (c .before .before .put-refused .ensures)
 
 returns-2 : tie.Need-returns-2
-returns-2 c = let l = first-one (c .before .before .before .before .before .before .before .before .before .before .before .before .before .before .before .args .t) (c .before .before .before .before .before .before .before .before .before .before .before .before .before .before .before .args .p .now) (c .before .before .before .before .before .before .before .before .before .before .before .before .before .before .before .args .decoded .now) (c .before .before .before .before .before .before .before .before .before .before .before .before .before .before .before .args .dir) (c .before .before .before .before .before .before .before .before .before .before .before .before .before .before .before .args .m) _ (c .before .before .before .before .before .before .before .before .before .before .before .first .ensures) (sym (c .before .before .before .before .before .before .before .before .before .before .is-placed .ensures) ∙ not-false _ (c .before .before .before .before .before .before .before .before .before .if1 .left)) in told (l .whole) (then (c .before .before .before .before .before .before .put-placement .ensures) (c .before .before .put-behind .ensures (l .later) (l .goes)))
+returns-2 c =
+    let s = c .before .before .before .before in
+    let a = s .before .before .before .before in
+    let x = a .before .before .before .before .args in
+    let ok = seen-cleared (x .t) (x .p .now) (x .decoded .now) (a .cleared .ensures) (s .before .before .seen2 .given .1) (s .payload-of .ensures .0) in
+    told (rw (due-here ok (x .dir) (x .m), list-here ok (x .dir) (x .m))) (c .before .before .put-seen .ensures)
 
 same-length : tie.Need-same-length
 same-length c = same (returns c)
@@ -36,12 +53,13 @@ pub put-list-spec : {M : Type 1} → statement M
 put-list-spec =
     tie.close
     (tie.spec
-    first-requires
-    is-placed-requires
-    put-answer-requires
+    cleared-requires
+    enum-known-seen
+    put-refused-requires
+    enum-known-seen-2
+    payload-of-requires
+    put-seen-requires
     same-length
     returns
-    put-placement-requires
-    put-behind-requires
     same-length-2
     returns-2)

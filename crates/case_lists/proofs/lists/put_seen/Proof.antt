@@ -1,0 +1,63 @@
+-- The answer to "first" is written where it is no placement; else the placement, and those behind it.
+use Rattle.definitions.specs.Fields.{fieldsDue}
+use Rattle.output.proofs.Putting.{then, told, same-length as same}
+use Rattle.placement_list.specs.Listing.{listIn, firstIn}
+use Rattle.case_lists.proofs.Rest.{list-ordered}
+use Rattle.case_lists.proofs.Listing.{first-not, first-one}
+use Rattle.case_lists.proofs.lists.put_seen.Statement.{statement}
+use Rattle.case_lists.proofs.lists.put_seen.Tie as tie
+
+first-in-requires : tie.Need-first-in-requires
+first-in-requires c κs = c .before .before .before .pre
+
+enum-told : tie.Need-enum-told
+enum-told c = c .match .keys1
+
+put-answer-requires : tie.Need-put-answer-requires
+put-answer-requires c κs = tt
+
+returns : tie.Need-returns
+unfolding firstIn
+returns c =
+    let x = c .before .before .before .before .before .before .before .before .before .args in
+    let w = fieldsDue (x .payload .now) (x .decoded .now) (x .m) in
+    let l = listIn (x .t) (x .facts) (x .payload .now) (x .decoded .now) (x .dir) (x .m) in
+    let a = c .before .before .before .before .before .first-in in
+    told (first-not w l (a .result) (a .ensures) (c .before .before .before .before .match .keys2)) (c .before .before .put-answer .ensures)
+
+put-placement-requires : tie.Need-put-placement-requires
+put-placement-requires c κs = tt
+
+put-behind-requires : tie.Need-put-behind-requires
+put-behind-requires c κs = c .before .before .before .before .before .before .before .before .before .before .before .before .before .pre
+
+returns-2 : tie.Need-returns-2
+unfolding firstIn
+returns-2 c =
+    let p = c .before .before .before .before .before .before .before in
+    let a = p .before .before .before .before .before in
+    let x = a .before .before .before .before .args in
+    let w = fieldsDue (x .payload .now) (x .decoded .now) (x .m) in
+    let v = list-ordered (x .t) (x .facts) (x .payload .now) (x .decoded .now) (x .dir) (x .m) in
+    told (first-one _ v w (a .first-in .result) (a .first-in .ensures) (p .before .before .before .enum-told .given .1))
+    (then (p .put-placement .ensures) (c .before .before .put-behind .ensures))
+
+same-length : tie.Need-same-length
+same-length c = same (returns c)
+
+same-length-2 : tie.Need-same-length-2
+same-length-2 c = same (returns-2 c)
+
+pub put-seen-spec : {M : Type 1} → statement M
+put-seen-spec =
+    tie.close
+    (tie.spec
+    first-in-requires
+    enum-told
+    put-answer-requires
+    same-length
+    returns
+    put-placement-requires
+    put-behind-requires
+    same-length-2
+    returns-2)
