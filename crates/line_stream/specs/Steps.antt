@@ -1,12 +1,14 @@
 -- What each step of feeding does, whatever it is given.
 use mathlib.Core.Path.{_≡_}
-use mathlib.Core.Bool.{true, false}
-use Prim.Native.Nat.{ℕ, _+_}
+use mathlib.Core.Bool.{Bool, true, false, not}
+use Prim.Native.Nat.{ℕ, _+_, _-_}
 use mathlib.Core.List.{List}
-use lib.Dec.{ltb}
-use lib.ListN.{length, take, set}
-use Rattle.forms.specs.Bytes.{if_then_else_}
+use lib.Dec.{eqb}
+use lib.ListN.{length, take, drop}
+use lib.Seq.{paste}
+use Rattle.forms.specs.Bytes.{if_then_else_, run}
 use Rattle.output.specs.Puts.{Puts}
+use Rattle.output.specs.Clipped.{atMost}
 use Rattle.line_stream.specs.declared.Begun.{Begun}
 use Rattle.line_stream.specs.declared.Fed.{Fed}
 use Rattle.line_stream.specs.declared.Going.{Going}
@@ -25,10 +27,22 @@ closed g place room =
     then record { number = nextNumber (g .number); len = 0; put = place; full = false }
     else record { number = g .number; len = g .len; put = g .put; full = true }
 
--- one byte more of the line begun; past the buffer's end none is kept
-pub record Keeps (line line' : List ℕ) (g : Going) (b : ℕ) (r : Going) : Type 0 where
-  pub kept : line' ≡ set line (g .len) b
-  pub going : r ≡ record { number = g .number; len = if ltb (g .len) (length line) then g .len + 1 else g .len; put = g .put; full = false }
+-- a byte that ends no line
+abbrev pub inLine : ℕ → Bool
+inLine b = not (eqb b 10)
+
+-- the place of the first LF from a place on, or the end
+abbrev pub lfFrom : List ℕ → ℕ → ℕ
+lfFrom s from = from + run inLine (drop from s)
+
+-- so many bytes of a part have room behind the first `len` of a buffer
+abbrev pub fitting : List ℕ → ℕ → List ℕ → ℕ
+fitting line len part = atMost (length line - len) (length part)
+
+-- a part more of the line begun; past the buffer's end none is kept
+pub record Keeps (line line' : List ℕ) (g : Going) (part : List ℕ) (r : Going) : Type 0 where
+  pub kept : line' ≡ paste line (g .len) part (fitting line (g .len) part)
+  pub going : r ≡ record { number = g .number; len = g .len + fitting line (g .len) part; put = g .put; full = false }
 
 module _ (answer : List ℕ → List ℕ) where
   -- the line begun is ended: its answer is put up to a place
@@ -36,8 +50,3 @@ module _ (answer : List ℕ → List ℕ) where
     pub place : ℕ
     pub answered : Puts out (g .put) (answerTo answer (g .number) (take (g .len) line)) out' place
     pub going : r ≡ closed g place (length out')
-
-  -- LF ends the line begun, any other byte makes it longer
-  pub record Takes (line out line' out' : List ℕ) (g : Going) (b : ℕ) (r : Going) : Type 0 where
-    pub ends : b ≡ 10 → (line' ≡ line) × Ends line out out' g r
-    pub keeps : (b ≡ 10 → ⊥) → (out' ≡ out) × Keeps line line' g b r

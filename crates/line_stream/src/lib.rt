@@ -1,12 +1,14 @@
 // Lines in, answers out, in parts of any length: what each program does that answers its input line by line, whatever it answers.
 ghost use mathlib.Core.Path.{_≡_};
 ghost use mathlib.Core.List.{_++_};
+ghost use Prim.Native.Nat.{_-_};
 ghost use Rattle.forms.specs.Bytes.{text};
 ghost use Rattle.definitions.specs.House.{decimal};
 ghost use Rattle.line_stream.specs.Stream.{hasRoom, nextNumber};
-ghost use Rattle.line_stream.specs.Steps.{Keeps, closed, fedOf};
+ghost use Rattle.line_stream.specs.Steps.{Keeps, closed, fedOf, lfFrom};
 ghost use Rattle.output.specs.Puts.{Puts};
 use output::COUNTED;
+use output::limits::at_most;
 use output::put;
 use output::put_decimal;
 
@@ -75,23 +77,41 @@ pub fn close_line(g: Going, place: usize, room: usize) -> Going
     }
 }
 
-// One byte more of the line begun; what the buffer has no room for is not kept.
-pub fn keep(line: &mut [u8], g: Going, b: u8) -> Going
-    ensures { λ r. ⌜ Keeps (now (line .entry)) (now (line .exit)) g b r ⌝ }
+// The place of the first LF from a place on, or the end.
+pub fn lf_from(input: &[u8], from: usize) -> usize
+    ensures { λ r. ⌜ r ≡ lfFrom (now (input .entry)) from ⌝ }
+{
+    let mut i = from;
+    while i < input.len() {
+        if input[i] == 10 {
+            return i;
+        }
+        i += 1;
+    }
+    i
+}
+
+// How many bytes have room behind the first ones; none where those are past the end.
+fn room_behind(room: usize, len: usize) -> usize
+    ensures { λ r. ⌜ r ≡ room - len ⌝ }
+{
+    if len < room { room - len } else { 0 }
+}
+
+// The bytes of a part behind those kept of the line begun; what the buffer has no room for is not kept.
+pub fn keep_part(line: &mut [u8], g: Going, part: &[u8]) -> Going
+    ensures { λ r. ⌜ Keeps (now (line .entry)) (now (line .exit)) g (now (part .entry)) r ⌝ }
 {
     let len = g.len;
-    if len < line.len() {
-        line[len] = b;
-        return Going {
-            number: g.number,
-            len: len + 1,
-            put: g.put,
-            full: false,
-        };
+    let n = at_most(room_behind(line.len(), len), part.len());
+    let mut i = 0;
+    while i < n {
+        line[len + i] = part[i];
+        i += 1;
     }
     Going {
         number: g.number,
-        len,
+        len: len + n,
         put: g.put,
         full: false,
     }

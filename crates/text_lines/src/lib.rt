@@ -4,13 +4,14 @@ ghost use Rattle.definitions.specs.Limits.{limits01};
 ghost use Rattle.definitions.specs.Lines.{lineOf};
 ghost use Rattle.output.specs.Puts.{Puts};
 ghost use Rattle.line_stream.specs.Stream.{answerTo, lastLine, Feeds};
-ghost use Rattle.line_stream.specs.Steps.{Ends, Takes};
+ghost use Rattle.line_stream.specs.Steps.{Ends};
 use line_stream::Begun;
 use line_stream::Fed;
 use line_stream::Going;
 use line_stream::close_line;
 use line_stream::fed_so_far;
-use line_stream::keep;
+use line_stream::keep_part;
+use line_stream::lf_from;
 use line_stream::open_line;
 use output::limits::at_most;
 use output::put;
@@ -34,16 +35,7 @@ fn end_line(line: &[u8], out: &mut [u8], g: Going) -> Going
     close_line(g, place, out.len())
 }
 
-fn take_byte(line: &mut [u8], out: &mut [u8], g: Going, b: u8) -> Going
-    ensures { λ r. ⌜ Takes (lineOf limits01) (now (line .entry)) (now (out .entry)) (now (line .exit)) (now (out .exit)) g b r ⌝ }
-{
-    if b == 10 {
-        return end_line(line, out, g);
-    }
-    keep(line, g, b)
-}
-
-// Takes bytes of the input until all are taken, or an answer has no room in the output.
+// Takes bytes of the input until all are taken, or an answer has no room in the output: line by line, then what is left behind the last LF.
 pub fn feed(input: &[u8], line: &mut [u8], out: &mut [u8], begun: Begun) -> Fed
     ensures { λ r. ⌜ Feeds (lineOf limits01) (now (input .entry)) (now (line .entry)) (now (out .entry)) (now (line .exit)) (now (out .exit)) begun r ⌝ }
 {
@@ -54,14 +46,18 @@ pub fn feed(input: &[u8], line: &mut [u8], out: &mut [u8], begun: Begun) -> Fed
         full: false,
     };
     let mut i = 0;
-    while i < input.len() {
-        g = take_byte(line, out, g, input[i]);
+    let mut e = lf_from(input, i);
+    while e < input.len() {
+        g = keep_part(line, g, &input[i..e]);
+        g = end_line(line, out, g);
         if g.full {
-            return fed_so_far(i, g);
+            return fed_so_far(e, g);
         }
-        i += 1;
+        i = e + 1;
+        e = lf_from(input, i);
     }
-    fed_so_far(i, g)
+    g = keep_part(line, g, &input[i..e]);
+    fed_so_far(e, g)
 }
 
 // Behind the last byte: the answer to a line that lacks its LF. The answer is how many bytes it has, more than the buffer's if it has no room.

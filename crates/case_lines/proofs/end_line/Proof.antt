@@ -1,3 +1,4 @@
+-- What is answered is as much of the buffer as is kept of the line.
 use native.Mathlib.Omega.{arith}
 use lib.ListN.{length}
 use Rattle.output.proofs.Clipping.{at-most-le}
@@ -17,7 +18,9 @@ part-put-line-start : tie.Need-part-put-line-start
 part-put-line-start c = search needs
 
 part-put-line-end : tie.Need-part-put-line-end
-part-put-line-end c = omega (arith, c .before .at-most .ensures, at-most-le (c .before .before .before .before .args .g .len) (length (c .before .before .before .before .args .line .now)))
+part-put-line-end c =
+    let args = c .before .before .before .before .args in
+    omega (arith, c .before .at-most .ensures, at-most-le (args .g .len) (length (args .line .now)))
 
 put-line-requires : tie.Need-put-line-requires
 put-line-requires c κs = tt
@@ -29,7 +32,10 @@ same-length : tie.Need-same-length
 same-length c = search needs
 
 returns : tie.Need-returns
-returns c = ends caseAnswer (c .before .before .before .before .before .before .at-most .ensures) (c .before .before .before .put-line .ensures) (c .close-line .ensures)
+returns c =
+    let put = c .before .before .before in
+    let kept = put .before .before .before .before .before in
+    ends caseAnswer (kept .at-most .ensures) (put .put-line .ensures) (c .close-line .ensures)
 
 pub end-line-spec : {M : Type 1} → statement M
 end-line-spec =

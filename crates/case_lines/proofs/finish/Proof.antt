@@ -1,3 +1,4 @@
+-- A line that lacks its LF and has a byte is answered as any other.
 use native.Mathlib.Omega.{arith}
 use lib.ListN.{length}
 use Rattle.output.proofs.Clipping.{at-most-le}
@@ -12,7 +13,9 @@ at-most-requires : tie.Need-at-most-requires
 at-most-requires c κs = tt
 
 returns : tie.Need-returns
-returns c = told (last-none caseAnswer (c .before .before .before .before .args .begun .number) (c .before .before .before .before .args .line .now) (c .before .before .before .before .args .begun .len) (c .before .at-most .ensures) (c .if1 .taken)) none-put
+returns c =
+    let args = c .before .before .before .before .args in
+    told (last-none caseAnswer (args .begun .number) (args .line .now) (args .begun .len) (c .before .at-most .ensures) (c .if1 .taken)) none-put
 
 sub-put-line : tie.Need-sub-put-line
 sub-put-line c = search needs
@@ -21,7 +24,9 @@ part-put-line-start : tie.Need-part-put-line-start
 part-put-line-start c = search needs
 
 part-put-line-end : tie.Need-part-put-line-end
-part-put-line-end c = omega (arith, c .before .before .at-most .ensures, at-most-le (c .before .before .before .before .before .args .begun .len) (length (c .before .before .before .before .before .args .line .now)))
+part-put-line-end c =
+    let args = c .before .before .before .before .before .args in
+    omega (arith, c .before .before .at-most .ensures, at-most-le (args .begun .len) (length (args .line .now)))
 
 put-line-requires : tie.Need-put-line-requires
 put-line-requires c κs = tt
@@ -30,7 +35,13 @@ same-length : tie.Need-same-length
 same-length c = search needs
 
 returns-2 : tie.Need-returns-2
-returns-2 c = told (last-some caseAnswer (c .before .before .before .before .before .before .before .before .before .args .begun .number) (c .before .before .before .before .before .before .before .before .before .args .line .now) (c .before .before .before .before .before .before .before .before .before .args .begun .len) (c .before .before .before .before .before .before .at-most .result) (c .before .before .before .before .before .before .at-most .ensures) (c .before .before .before .before .before .if1 .left)) (c .before .before .put-line .ensures)
+returns-2 c =
+    let some = c .before .before .before .before .before .before .before in
+    let kept = some .before in
+    let args = kept .before .before .before .args in
+    told
+    (last-some caseAnswer (args .begun .number) (args .line .now) (args .begun .len) (kept .at-most .result) (kept .at-most .ensures) (some .if1 .left))
+    (c .before .before .put-line .ensures)
 
 pub finish-spec : {M : Type 1} → statement M
 finish-spec =

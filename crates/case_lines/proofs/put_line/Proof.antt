@@ -1,3 +1,4 @@
+-- Number and tab, the answer, LF: one behind the other.
 use Rattle.case_answers.specs.CaseAnswers.{caseAnswer}
 use Rattle.line_stream.proofs.Closing.{line-put}
 use borrow.Author.Needs.{needs}
@@ -17,7 +18,10 @@ same-length : tie.Need-same-length
 same-length c = search needs
 
 returns : tie.Need-returns
-returns c = line-put caseAnswer _ _ (c .before .before .before .before .before .before .before .before .before .before .before .before .open-line .ensures) (c .before .before .before .before .before .before .answer-case .ensures) (c .before .before .put .ensures)
+returns c =
+    let answered = c .before .before .before .before .before .before in
+    let opened = answered .before .before .before .before .before .before in
+    line-put caseAnswer _ _ (opened .open-line .ensures) (answered .answer-case .ensures) (c .before .before .put .ensures)
 
 pub put-line-spec : {M : Type 1} → statement M
 put-line-spec =

@@ -1,6 +1,6 @@
 -- What is taken stays within the block; each turn takes some of it.
 use mathlib.Core.Path.{_≡_, refl}
-use Prim.Native.Nat.{_+_, _-_, _≤_}
+use Prim.Native.Nat.{_-_, _≤_}
 use native.Mathlib.Omega.{arith}
 use native.Mathlib.Nat.{le-refl}
 use borrow.Author.Needs.{needs}
@@ -10,10 +10,10 @@ use Rattle.placements.proofs.answer_block.Statement.{statement}
 use Rattle.placements.proofs.answer_block.Tie as tie
 
 abbrev Inv-loop : tie.InvT-loop
-Inv-loop block line₀ out₀ now₀ from₀ line out now from = (from ≤ length block) × (length line ≡ length line₀) × (length out ≡ length out₀)
+Inv-loop block line₀ out₀ room₀ more₀ now₀ from₀ line out room more now from = (from ≤ length block) × (length line ≡ length line₀) × (length out ≡ length out₀)
 
 abbrev μ-loop : tie.MeasureT-loop
-μ-loop block line₀ out₀ now₀ from₀ line out now from = length block - from
+μ-loop block line₀ out₀ room₀ more₀ now₀ from₀ line out room more now from = length block - from
 
 loop-holds : tie.Need-loop-holds Inv-loop μ-loop
 loop-holds c = (omega arith, refl, refl)
@@ -59,29 +59,32 @@ returns-2 c = tt
 
 add-from : tie.Need-add-from Inv-loop μ-loop
 add-from c =
-    let block = c .before .before .before .before .before .before .before .before .before .before .before .before .before .before .before .before .before .before .args .block .now in
-    let from = c .before .before .before .before .before .before .before .before .before .before .before .before .before .before .loop .from in
-    let taken = c .before .before .before .before .before .before .before .before .before .feed .ensures .taken in
-    let long = part-count block from (length block) (c .before .before .before .before .before .before .before .before .before .before .before .before .before .before .loop .inv .0, le-refl (length block)) in
-    omega (arith, taken, long)
+    let fed = c .before .before .before .before .before .before .before .before .before in
+    let head = fed .before .before .before .before .before .before .before in
+    let args = head .before .before .before .before .args in
+    let block = args .block .now in
+    let long = part-count block (head .loop .from) (length block) (head .loop .inv .0, le-refl (length block)) in
+    omega (arith, fed .feed .ensures .taken, long)
 
 loop-less : tie.Need-loop-less Inv-loop μ-loop
 loop-less c =
-    let block = c .before .before .before .before .before .before .before .before .before .before .before .before .before .before .before .before .before .before .args .block .now in
-    let from = c .before .before .before .before .before .before .before .before .before .before .before .before .before .before .loop .from in
-    let taken = c .before .before .before .before .before .before .before .before .before .feed .ensures .taken in
-    let long = part-count block from (length block) (c .before .before .before .before .before .before .before .before .before .before .before .before .before .before .loop .inv .0, le-refl (length block)) in
-    omega (arith, taken, long)
+    let fed = c .before .before .before .before .before .before .before .before .before in
+    let head = fed .before .before .before .before .before .before .before in
+    let args = head .before .before .before .before .args in
+    let block = args .block .now in
+    let long = part-count block (head .loop .from) (length block) (head .loop .inv .0, le-refl (length block)) in
+    omega (arith, fed .feed .ensures .taken, long)
 
 loop-again : tie.Need-loop-again Inv-loop μ-loop
 loop-again c =
-    let block = c .before .before .before .before .before .before .before .before .before .before .before .before .before .before .before .before .before .before .args .block .now in
-    let from = c .before .before .before .before .before .before .before .before .before .before .before .before .before .before .loop .from in
-    let taken = c .before .before .before .before .before .before .before .before .before .feed .ensures .taken in
-    let long = part-count block from (length block) (c .before .before .before .before .before .before .before .before .before .before .before .before .before .before .loop .inv .0, le-refl (length block)) in
-    let lines : length (c .before .before .before .before .before .before .before .before .before .feed .last .1 .0) ≡ length (c .before .before .before .before .before .before .before .before .before .before .before .before .before .before .before .before .before .before .args .line .now) = search needs in
-    let outs : length (c .before .before .before .before .before .before .before .before .before .feed .last .1 .1 .0) ≡ length (c .before .before .before .before .before .before .before .before .before .before .before .before .before .before .before .before .before .before .args .out .now) = search needs in
-    (omega (arith, taken, long), lines, outs)
+    let fed = c .before .before .before .before .before .before .before .before .before in
+    let head = fed .before .before .before .before .before .before .before in
+    let args = head .before .before .before .before .args in
+    let block = args .block .now in
+    let long = part-count block (head .loop .from) (length block) (head .loop .inv .0, le-refl (length block)) in
+    let lines : length (fed .feed .last .1 .0) ≡ length (args .line .now) = search needs in
+    let outs : length (fed .feed .last .1 .1 .0) ≡ length (args .out .now) = search needs in
+    (omega (arith, fed .feed .ensures .taken, long), lines, outs)
 
 go-on-requires : tie.Need-go-on-requires Inv-loop μ-loop
 go-on-requires c κs = tt

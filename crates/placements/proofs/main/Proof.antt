@@ -7,10 +7,10 @@ use Rattle.placements.proofs.main.Statement.{statement}
 use Rattle.placements.proofs.main.Tie as tie
 
 abbrev Inv-loop : tie.InvT-loop
-Inv-loop line₀ out₀ step₀ turns₀ line out step turns = (length line ≡ 16385) × (length out ≡ 65536)
+Inv-loop line₀ out₀ room₀ more₀ step₀ turns₀ line out room more step turns = (length line ≡ 16385) × (length out ≡ 65536)
 
 abbrev μ-loop : tie.MeasureT-loop
-μ-loop line₀ out₀ step₀ turns₀ line out step turns = turns
+μ-loop line₀ out₀ room₀ more₀ step₀ turns₀ line out room more step turns = turns
 
 large-buffer-requires : tie.Need-large-buffer-requires Inv-loop μ-loop
 large-buffer-requires c κs = tt
