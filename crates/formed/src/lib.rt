@@ -1,55 +1,45 @@
 // Whether a table is one that some text reads as: what refusal 20 goes by. Any numbers may stand in the table.
+mod walking;
+
 ghost use mathlib.Core.Path.{_≡_};
-ghost use Prim.Native.Nat.{_≤_};
-ghost use Rattle.definitions.specs.Limits.{itemsMost};
-ghost use Rattle.definitions.specs.WellFormed.{itemsFit, bytesFit, wellFormed};
+ghost use Rattle.definitions.specs.WellFormed.{wellFormed};
+ghost use Rattle.formed.specs.Walking.{itemsWell};
+use crate::walking::begun;
+use crate::walking::ends_well;
+use crate::walking::may_pass;
+use crate::walking::past_item;
 use definitions::limits::ITEMS;
-use definitions::limits::PATTERNS;
-use definitions::limits::TESTS;
+use definitions::table::Slot;
 use definitions::table::Table;
 use formed_bytes::name_fits;
 use formed_bytes::room_fits;
-use formed_slots::patterns::bytes_are;
-use formed_slots::patterns::pattern_count;
-use formed_slots::slots_fit;
-use formed_slots::slots_unused;
-use references::counting::usable_count;
+use formed_slots::slot_unused;
 
-// The slots hold what they may, and no more than 8 patterns and 16 tests.
-fn items_fit(t: Table) -> bool
-    ensures { λ r. ⌜ r ≡ itemsFit t ⌝ }
+// The slots hold what they may, those in use and those behind them, and what they hold comes to what it may.
+fn items_fit(items: [Slot; ITEMS], count: usize, used: usize) -> bool
+    ensures { λ r. ⌜ r ≡ itemsWell items count used ⌝ }
 {
-    let items = t.items;
-    let count = t.count;
     if ITEMS < count {
         return false;
     }
-    if !slots_fit(items, count) {
-        return false;
+    let mut w = begun(used);
+    let mut i = 0;
+    while i < count {
+        let slot = items[i];
+        if !may_pass(w, slot) {
+            return false;
+        }
+        w = past_item(w, slot);
+        i += 1;
     }
-    if !slots_unused(items, count) {
-        return false;
+    while i < ITEMS {
+        let slot = items[i];
+        if !slot_unused(slot) {
+            return false;
+        }
+        i += 1;
     }
-    let patterns = pattern_count(items, count);
-    if PATTERNS < patterns {
-        return false;
-    }
-    count - patterns <= TESTS
-}
-
-// As many bytes are in use as the patterns have, and the room behind them is zero.
-fn bytes_fit(t: Table) -> bool
-    requires { ⌜ t .count ≤ itemsMost ⌝ }
-    ensures { λ r. ⌜ r ≡ bytesFit t ⌝ }
-{
-    let items = t.items;
-    let used = t.used;
-    if !bytes_are(items, t.count, used) {
-        return false;
-    }
-    let bytes = t.bytes;
-    let all = &bytes[..];
-    room_fits(all, used)
+    ends_well(w, count)
 }
 
 // Whether some text, of whatever length, reads as the table. Any protocol will do: it is a byte by its type.
@@ -60,14 +50,11 @@ pub fn well_formed(t: Table) -> bool
     if !name_fits(name, t.len) {
         return false;
     }
-    if !items_fit(t) {
-        return false;
-    }
-    if !bytes_fit(t) {
-        return false;
-    }
     let items = t.items;
-    let usable = usable_count(items, t.count);
-    let patterns = pattern_count(items, t.count);
-    usable == patterns
+    if !items_fit(items, t.count, t.used) {
+        return false;
+    }
+    let bytes = t.bytes;
+    let all = &bytes[..];
+    room_fits(all, t.used)
 }

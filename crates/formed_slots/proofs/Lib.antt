@@ -1,3 +1,2 @@
--- An item by its kind, and what the patterns come to.
+-- An item by its kind.
 pub mod ByKind
-pub mod Adding
