@@ -38,12 +38,13 @@ field-short : (s d : List ℕ) (m : FieldMap) (c : Context) → length s < sizeB
 unfolding fieldOf
 field-short s d m c h k = omega (arith, cut-short (fieldSpan s d m c) (bufferOf s d c), buffer-short s d c h k)
 
-pub measured : (s d : List ℕ) (m : FieldMap) (p : Pattern) (l : Last) (f : List ℕ) → Bounded s d p l → f ≡ fieldOf s d m (p .context) → Measured p l (length f)
-measured s d m p l f b e =
+pub measured : (s d : List ℕ) (m : FieldMap) (p : Pattern) (b : List ℕ) (l : Last) (f : List ℕ) → Bounded s d p b l → f ≡ fieldOf s d m (p .context)
+    → Measured p l (length f)
+measured s d m p b l f h e =
     record {
-      field = rw e (field-short s d m (p .context) (b .payload) (b .decoded));
-      last = b .last;
-      pattern = b .pattern;
+      field = rw e (field-short s d m (p .context) (h .payload) (h .decoded));
+      last = h .last;
+      pattern = h .pattern;
     }
 
 -- ---- negated patterns

@@ -20,7 +20,7 @@ pub fn negated_holds<'a>(
     b: &[u8],
     last: Last,
 ) -> bool
-    requires { ⌜ Bounded (now payload) (now decoded) p last ⌝ }
+    requires { ⌜ Bounded (now payload) (now decoded) p (now b) last ⌝ }
     ensures { λ r. ⌜ ((f : Facts) → r ≡ nowhereHolds (seen f (now (payload .entry)) (now (decoded .entry)) m) p (now (b .entry)) last) ⌝ }
 {
     let c = p.context;

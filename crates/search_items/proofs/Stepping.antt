@@ -5,7 +5,7 @@ use mathlib.Core.List.{List, [], _∷_, map}
 use Prim.Native.Nat.{ℕ, _+_, _-_, _≤_, _<_}
 use native.Mathlib.Omega.{arith}
 use native.Mathlib.Nat.{sub-zero}
-use lib.ListN.{length, take, drop, getD, length-drop, length-map}
+use lib.ListN.{length, take, drop, getD, length-take, length-drop, length-map}
 use lib.Seq.{take-all}
 use borrow.Author.Tests.{not-true, not-false}
 use types.Run.{OneOf}
@@ -52,6 +52,9 @@ own-is b n = rw (sub-zero n)
 
 rest-is : (b : List ℕ) (n : ℕ) → restOf b n ≡ drop n b
 rest-is b n = take-all (length b - n) (drop n b) (omega (arith, length-drop n b))
+
+own-long : (b : List ℕ) (n : ℕ) → n ≤ length b → length (ownOf b n) ≡ n
+own-long b n h = rw (own-is b n) (length-take n b ∙ omega arith)
 
 abbrev NoPattern : Item → Type 0
 NoPattern it = OneOf (0 ∷ 1 ∷ 2 ∷ 3 ∷ 4 ∷ 5 ∷ 6 ∷ 7 ∷ []) (tagOf item-type.the-type it)
@@ -120,13 +123,17 @@ module _ (all : List Slot) (sl : Slot) (sls : List Slot) (u : all ≡ sl ∷ sls
     pub pattern-stored : p .len + bytesOf (patternsOf sls) ≤ length b
     pattern-stored = omega (arith, rd .stored, bytes-pattern all sl sls u b p e)
 
-    pub pattern-bounded : Bounded s d p l
+    own-whole : length (ownOf b (p .len)) ≡ p .len
+    own-whole = own-long b (p .len) (omega (arith, pattern-stored))
+
+    pub pattern-bounded : Bounded s d p (ownOf b (p .len)) l
     pattern-bounded =
         record {
           payload = rd .small .payload;
           decoded = rd .small .decoded;
           last = rd .small .last;
           pattern = omega (arith, pattern-stored, rd .small .bytes);
+          own = own-whole;
         }
 
     rest-small : Small (restOf b (p .len)) s d l
@@ -143,20 +150,21 @@ module _ (all : List Slot) (sl : Slot) (sls : List Slot) (u : all ≡ sl ∷ sls
         let room : positives (wanted all b) ≡ positives (wanted sls (restOf b (p .len))) = ap positives (wanted-nowhere all sl sls u b p e n) ∙ positives-nowhere p _ _ in
         record { small = rest-small; stored = omega (arith, rest-short b (p .len), pattern-stored); room = omega (arith, rd .room, room) }
 
-    pub ready-placed : p .negated ≡ false → Trying sls (restOf b (p .len)) p s d l acc
+    pub ready-placed : p .negated ≡ false → Trying sls (restOf b (p .len)) p (ownOf b (p .len)) s d l acc
     ready-placed n =
         let room : positives (wanted all b) ≡ 1 + positives (wanted sls (restOf b (p .len))) = ap positives (wanted-placed all sl sls u b p e n) ∙ positives-placed p _ _ in
         record {
           small = rest-small;
           len = omega (arith, pattern-stored, rd .small .bytes);
+          own = own-whole;
           stored = omega (arith, rest-short b (p .len), pattern-stored);
           room = omega (arith, rd .room, room);
         }
 
 -- a pattern that is to be placed, and the items behind it with its start chosen
-module _ (sls : List Slot) (b : List ℕ) (p : Pattern) (s d : List ℕ) (l : Last) (acc : Placement) (tr : Trying sls b p s d l acc) where
-  pub trying-bounded : Bounded s d p l
-  trying-bounded = record { payload = tr .small .payload; decoded = tr .small .decoded; last = tr .small .last; pattern = tr .len }
+module _ (sls : List Slot) (b : List ℕ) (p : Pattern) (own s d : List ℕ) (l : Last) (acc : Placement) (tr : Trying sls b p own s d l acc) where
+  pub trying-bounded : Bounded s d p own l
+  trying-bounded = record { payload = tr .small .payload; decoded = tr .small .decoded; last = tr .small .last; pattern = tr .len; own = tr .own }
 
   last-small : (at : ℕ) → at + p .len < sizeBound → lastEnd (lastAfter l p at) < sizeBound
   last-small at h = by-cases (p .negated) (λ t. rw t (tr .small .last)) (λ t. rw t h)

@@ -1,5 +1,6 @@
 -- What the search over the items rests on. Document 01, section "Meaning".
 use Prim.Native.Nat.{ℕ, _+_, _≤_, _<_}
+use mathlib.Core.Path.{_≡_}
 use mathlib.Core.List.{List}
 use lib.ListN.{length}
 use Rattle.definitions.specs.declared.table.Pattern.{Pattern}
@@ -26,9 +27,10 @@ pub record Ready (sls : List Slot) (b s d : List ℕ) (l : Last) (acc : Placemen
   pub stored : bytesOf (patternsOf sls) ≤ length b
   pub room : acc .count + positives (wanted sls b) ≤ patternsMost
 
--- the positive pattern p is to be placed before them
-pub record Trying (sls : List Slot) (b : List ℕ) (p : Pattern) (s d : List ℕ) (l : Last) (acc : Placement) : Type 0 where
+-- the positive pattern p with the bytes o is to be placed before them
+pub record Trying (sls : List Slot) (b : List ℕ) (p : Pattern) (o s d : List ℕ) (l : Last) (acc : Placement) : Type 0 where
   pub small : Small b s d l
   pub len : p .len < sizeBound
+  pub own : length o ≡ p .len
   pub stored : bytesOf (patternsOf sls) ≤ length b
   pub room : acc .count + 1 + positives (wanted sls b) ≤ patternsMost

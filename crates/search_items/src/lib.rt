@@ -85,7 +85,7 @@ fn try_starts<'a>(
     acc: Placement,
     tight: bool,
 ) -> Outcome
-    requires { ⌜ (k < q .count) × (q .count ≤ itemsMost) × Trying (itemsLeft q (k + 1)) (now rest) p (now payload) (now decoded) last acc ⌝ }
+    requires { ⌜ (k < q .count) × (q .count ≤ itemsMost) × Trying (itemsLeft q (k + 1)) (now rest) p (now own) (now payload) (now decoded) last acc ⌝ }
     ensures { λ r. ⌜ r ≡ answer acc tight (drop (acc .count) (q .bound)) (placements (seen (q .facts) (now (payload .entry)) (now (decoded .entry)) (q .map)) (placed p (now (own .entry)) ∷ wanted (itemsLeft q (k + 1)) (now (rest .entry))) last) ⌝ }
 {
     let map = q.map;

@@ -10,7 +10,7 @@ use window_spans::starts::window;
 
 // The pattern with the bytes `b` lies nowhere in its window.
 pub fn lies_nowhere(p: Pattern, b: &[u8], last: Last, f: &[u8]) -> bool
-    requires { ⌜ Measured p last (length (now f)) ⌝ }
+    requires { ⌜ Measured p last (length (now f)) × (length (now b) ≡ p .len) ⌝ }
     ensures { λ r. ⌜ r ≡ none? (placesOf p (now (b .entry)) last (now (f .entry))) ⌝ }
 {
     let w = window(p, last, f.len());

@@ -328,7 +328,7 @@ try-starts-window-requires : (t : ℕ) → try-starts-lts.Need-window-requires (
 try-starts-window-requires t c κs =
     let a = c .before .before .before .before .before .before .before .before in
     let x = a .args in
-    measured (x .payload .now) (x .decoded .now) (x .q .map) (x .p) (x .last) (c .field-of .result .now) (trying-bounded (itemsLeft (x .q) (x .k + 1)) (x .rest .now) (x .p) (x .payload .now) (x .decoded .now) (x .last) (x .acc) (a .pre .1 .2)) (c .field-of .ensures .0)
+    measured (x .payload .now) (x .decoded .now) (x .q .map) (x .p) (x .own .now) (x .last) (c .field-of .result .now) (trying-bounded (itemsLeft (x .q) (x .k + 1)) (x .rest .now) (x .p) (x .own .now) (x .payload .now) (x .decoded .now) (x .last) (x .acc) (a .pre .1 .2)) (c .field-of .ensures .0)
 
 try-starts-mul-b : (t : ℕ) → try-starts-lts.Need-mul-b (try-starts-claims t) (try-starts-at t) try-starts.Post try-starts-Inv-loop try-starts-μ-loop
 try-starts-mul-b t c = omega (arith, c .before .before .before .before .before .before .before .before .before .before .pre .1 .2 .room)
@@ -352,13 +352,15 @@ try-starts-loop-holds t c =
     )
 
 try-starts-stands-at-requires : (t : ℕ) → try-starts-lts.Need-stands-at-requires (try-starts-claims t) (try-starts-at t) try-starts.Post try-starts-Inv-loop try-starts-μ-loop
-try-starts-stands-at-requires t c κs = tt
+try-starts-stands-at-requires t c κs =
+    let a = c .before .before .before .before .before .before .before .before .before .before .before .before .before in
+    omega (arith, a .pre .1 .2 .own, c .before .before .before .before .window .ensures .inside (c .before .loop .at) (c .loop-test .taken))
 
 try-starts-last-at-requires : (t : ℕ) → try-starts-lts.Need-last-at-requires (try-starts-claims t) (try-starts-at t) try-starts.Post try-starts-Inv-loop try-starts-μ-loop
 try-starts-last-at-requires t c κs =
     let a = c .before .before .before .before .before .before .before .before .before .before .before .before .before .before .before in
     let x = a .args in
-    let end : c .before .before .before .loop .at + x .p .len < sizeBound = omega (arith, c .before .before .before .before .before .before .window .ensures .inside (c .before .before .before .loop .at) (c .before .before .loop-test .taken), (measured (x .payload .now) (x .decoded .now) (x .q .map) (x .p) (x .last) (c .before .before .before .before .before .before .before .field-of .result .now) (trying-bounded (itemsLeft (x .q) (x .k + 1)) (x .rest .now) (x .p) (x .payload .now) (x .decoded .now) (x .last) (x .acc) (a .pre .1 .2)) (c .before .before .before .before .before .before .before .field-of .ensures .0)) .field) in
+    let end : c .before .before .before .loop .at + x .p .len < sizeBound = omega (arith, c .before .before .before .before .before .before .window .ensures .inside (c .before .before .before .loop .at) (c .before .before .loop-test .taken), (measured (x .payload .now) (x .decoded .now) (x .q .map) (x .p) (x .own .now) (x .last) (c .before .before .before .before .before .before .before .field-of .result .now) (trying-bounded (itemsLeft (x .q) (x .k + 1)) (x .rest .now) (x .p) (x .own .now) (x .payload .now) (x .decoded .now) (x .last) (x .acc) (a .pre .1 .2)) (c .before .before .before .before .before .before .before .field-of .ensures .0)) .field) in
     end
 
 try-starts-with-start-requires : (t : ℕ) → try-starts-lts.Need-with-start-requires (try-starts-claims t) (try-starts-at t) try-starts.Post try-starts-Inv-loop try-starts-μ-loop
@@ -374,11 +376,11 @@ try-starts-from-item-requires : (t : ℕ) → try-starts-lts.Need-from-item-requ
 try-starts-from-item-requires t c κs =
     let a = c .before .before .before .before .before .before .before .before .before .before .before .before .before .before .before .before .before .before in
     let x = a .args in
-    let end : c .before .before .before .before .before .before .loop .at + x .p .len < sizeBound = omega (arith, c .before .before .before .before .before .before .before .before .before .window .ensures .inside (c .before .before .before .before .before .before .loop .at) (c .before .before .before .before .before .loop-test .taken), (measured (x .payload .now) (x .decoded .now) (x .q .map) (x .p) (x .last) (c .before .before .before .before .before .before .before .before .before .before .field-of .result .now) (trying-bounded (itemsLeft (x .q) (x .k + 1)) (x .rest .now) (x .p) (x .payload .now) (x .decoded .now) (x .last) (x .acc) (a .pre .1 .2)) (c .before .before .before .before .before .before .before .before .before .before .field-of .ensures .0)) .field) in (
+    let end : c .before .before .before .before .before .before .loop .at + x .p .len < sizeBound = omega (arith, c .before .before .before .before .before .before .before .before .before .window .ensures .inside (c .before .before .before .before .before .before .loop .at) (c .before .before .before .before .before .loop-test .taken), (measured (x .payload .now) (x .decoded .now) (x .q .map) (x .p) (x .own .now) (x .last) (c .before .before .before .before .before .before .before .before .before .before .field-of .result .now) (trying-bounded (itemsLeft (x .q) (x .k + 1)) (x .rest .now) (x .p) (x .own .now) (x .payload .now) (x .decoded .now) (x .last) (x .acc) (a .pre .1 .2)) (c .before .before .before .before .before .before .before .before .before .before .field-of .ensures .0)) .field) in (
       omega (arith, a .pre .0, a .pre .1 .0),
       (
         a .pre .1 .1,
-        ready-next (itemsLeft (x .q) (x .k + 1)) (x .rest .now) (x .p) (x .payload .now) (x .decoded .now) (x .last) (x .acc) (a .pre .1 .2)
+        ready-next (itemsLeft (x .q) (x .k + 1)) (x .rest .now) (x .p) (x .own .now) (x .payload .now) (x .decoded .now) (x .last) (x .acc) (a .pre .1 .2)
             (c .before .before .before .before .before .before .loop .at) (c .before .before .last-at .result) (c .before .with-start .result) end (c .before .before .last-at .ensures) (c .before .with-start .ensures),
       ),
     )

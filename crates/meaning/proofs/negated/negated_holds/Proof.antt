@@ -18,8 +18,10 @@ field-of-requires c κs = tt
 
 lies-nowhere-requires : tie.Need-lies-nowhere-requires
 lies-nowhere-requires c κs =
-    let a = c .before .before .before .before .before .before .args in
-    measured (a .payload .now) (a .decoded .now) (a .m) (a .p) (a .last) (c .field-of .result .now) (c .before .before .before .before .before .before .pre) (c .field-of .ensures .0)
+    let s = c .before .before .before .before .before .before in
+    let a = s .args in
+    let sizes = measured (a .payload .now) (a .decoded .now) (a .m) (a .p) (a .b .now) (a .last) (c .field-of .result .now) (s .pre) (c .field-of .ensures .0) in
+    (sizes, s .pre .own)
 
 returns-2 : tie.Need-returns-2
 returns-2 c = λ f.

@@ -1,4 +1,4 @@
--- Each return rewrites with the test that led there and with what folding ensures.
+-- Both bytes are folded.
 use Rattle.definitions.specs.Windows.{alike}
 use borrow.Author.Needs.{needs}
 use Rattle.windows.proofs.bytes.alike.Statement.{statement}
@@ -12,11 +12,7 @@ lower-of-requires-2 c κs = search needs
 
 returns : tie.Need-returns
 unfolding alike
-returns c = simp (c .before .before .if1 .taken, c .before .lower-of .ensures, c .lower-of2 .ensures)
-
-returns-2 : tie.Need-returns-2
-unfolding alike
-returns-2 c = simp (c .if1 .left)
+returns c = simp (c .before .lower-of .ensures, c .lower-of2 .ensures)
 
 pub alike-spec : {M : Type 1} → statement M
-alike-spec = tie.close (tie.spec lower-of-requires lower-of-requires-2 returns returns-2)
+alike-spec = tie.close (tie.spec lower-of-requires lower-of-requires-2 returns)

@@ -14,13 +14,15 @@ abbrev μ-loop : tie.MeasureT-loop
 μ-loop b f nocase to at₀ at = to - at
 
 window-requires : tie.Need-window-requires Inv-loop μ-loop
-window-requires c κs = c .before .before .pre
+window-requires c κs = c .before .before .pre .0
 
 loop-holds : tie.Need-loop-holds Inv-loop μ-loop
 loop-holds c = refl
 
 stands-at-requires : tie.Need-stands-at-requires Inv-loop μ-loop
-stands-at-requires c κs = tt
+stands-at-requires c κs =
+    let s = c .before .before .before .before .before in
+    omega (arith, s .pre .1, c .before .before .window .ensures .inside (c .before .loop .at) (c .loop-test .taken))
 
 returns : tie.Need-returns Inv-loop μ-loop
 returns c =
