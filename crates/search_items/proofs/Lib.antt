@@ -1,3 +1,4 @@
--- One item more, and the trial of its starts.
+-- One item more, the items gone over, and the trial of a pattern's starts.
 pub mod Trials
 pub mod Stepping
+pub mod Going

@@ -1,13 +1,10 @@
 -- One item more: what is wanted of the items left, what the search rests on behind it, and what it answers.
 use mathlib.Core.Path.{_≡_, refl, sym, ap, _∙_}
-use mathlib.Core.Bool.{Bool, true, false, not}
+use mathlib.Core.Bool.{Bool, true, false}
 use mathlib.Core.List.{List, [], _∷_, map}
-use Prim.Native.Nat.{ℕ, _+_, _-_, _≤_, _<_}
+use Prim.Native.Nat.{ℕ, _+_, _≤_, _<_}
 use native.Mathlib.Omega.{arith}
-use native.Mathlib.Nat.{sub-zero}
 use lib.ListN.{length, take, drop, getD, length-take, length-drop, length-map}
-use lib.Seq.{take-all}
-use borrow.Author.Tests.{not-true, not-false}
 use types.Run.{OneOf}
 use denote.Enum.Declared.{tagOf}
 use Rattle.forms.proofs.Bools.{by-cases}
@@ -30,7 +27,6 @@ use Rattle.references.proofs.OtherItems.{other-kind}
 use Rattle.references.proofs.Firsts.{first-here, first-out}
 use Rattle.window_spans.specs.Spans.{sizeBound}
 use Rattle.meaning.specs.Bounds.{Bounded}
-use Rattle.search_outcomes.specs.declared.Outcome.{Outcome}
 use Rattle.search_outcomes.specs.Outcomes.{nothing}
 use Rattle.search_chosen.specs.Choosing.{push, answer}
 use Rattle.search_chosen.proofs.Answering.{answer-nothing}
@@ -40,46 +36,32 @@ use Rattle.search_items.specs.Items.{Small, Ready, Trying}
 
 -- ---- what is wanted
 
--- a pattern's own bytes, and those behind them, as parts of the bytes left
-abbrev pub ownOf : List ℕ → ℕ → List ℕ
-ownOf b n = take (n - 0) (drop 0 b)
-
-abbrev pub restOf : List ℕ → ℕ → List ℕ
-restOf b n = take (length b - n) (drop n b)
-
-own-is : (b : List ℕ) (n : ℕ) → ownOf b n ≡ take n b
-own-is b n = rw (sub-zero n)
-
-rest-is : (b : List ℕ) (n : ℕ) → restOf b n ≡ drop n b
-rest-is b n = take-all (length b - n) (drop n b) (omega (arith, length-drop n b))
-
-own-long : (b : List ℕ) (n : ℕ) → n ≤ length b → length (ownOf b n) ≡ n
-own-long b n h = rw (own-is b n) (length-take n b ∙ omega arith)
-
-abbrev NoPattern : Item → Type 0
+abbrev pub NoPattern : Item → Type 0
 NoPattern it = OneOf (0 ∷ 1 ∷ 2 ∷ 3 ∷ 4 ∷ 5 ∷ 6 ∷ 7 ∷ []) (tagOf item-type.the-type it)
 
 module _ (all : List Slot) (sl : Slot) (sls : List Slot) (u : all ≡ sl ∷ sls) (b : List ℕ) where
   pub wanted-test : NoPattern (sl .item) → wanted all b ≡ tested (sl .item) (sl .addresses) ∷ wanted sls b
   unfolding wanted
   wanted-test k =
+      let it = sl .item in
+      let al = sl .addresses in
       rw u
-      (other-kind (λ (κ : Kind). _≡_ {A = List Wanted} (wantedBy κ (sl .item) (sl .addresses) b ∷ wanted sls (behindItem κ b)) (tested (sl .item) (sl .addresses) ∷ wanted sls b))
-      refl (λ a. refl) refl (sl .item) k)
+      (other-kind (λ (κ : Kind). _≡_ {A = List Wanted} (wantedBy κ it al b ∷ wanted sls (behindItem κ b)) (tested it al ∷ wanted sls b))
+      refl (λ a. refl) refl it k)
 
   bytes-test : NoPattern (sl .item) → bytesOf (patternsOf all) ≡ bytesOf (patternsOf sls)
   unfolding patternsOf
   bytes-test k = rw u (other-kind (λ (κ : Kind). bytesOf (patternFirst κ (patternsOf sls)) ≡ bytesOf (patternsOf sls)) refl (λ a. refl) refl (sl .item) k)
 
   module _ (p : Pattern) (e : sl .item ≡ item.Pattern p) where
-    wanted-pattern : wanted all b ≡ wantedPattern p (ownOf b (p .len)) ∷ wanted sls (restOf b (p .len))
+    wanted-pattern : wanted all b ≡ wantedPattern p (take (p .len) b) ∷ wanted sls (drop (p .len) b)
     unfolding wanted
-    wanted-pattern = rw (u, e, own-is b (p .len), rest-is b (p .len))
+    wanted-pattern = rw (u, e)
 
-    pub wanted-nowhere : p .negated ≡ true → wanted all b ≡ nowhere p (ownOf b (p .len)) ∷ wanted sls (restOf b (p .len))
+    pub wanted-nowhere : p .negated ≡ true → wanted all b ≡ nowhere p (take (p .len) b) ∷ wanted sls (drop (p .len) b)
     wanted-nowhere n = wanted-pattern ∙ rw n
 
-    pub wanted-placed : p .negated ≡ false → wanted all b ≡ placed p (ownOf b (p .len)) ∷ wanted sls (restOf b (p .len))
+    pub wanted-placed : p .negated ≡ false → wanted all b ≡ placed p (take (p .len) b) ∷ wanted sls (drop (p .len) b)
     wanted-placed n = wanted-pattern ∙ rw n
 
     bytes-pattern : bytesOf (patternsOf all) ≡ p .len + bytesOf (patternsOf sls)
@@ -90,8 +72,8 @@ module _ (all : List Slot) (sl : Slot) (sls : List Slot) (u : all ≡ sl ∷ sls
 pub length-mapped : {A B : Type 0} (f : A → B) (l : List A) (n : ℕ) → length (map f l) ≡ n → length l ≡ n
 length-mapped f l n e = sym (length-map l f) ∙ e
 
-pub left-here : (q : Question) (k : ℕ) (sl : Slot) → sl ≡ getD (q .items) k slot0 → k < q .count → q .count ≤ length (q .items) → itemsLeft q k ≡ sl ∷ itemsLeft q (k + 1)
-left-here q k sl e h g = rw e (first-here (q .items) (q .count) k slot0 h g)
+pub left-here : (q : Question) (k : ℕ) → k < q .count → q .count ≤ length (q .items) → itemsLeft q k ≡ getD (q .items) k slot0 ∷ itemsLeft q (k + 1)
+left-here q k h g = first-here (q .items) (q .count) k slot0 h g
 
 pub left-out : (q : Question) (k : ℕ) → q .count ≤ k → itemsLeft q k ≡ []
 left-out q k h = first-out (q .items) (q .count) k h
@@ -110,23 +92,20 @@ positives-placed : (p : Pattern) (b : List ℕ) (ws : List Wanted) → positives
 unfolding positives
 positives-placed p b ws = refl
 
-rest-short : (b : List ℕ) (n : ℕ) → length (restOf b n) ≡ length b - n
-rest-short b n = rw (rest-is b n) (length-drop n b)
-
 module _ (all : List Slot) (sl : Slot) (sls : List Slot) (u : all ≡ sl ∷ sls) (b s d : List ℕ) (l : Last) (acc : Placement) (rd : Ready all b s d l acc) where
   pub ready-test : NoPattern (sl .item) → Ready sls b s d l acc
   ready-test k =
-      let room : positives (wanted all b) ≡ positives (wanted sls b) = ap positives (wanted-test all sl sls u b k) ∙ positives-test (sl .item) (sl .addresses) (wanted sls b) in
+      let room : positives (wanted all b) ≡ positives (wanted sls b) = ap positives (wanted-test all sl sls u b k) ∙ positives-test _ _ _ in
       record { small = rd .small; stored = omega (arith, rd .stored, bytes-test all sl sls u b k); room = omega (arith, rd .room, room) }
 
   module _ (p : Pattern) (e : sl .item ≡ item.Pattern p) where
     pub pattern-stored : p .len + bytesOf (patternsOf sls) ≤ length b
     pattern-stored = omega (arith, rd .stored, bytes-pattern all sl sls u b p e)
 
-    own-whole : length (ownOf b (p .len)) ≡ p .len
-    own-whole = own-long b (p .len) (omega (arith, pattern-stored))
+    own-whole : length (take (p .len) b) ≡ p .len
+    own-whole = length-take (p .len) b ∙ omega (arith, pattern-stored)
 
-    pub pattern-bounded : Bounded s d p (ownOf b (p .len)) l
+    pub pattern-bounded : Bounded s d p (take (p .len) b) l
     pattern-bounded =
         record {
           payload = rd .small .payload;
@@ -136,28 +115,30 @@ module _ (all : List Slot) (sl : Slot) (sls : List Slot) (u : all ≡ sl ∷ sls
           own = own-whole;
         }
 
-    rest-small : Small (restOf b (p .len)) s d l
+    rest-small : Small (drop (p .len) b) s d l
     rest-small =
         record {
-          bytes = omega (arith, rest-short b (p .len), rd .small .bytes);
+          bytes = omega (arith, length-drop (p .len) b, rd .small .bytes);
           payload = rd .small .payload;
           decoded = rd .small .decoded;
           last = rd .small .last;
         }
 
-    pub ready-nowhere : p .negated ≡ true → Ready sls (restOf b (p .len)) s d l acc
+    pub ready-nowhere : p .negated ≡ true → Ready sls (drop (p .len) b) s d l acc
     ready-nowhere n =
-        let room : positives (wanted all b) ≡ positives (wanted sls (restOf b (p .len))) = ap positives (wanted-nowhere all sl sls u b p e n) ∙ positives-nowhere p _ _ in
-        record { small = rest-small; stored = omega (arith, rest-short b (p .len), pattern-stored); room = omega (arith, rd .room, room) }
+        let rest = wanted sls (drop (p .len) b) in
+        let room : positives (wanted all b) ≡ positives rest = ap positives (wanted-nowhere all sl sls u b p e n) ∙ positives-nowhere p _ _ in
+        record { small = rest-small; stored = omega (arith, length-drop (p .len) b, pattern-stored); room = omega (arith, rd .room, room) }
 
-    pub ready-placed : p .negated ≡ false → Trying sls (restOf b (p .len)) p (ownOf b (p .len)) s d l acc
+    pub ready-placed : p .negated ≡ false → Trying sls (drop (p .len) b) p (take (p .len) b) s d l acc
     ready-placed n =
-        let room : positives (wanted all b) ≡ 1 + positives (wanted sls (restOf b (p .len))) = ap positives (wanted-placed all sl sls u b p e n) ∙ positives-placed p _ _ in
+        let rest = wanted sls (drop (p .len) b) in
+        let room : positives (wanted all b) ≡ 1 + positives rest = ap positives (wanted-placed all sl sls u b p e n) ∙ positives-placed p _ _ in
         record {
           small = rest-small;
           len = omega (arith, pattern-stored, rd .small .bytes);
           own = own-whole;
-          stored = omega (arith, rest-short b (p .len), pattern-stored);
+          stored = omega (arith, length-drop (p .len) b, pattern-stored);
           room = omega (arith, rd .room, room);
         }
 
@@ -177,31 +158,28 @@ module _ (sls : List Slot) (b : List ℕ) (p : Pattern) (own s d : List ℕ) (l 
         room = rw ew (tr .room);
       }
 
--- ---- what it answers: r is the answer given, t what the test of the item says
+-- ---- what it answers: an item that holds leaves the answer to those behind it
 
-module _ (v : View) (l : Last) (acc : Placement) (tight : Bool) (q : List ℕ) (all ws : List Wanted) (r : Outcome) where
-  module _ (it : Item) (al : List Address) (u : all ≡ tested it al ∷ ws) (t : Bool) (e : t ≡ testHolds v it al l) where
-    pub test-yes : not t ≡ false → r ≡ answer acc tight q (placements v ws l) → r ≡ answer acc tight q (placements v all l)
+module _ (v : View) (l : Last) (acc : Placement) (tight : Bool) (q : List ℕ) (ws : List Wanted) where
+  module _ (it : Item) (al : List Address) where
+    pub test-yes : testHolds v it al l ≡ true → answer acc tight q (placements v (tested it al ∷ ws) l) ≡ answer acc tight q (placements v ws l)
     unfolding placements
-    test-yes n h = rw (u, sym e ∙ not-false t n) h
+    test-yes h = rw h
 
-    pub test-no : not t ≡ true → r ≡ nothing → r ≡ answer acc tight q (placements v all l)
+    pub test-no : testHolds v it al l ≡ false → answer acc tight q (placements v (tested it al ∷ ws) l) ≡ nothing
     unfolding placements
-    test-no n h = rw (u, sym e ∙ not-true t n) (h ∙ sym (answer-nothing acc tight q))
+    test-no h = rw h (answer-nothing acc tight q)
 
-  module _ (p : Pattern) (b : List ℕ) (u : all ≡ nowhere p b ∷ ws) (t : Bool) (e : t ≡ nowhereHolds v p b l) where
-    pub nowhere-yes : not t ≡ false → r ≡ answer acc tight q (placements v ws l) → r ≡ answer acc tight q (placements v all l)
+  module _ (p : Pattern) (b : List ℕ) where
+    pub nowhere-yes : nowhereHolds v p b l ≡ true → answer acc tight q (placements v (nowhere p b ∷ ws) l) ≡ answer acc tight q (placements v ws l)
     unfolding placements
-    nowhere-yes n h = rw (u, sym e ∙ not-false t n) h
+    nowhere-yes h = rw h
 
-    pub nowhere-no : not t ≡ true → r ≡ nothing → r ≡ answer acc tight q (placements v all l)
+    pub nowhere-no : nowhereHolds v p b l ≡ false → answer acc tight q (placements v (nowhere p b ∷ ws) l) ≡ nothing
     unfolding placements
-    nowhere-no n h = rw (u, sym e ∙ not-true t n) (h ∙ sym (answer-nothing acc tight q))
+    nowhere-no h = rw h (answer-nothing acc tight q)
 
-  pub placed-first : all ≡ ws → r ≡ answer acc tight q (placements v ws l) → r ≡ answer acc tight q (placements v all l)
-  placed-first u h = rw u h
-
-pub behind-last : (v : View) (l : Last) (acc : Placement) (tight : Bool) (q : List ℕ) (all : List Slot) (b : List ℕ) (r : Outcome) → all ≡ []
-    → r ≡ answer acc tight q ([] ∷ []) → r ≡ answer acc tight q (placements v (wanted all b) l)
+pub behind-last : (v : View) (l : Last) (acc : Placement) (tight : Bool) (q : List ℕ) (b : List ℕ)
+    → answer acc tight q (placements v (wanted [] b) l) ≡ answer acc tight q ([] ∷ [])
 unfolding placements wanted
-behind-last v l acc tight q all b r e h = rw e h
+behind-last v l acc tight q b = refl

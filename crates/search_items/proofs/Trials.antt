@@ -25,7 +25,9 @@ use Rattle.meaning.proofs.Placing.{starts-present}
 use Rattle.search_outcomes.specs.declared.Outcome.{Outcome}
 use Rattle.search_outcomes.specs.Outcomes.{nothing}
 use Rattle.search_chosen.specs.Choosing.{push, answer, foundOr, startFrom}
+use Rattle.search_question.specs.declared.Question.{Question}
 use Rattle.search_chosen.proofs.Answering.{kept, none-left, answer-cons, answer-from, answer-nothing}
+use Rattle.search_items.proofs.Going.{found}
 
 -- ---- before the loop
 
@@ -44,11 +46,12 @@ module _ (facts : Facts) (s d : List ℕ) (m : FieldMap) (p : Pattern) (own : Li
   unfolding placements spread
   try-absent q t e n r h = rw (starts-absent (sym e ∙ not-true t n)) (h ∙ sym (answer-nothing acc tight q))
 
-  module _ (f : List ℕ) (w : Window) (sp : Spans p l (length f) w) (q : f ≡ fieldOf s d m (p .context)) (t : Bool) (g : t ≡ present m (p .context)) (n : not t ≡ false) where
+  module _ (f : List ℕ) (w : Window) (sp : Spans p l (length f) w) (q : f ≡ fieldOf s d m (p .context)) (t : Bool) (g : t ≡ present m (p .context))
+      (n : not t ≡ false) where
     starts-are : starts (seen facts s d m) p own l ≡ keep (standing (p .nocase) own f) (from (w .from) (w .to))
     starts-are = starts-present facts s d m p own l (sym g ∙ not-false t n) ∙ ap (placesOf p own l) (sym q) ∙ places-window p own l f w sp
 
-    pub try-begin : (ss : List ℕ) (at : ℕ) → acc .count < length ss → at ≡ startFrom tight (getD ss (acc .count) 0) (w .from)
+    try-begin : (ss : List ℕ) (at : ℕ) → acc .count < length ss → at ≡ startFrom tight (getD ss (acc .count) 0) (w .from)
         → answer acc tight (drop (acc .count) ss) (placements (seen facts s d m) (placed p own ∷ ws) l)
         ≡ answer acc tight (drop (acc .count) ss)
         (spread (λ (x : ℕ). placements (seen facts s d m) ws (lastAfter l p x)) (keep (standing (p .nocase) own f) (from at (w .to))))
@@ -58,17 +61,19 @@ module _ (facts : Facts) (s d : List ℕ) (m : FieldMap) (p : Pattern) (own : Li
         (answer-from (λ (x : ℕ). placements (seen facts s d m) ws (lastAfter l p x)) (getD ss (acc .count) 0) (drop (acc .count + 1) ss)
         (standing (p .nocase) own f) (w .to) acc tight (w .from))
 
-pub ahead : (tight : Bool) (b x at : ℕ) → at ≡ startFrom tight b x → tight ≡ true → b ≤ at
+ahead : (tight : Bool) (b x at : ℕ) → at ≡ startFrom tight b x → tight ≡ true → b ≤ at
 ahead tight b x at e t = let z : at ≡ max b x = e ∙ ap (λ (y : Bool). startFrom y b x) t in omega arith
 
 -- ---- one turn, and the end
 
 module _ (acc : Placement) (tight : Bool) (ss : List ℕ) (f : ℕ → List (List ℕ)) (h : ℕ → Bool) (at to : ℕ) where
-  pub try-done : (q : List ℕ) → to ≤ at → (r z : Outcome) → r ≡ nothing → z ≡ answer acc tight q (spread f (keep h (from at to))) → r ≡ z
+  try-done : (q : List ℕ) → to ≤ at → (r z : Outcome) → r ≡ nothing → z ≡ answer acc tight q (spread f (keep h (from at to))) → r ≡ z
   unfolding spread
-  try-done q l r z e i = let none : answer acc tight q (spread f (keep h (from at to))) ≡ nothing = rw (none-left h at to l) (answer-nothing acc tight q) in e ∙ sym (i ∙ none)
+  try-done q l r z e i =
+      let none : answer acc tight q (spread f (keep h (from at to))) ≡ nothing = rw (none-left h at to l) (answer-nothing acc tight q) in
+      e ∙ sym (i ∙ none)
 
-  pub try-no : (q : List ℕ) → h at ≡ false → answer acc tight q (spread f (keep h (from at to))) ≡ answer acc tight q (spread f (keep h (from (at + 1) to)))
+  try-no : (q : List ℕ) → h at ≡ false → answer acc tight q (spread f (keep h (from at to))) ≡ answer acc tight q (spread f (keep h (from (at + 1) to)))
   try-no q e = ap (λ (k : List ℕ). answer acc tight q (spread f k)) (passed h to at e)
 
   try-yes : at < to → h at ≡ true → acc .count < length ss → (tight ≡ true → getD ss (acc .count) 0 ≤ at)
@@ -80,7 +85,8 @@ module _ (acc : Placement) (tight : Bool) (ss : List ℕ) (f : ℕ → List (Lis
       (answer-cons f (getD ss (acc .count) 0) (drop (acc .count + 1) ss) acc tight at (keep h (from (at + 1) to)) a)
 
 -- a start that lies was tried with the items left, whose placements behind a last positive pattern are those of g
-pub tried : (acc : Placement) (tight : Bool) (ss : List ℕ) (g : Last → List (List ℕ)) (la : ℕ → Last) (h : ℕ → Bool) (at to : ℕ) (next : Last) (ws : Placement) (st : Bool) (x : Outcome)
+tried : (acc : Placement) (tight : Bool) (ss : List ℕ) (g : Last → List (List ℕ)) (la : ℕ → Last) (h : ℕ → Bool) (at to : ℕ)
+    (next : Last) (ws : Placement) (st : Bool) (x : Outcome)
     → at < to → h at ≡ true → acc .count < length ss → (tight ≡ true → getD ss (acc .count) 0 ≤ at)
     → next ≡ la at → ws ≡ push acc at → st ≡ (tight && eqb (getD ss (acc .count) 0) at) → x ≡ answer ws st (drop (ws .count) ss) (g next)
     → answer acc tight (drop (acc .count) ss) (spread (λ (s : ℕ). g (la s)) (keep h (from at to)))
@@ -91,8 +97,68 @@ tried acc tight ss g la h at to next ws st x l e k a en ew es ex =
     ∙ ap (λ (z : Outcome). foundOr z (answer acc tight (drop (acc .count) ss) (spread (λ (s : ℕ). g (la s)) (keep h (from (at + 1) to))))) (sym y)
 
 -- a first answer that is there, and one that is not
-pub or-found : (x y z : Outcome) → z ≡ foundOr x y → x .found ≡ true → x ≡ z
+or-found : (x y z : Outcome) → z ≡ foundOr x y → x .found ≡ true → x ≡ z
 or-found x y z e t = sym (e ∙ rw t)
 
-pub or-missing : (x y z : Outcome) → z ≡ foundOr x y → x .found ≡ false → z ≡ y
+or-missing : (x y z : Outcome) → z ≡ foundOr x y → x .found ≡ false → z ≡ y
 or-missing x y z e t = e ∙ rw t
+
+-- ---- the starts that are tried
+
+-- what the search answers over the starts from `at` on that pass a test, each with the items left, which want ws
+abbrev over : Question → List ℕ → List ℕ → Last → Placement → Bool → List Wanted → Pattern → (ℕ → Bool) → ℕ → ℕ → Outcome
+over q s d l acc tight ws p h to at =
+    answer acc tight (drop (acc .count) (q .bound)) (spread (λ (x : ℕ). placements (seen (q .facts) s d (q .map)) ws (lastAfter l p x)) (keep h (from at to)))
+
+-- no start before `at` leads to a placement: those from `at` up to `to` decide, in the field f for the pattern p with the bytes own
+pub record Tried (q : Question) (s d : List ℕ) (l : Last) (acc : Placement) (tight : Bool) (ws : List Wanted) (p : Pattern) (own f : List ℕ)
+    (to at : ℕ) : Type 0 where
+  pub room : acc .count < length (q .bound)
+  pub behind : tight ≡ true → getD (q .bound) (acc .count) 0 ≤ at
+  pub same : found q s d l acc tight (placed p own ∷ ws) ≡ over q s d l acc tight ws p (standing (p .nocase) own f) to at
+
+pub tried-none : {q : Question} {s d : List ℕ} {l : Last} {acc : Placement} {tight : Bool} {ws : List Wanted} {p : Pattern} {own f : List ℕ}
+    {w : Window} {t : Bool} {at : ℕ}
+    → acc .count < length (q .bound) → Spans p l (length f) w → f ≡ fieldOf s d (q .map) (p .context) → t ≡ present (q .map) (p .context) → not t ≡ false
+    → at ≡ startFrom tight (getD (q .bound) (acc .count) 0) (w .from) → Tried q s d l acc tight ws p own f (w .to) at
+tried-none {q} {s} {d} {l} {acc} {tight} {ws} {p} {own} {f} {w} {t} {at} room sp e g n a =
+    record {
+      room = room;
+      behind = ahead tight (getD (q .bound) (acc .count) 0) (w .from) at a;
+      same = try-begin (q .facts) s d (q .map) p own l ws acc tight f w sp e t g n (q .bound) at room a;
+    }
+
+module _ {q : Question} {s d : List ℕ} {l : Last} {acc : Placement} {tight : Bool} {ws : List Wanted} {p : Pattern} {own f : List ℕ} {to at : ℕ}
+    (o : Tried q s d l acc tight ws p own f to at) where
+  abbrev stands : ℕ → Bool
+  stands = standing (p .nocase) own f
+
+  abbrev behind-last : Last → List (List ℕ)
+  behind-last = placements (seen (q .facts) s d (q .map)) ws
+
+  abbrev passed-by : List ℕ
+  passed-by = drop (acc .count) (q .bound)
+
+  pub tried-out : to ≤ at → (r : Outcome) → r ≡ nothing → r ≡ found q s d l acc tight (placed p own ∷ ws)
+  tried-out h r e = try-done acc tight (q .bound) (λ (x : ℕ). behind-last (lastAfter l p x)) stands at to passed-by h r _ e (o .same)
+
+  pub tried-past : stands at ≡ false → Tried q s d l acc tight ws p own f to (at + 1)
+  tried-past e =
+      record {
+        room = o .room;
+        behind = λ y. omega (arith, o .behind y);
+        same = o .same ∙ try-no acc tight (q .bound) (λ (x : ℕ). behind-last (lastAfter l p x)) stands at to passed-by e;
+      }
+
+  -- a start that lies, with the answer r of the items left behind it
+  module _ (more : at < to) (lies : stands at ≡ true) {next : Last} {ac : Placement} {st : Bool} {r : Outcome}
+      (en : next ≡ lastAfter l p at) (ea : ac ≡ push acc at)
+      (es : st ≡ (tight && eqb (getD (q .bound) (acc .count) 0) at)) (er : r ≡ found q s d next ac st ws) where
+    this-or : found q s d l acc tight (placed p own ∷ ws) ≡ foundOr r (over q s d l acc tight ws p stands to (at + 1))
+    this-or = o .same ∙ tried acc tight (q .bound) behind-last (lastAfter l p) stands at to next ac st r more lies (o .room) (o .behind) en ea es er
+
+    pub tried-found : r .found ≡ true → r ≡ found q s d l acc tight (placed p own ∷ ws)
+    tried-found e = or-found r _ _ this-or e
+
+    pub tried-vain : r .found ≡ false → Tried q s d l acc tight ws p own f to (at + 1)
+    tried-vain e = record { room = o .room; behind = λ y. omega (arith, o .behind y); same = or-missing r _ _ this-or e }

@@ -25,7 +25,6 @@ use search_chosen::with_start;
 use search_outcomes::Outcome;
 use search_outcomes::no_match;
 use search_question::Question;
-use search_question::slot_at;
 use window_spans::starts::window;
 use windows::bytes::stands_at;
 
@@ -45,31 +44,36 @@ pub fn from_item<'a>(
     ensures { λ r. ⌜ r ≡ answer acc tight (drop (acc .count) (q .bound)) (placements (seen (q .facts) (now (payload .entry)) (now (decoded .entry)) (q .map)) (wanted (itemsLeft q k) (now (bytes .entry))) last) ⌝ }
 {
     let count = q.count;
-    if count <= k {
-        return at_end(acc, tight);
-    }
     let facts = q.facts;
     let map = q.map;
-    let slot = slot_at(q, k);
-    let item = slot.item;
-    let Item::Pattern(p) = item else {
-        let addresses = slot.addresses;
-        if !test_holds(facts, payload, decoded, map, item, addresses, last) {
+    let mut i = k;
+    let mut from = 0;
+    while i < count {
+        let slot = q.items[i];
+        let item = slot.item;
+        let Item::Pattern(p) = item else {
+            let addresses = slot.addresses;
+            if !test_holds(facts, payload, decoded, map, item, addresses, last) {
+                return no_match();
+            }
+            i += 1;
+            continue;
+        };
+        let n = p.len;
+        let to = from + n;
+        let own = &bytes[from..to];
+        if !p.negated {
+            let rest = &bytes[to..];
+            return try_starts(q, i, p, own, rest, payload, decoded, last, acc, tight);
+        }
+        // A negated pattern moves no reference.
+        if !negated_holds(payload, decoded, map, p, own, last) {
             return no_match();
         }
-        return from_item(q, k + 1, bytes, payload, decoded, last, acc, tight);
-    };
-    let n = p.len;
-    let own = &bytes[0..n];
-    let rest = &bytes[n..];
-    if !p.negated {
-        return try_starts(q, k, p, own, rest, payload, decoded, last, acc, tight);
+        from = to;
+        i += 1;
     }
-    if !negated_holds(payload, decoded, map, p, own, last) {
-        return no_match();
-    }
-    // A negated pattern moves no reference.
-    from_item(q, k + 1, rest, payload, decoded, last, acc, tight)
+    at_end(acc, tight)
 }
 
 // Tries the starts of the pattern p, which is item k and has the bytes `own`, each with the items left, whose pattern bytes are `rest`.

@@ -1,5 +1,4 @@
 -- Each return rewrites with the test that led there.
-use mathlib.Core.Path.{_≡_}
 use borrow.Author.Needs.{needs}
 use Rattle.windows.proofs.bytes.stands_at.Statement.{statement}
 use Rattle.windows.proofs.bytes.stands_at.Tie as tie

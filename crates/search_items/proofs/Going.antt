@@ -1,0 +1,147 @@
+-- The items that the search has gone over: tests and negated patterns that hold leave the answer to the items behind them.
+use mathlib.Core.Path.{_≡_, refl, sym, ap, _∙_}
+use mathlib.Core.Bool.{Bool, true, false, not}
+use mathlib.Core.List.{List, [], _∷_}
+use Prim.Native.Nat.{ℕ, _+_, _-_, _≤_, _<_}
+use native.Mathlib.Omega.{arith}
+use lib.ListN.{length, take, drop, getD, length-drop}
+use lib.Seq.{take-all, drop-drop}
+use borrow.Author.Tests.{not-true, not-false}
+use Rattle.definitions.specs.declared.table.Pattern.{Pattern}
+use Rattle.definitions.specs.declared.table.Item.the-variants as item
+use Rattle.definitions.specs.declared.table.Slot.{Slot}
+use Rattle.definitions.specs.declared.packet.Last.{Last}
+use Rattle.definitions.specs.declared.packet.Placement.{Placement}
+use Rattle.definitions.specs.Fields.{View}
+use Rattle.definitions.specs.Tests.{testHolds}
+use Rattle.definitions.specs.Placements.{Wanted, placed, nowhere, tested, wanted, nowhereHolds, placements}
+use Rattle.fields.specs.Seen.{seen}
+use Rattle.meaning.specs.Bounds.{Bounded}
+use Rattle.search_outcomes.specs.declared.Outcome.{Outcome}
+use Rattle.search_outcomes.specs.Outcomes.{nothing}
+use Rattle.search_chosen.specs.Choosing.{answer}
+use Rattle.search_question.specs.declared.Question.{Question}
+use Rattle.search_question.specs.Questions.{itemsLeft, slot0}
+use Rattle.search_items.specs.Items.{Ready, Trying}
+use Rattle.search_items.proofs.Stepping as stepping
+use Rattle.search_items.proofs.Stepping.{NoPattern}
+
+-- the parts of the pattern bytes that the code takes: n of them from a place on, and all from a place on
+abbrev pub ownOf : List ℕ → ℕ → ℕ → List ℕ
+ownOf b from n = take (from + n - from) (drop from b)
+
+abbrev pub restOf : List ℕ → ℕ → List ℕ
+restOf b to = take (length b - to) (drop to b)
+
+module _ (b : List ℕ) (from n : ℕ) where
+  own-is : ownOf b from n ≡ take n (drop from b)
+  own-is = let e : from + n - from ≡ n = omega arith in rw e
+
+  rest-is : restOf b (from + n) ≡ drop n (drop from b)
+  rest-is = take-all (length b - (from + n)) (drop (from + n) b) (omega (arith, length-drop (from + n) b)) ∙ sym (drop-drop n from b)
+
+-- what the search answers for some items wanted
+abbrev pub found : Question → List ℕ → List ℕ → Last → Placement → Bool → List Wanted → Outcome
+found q s d l acc tight ws = answer acc tight (drop (acc .count) (q .bound)) (placements (seen (q .facts) s d (q .map)) ws l)
+
+-- the items from the k-th up to the i-th are gone over, and of the pattern bytes b those up to `from`: the items from the i-th on decide
+pub record Gone (q : Question) (k : ℕ) (b s d : List ℕ) (l : Last) (acc : Placement) (tight : Bool) (i from : ℕ) : Type 0 where
+  pub held : q .count ≤ length (q .items)
+  pub on : k ≤ i
+  pub inside : from ≤ length b
+  pub ready : Ready (itemsLeft q i) (drop from b) s d l acc
+  pub same : found q s d l acc tight (wanted (itemsLeft q k) b) ≡ found q s d l acc tight (wanted (itemsLeft q i) (drop from b))
+
+pub gone-none : {q : Question} {k : ℕ} {b s d : List ℕ} {l : Last} {acc : Placement} {tight : Bool} → q .count ≤ length (q .items)
+    → Ready (itemsLeft q k) b s d l acc → Gone q k b s d l acc tight k 0
+gone-none h rd = record { held = h; on = omega arith; inside = omega arith; ready = rd; same = refl }
+
+module _ {q : Question} {k : ℕ} {b s d : List ℕ} {l : Last} {acc : Placement} {tight : Bool} {i from : ℕ} (g : Gone q k b s d l acc tight i from) where
+  abbrev view : View
+  view = seen (q .facts) s d (q .map)
+
+  abbrev passed : List ℕ
+  passed = drop (acc .count) (q .bound)
+
+  abbrev all : List Slot
+  all = itemsLeft q i
+
+  abbrev left : List ℕ
+  left = drop from b
+
+  -- behind the last item
+  pub gone-out : q .count ≤ i → (r : Outcome) → r ≡ answer acc tight passed ([] ∷ []) → r ≡ found q s d l acc tight (wanted (itemsLeft q k) b)
+  gone-out h r e =
+      let none = ap (λ (sls : List Slot). found q s d l acc tight (wanted sls left)) (stepping.left-out q i h) in
+      e ∙ sym (g .same ∙ none ∙ stepping.behind-last view l acc tight passed left)
+
+  -- the i-th item, and those behind it
+  module _ (more : i < q .count) where
+    abbrev sl : Slot
+    sl = getD (q .items) i slot0
+
+    abbrev sls : List Slot
+    sls = itemsLeft q (i + 1)
+
+    here : all ≡ sl ∷ sls
+    here = stepping.left-here q i more (g .held)
+
+    module _ (no : NoPattern (sl .item)) {t : Bool} (e : t ≡ testHolds view (sl .item) (sl .addresses) l) where
+      test-first : found q s d l acc tight (wanted (itemsLeft q k) b) ≡ found q s d l acc tight (tested (sl .item) (sl .addresses) ∷ wanted sls left)
+      test-first = g .same ∙ ap (found q s d l acc tight) (stepping.wanted-test all sl sls here left no)
+
+      pub gone-test : not t ≡ false → Gone q k b s d l acc tight (i + 1) from
+      gone-test n =
+          record {
+            held = g .held;
+            on = omega (arith, g .on);
+            inside = g .inside;
+            ready = stepping.ready-test all sl sls here left s d l acc (g .ready) no;
+            same = test-first ∙ stepping.test-yes view l acc tight passed (wanted sls left) (sl .item) (sl .addresses) (sym e ∙ not-false t n);
+          }
+
+      pub stop-test : not t ≡ true → (r : Outcome) → r ≡ nothing → r ≡ found q s d l acc tight (wanted (itemsLeft q k) b)
+      stop-test n r h = h ∙ sym (test-first ∙ stepping.test-no view l acc tight passed (wanted sls left) (sl .item) (sl .addresses) (sym e ∙ not-true t n))
+
+    module _ {p : Pattern} (e : sl .item ≡ item.Pattern p) where
+      pub pattern-inside : from + p .len ≤ length b
+      pattern-inside = omega (arith, stepping.pattern-stored all sl sls here left s d l acc (g .ready) p e, g .inside, length-drop from b)
+
+      pub pattern-bounded : Bounded s d p (ownOf b from (p .len)) l
+      pattern-bounded = rw (own-is b from (p .len)) (stepping.pattern-bounded all sl sls here left s d l acc (g .ready) p e)
+
+      module _ (n : p .negated ≡ false) where
+        pub pattern-trying : Trying sls (restOf b (from + p .len)) p (ownOf b from (p .len)) s d l acc
+        pattern-trying = rw (own-is b from (p .len), rest-is b from (p .len)) (stepping.ready-placed all sl sls here left s d l acc (g .ready) p e n)
+
+        pub placed-first : (r : Outcome) → r ≡ found q s d l acc tight (placed p (ownOf b from (p .len)) ∷ wanted sls (restOf b (from + p .len)))
+            → r ≡ found q s d l acc tight (wanted (itemsLeft q k) b)
+        placed-first r h =
+            (rw (own-is b from (p .len), rest-is b from (p .len)) at h)
+            ∙ sym (g .same ∙ ap (found q s d l acc tight) (stepping.wanted-placed all sl sls here left p e n))
+
+      module _ (n : p .negated ≡ true) {t : Bool} (h : t ≡ nowhereHolds view p (ownOf b from (p .len)) l) where
+        abbrev own : List ℕ
+        own = take (p .len) left
+
+        abbrev rest : List ℕ
+        rest = drop (p .len) left
+
+        holds : t ≡ nowhereHolds view p own l
+        holds = rw (own-is b from (p .len)) at h
+
+        nowhere-first : found q s d l acc tight (wanted (itemsLeft q k) b) ≡ found q s d l acc tight (nowhere p own ∷ wanted sls rest)
+        nowhere-first = g .same ∙ ap (found q s d l acc tight) (stepping.wanted-nowhere all sl sls here left p e n)
+
+        pub gone-nowhere : not t ≡ false → Gone q k b s d l acc tight (i + 1) (from + p .len)
+        gone-nowhere y =
+            record {
+              held = g .held;
+              on = omega (arith, g .on);
+              inside = pattern-inside;
+              ready = rw drop-drop at (stepping.ready-nowhere all sl sls here left s d l acc (g .ready) p e n);
+              same = rw drop-drop at (nowhere-first ∙ stepping.nowhere-yes view l acc tight passed (wanted sls rest) p own (sym holds ∙ not-false t y));
+            }
+
+        pub stop-nowhere : not t ≡ true → (r : Outcome) → r ≡ nothing → r ≡ found q s d l acc tight (wanted (itemsLeft q k) b)
+        stop-nowhere y r z = z ∙ sym (nowhere-first ∙ stepping.nowhere-no view l acc tight passed (wanted sls rest) p own (sym holds ∙ not-true t y))
