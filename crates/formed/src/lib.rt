@@ -15,7 +15,7 @@ use formed_bytes::name_fits;
 use formed_bytes::room_fits;
 use formed_slots::slot_unused;
 
-// The slots hold what they may, those in use and those behind them, and what they hold comes to what it may.
+// The slots in use, then those behind them, then what the walk ends with. Nothing called here takes the array: it would be copied at each call.
 fn items_fit(items: [Slot; ITEMS], count: usize, used: usize) -> bool
     ensures { λ r. ⌜ r ≡ itemsWell items count used ⌝ }
 {
