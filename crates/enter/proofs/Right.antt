@@ -42,7 +42,8 @@ no-addresses : (al list : List Address) → al ≡ [] → list ≡ padded addres
 no-addresses al list e h = h ∙ ap (λ (l : List Address). padded addressesMost noAddress (take addressesMost l)) e
 
 -- a value without pattern bytes stores none
-none-stored : {s : List ℕ} {said : List Said} {dash : ℕ} {e : Entry} {bytes : List ℕ} {items : List Slot} {r : Entered} (u : ℕ) (b : List ℕ) → b ≡ []
+none-stored : {s : List ℕ} {said : List Said} {dash : ℕ} {e : Entry} {bytes : List ℕ} {items : List Slot} {r : Entered} (u : ℕ) (b : List ℕ)
+    → b ≡ []
     → Outcome s said dash e bytes items r → Outcome s said dash e (sets bytes u b) items r
 none-stored {s} {said} {dash} {e} {bytes} {items} {r} u b z o = subst (λ (c : List ℕ). Outcome s said dash e (sets bytes u c) items r) (sym z) o
 
@@ -63,7 +64,8 @@ module _ (s : List ℕ) (said : List Said) (dash from : ℕ) (bytes : List ℕ) 
   value-outcome (value.Addresses a) k =
       none-stored (now .used) b (k .apart .1) (addresses-outcome s said dash from bytes items h a al list (k .apart .0) (k .addresses))
   value-outcome (value.Pattern negated n) k =
-      pattern-outcome s said dash from bytes items h negated n b list used (k .apart .0) (no-addresses al list (k .apart .1) (k .addresses)) (k .counted) (k .fits)
+      pattern-outcome s said dash from bytes items h negated n b list used (k .apart .0) (no-addresses al list (k .apart .1) (k .addresses))
+      (k .counted) (k .fits)
   value-outcome (value.Context c) k = none-stored (now .used) b (k .apart .1) (modifier-outcome s said dash from bytes items h (Context c) last at-last)
   value-outcome value.NoCase k = none-stored (now .used) b (k .apart .1) (modifier-outcome s said dash from bytes items h NoCase last at-last)
   value-outcome (value.Distance d) k = none-stored (now .used) b (k .apart .1) (modifier-outcome s said dash from bytes items h (Distance d) last at-last)

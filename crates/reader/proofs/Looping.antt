@@ -5,7 +5,7 @@ use mathlib.Core.List.{List, [], _∷_, _++_}
 use Prim.Native.Nat.{ℕ, suc, _+_, _-_, _≤_, _<_}
 use native.Mathlib.Omega.{arith}
 use native.Mathlib.Numerals.{add-one}
-use lib.ListN.{length, getD, take, drop, length-take, length-drop, take-append-drop, drop-of-length-le}
+use lib.ListN.{length, getD, set, take, drop, length-take, length-drop, take-append-drop, drop-of-length-le}
 use lib.Seq.{drop-cons, drop-drop}
 use lib.Dec.{eqb}
 use borrow.Author.Tests.{ne-eqb, eqb-true, eqb-false}
@@ -17,10 +17,11 @@ use Rattle.definitions.specs.Options.{optionAt}
 use Rattle.definitions.specs.Reading.{Said, entriesOf, refused, taken, dashes, options}
 use Rattle.syntax.proofs.Loop.{passed-over}
 use Rattle.reader_state.specs.declared.State.{State}
-use Rattle.reader_state.specs.State.{Holds, saidAlso}
+use Rattle.reader_state.specs.State.{Holds, lastSlot, saidAlso}
 use Rattle.reader.specs.declared.turns.Turn.{Turn}
 use Rattle.reader.specs.declared.turns.Turn.the-variants.{Next, Done, Refused}
-use Rattle.reader.specs.Turning.{closingTurn, TurnsTo, GoesTo}
+use Rattle.reader.specs.declared.turns.Turned.{Turned}
+use Rattle.reader.specs.Turning.{closingTurn, TurnsTo, GoesTo, Goes}
 
 module _ (s : List ℕ) (at : ℕ) (h : at < length s) where
   head : drop at s ≡ getD s at 0 ∷ drop (at + 1) s
@@ -64,7 +65,8 @@ module _ (s : List ℕ) (at : ℕ) (h : at < length s) where
 -- ---- what the definition's loop does at a byte
 
 module _ (s : List ℕ) (at : ℕ) (h : at < length s) (said : List Said) (st : State) (bytes : List ℕ) where
-  pub goes-space : {items : List Slot} → Holds s said st bytes items → st .used ≤ at → getD s at 0 ≡ 32 → GoesTo s said at bytes (Next (at + 1)) st bytes items
+  pub goes-space : {items : List Slot} → Holds s said st bytes items → st .used ≤ at → getD s at 0 ≡ 32
+      → GoesTo s said at bytes (Next (at + 1)) st bytes items
   unfolding options
   goes-space held behind e = (said, rw (head s at h, e), held, omega arith, omega arith, omega arith)
 
@@ -78,7 +80,9 @@ module _ (s : List ℕ) (at : ℕ) (h : at < length s) (said : List Said) (st : 
   module _ (space : getD s at 0 ≡ 32 → ⊥) (close : getD s at 0 ≡ 41 → ⊥) where
     pub goes-nowhere : (items : List Slot) → dashes (drop at s) ≡ false → GoesTo s said at bytes (Refused refusal.NotDue at) st bytes items
     unfolding options
-    goes-nowhere items e = let d : dashes (getD s at 0 ∷ drop (at + 1) s) ≡ false = rw (head s at h) at e in rw (head s at h, ne-eqb (getD s at 0) 32 space, ne-eqb (getD s at 0) 41 close, d)
+    goes-nowhere items e =
+        let d : dashes (getD s at 0 ∷ drop (at + 1) s) ≡ false = rw (head s at h) at e in
+        rw (head s at h, ne-eqb (getD s at 0) 32 space, ne-eqb (getD s at 0) 41 close, d)
 
     to-option : dashes (drop at s) ≡ true → options s (drop at s) 0 at said ≡ taken (optionAt s at) (entriesOf said) at (λ e next. options s (drop (at + 1) s) (next - (at + 1)) (at + 1) (saidAlso said at e))
     unfolding options
@@ -106,6 +110,13 @@ module _ (s : List ℕ) (at : ℕ) (h : at < length s) (said : List Said) (st : 
     )
     goes-option after items e Done u w = absurd w
     goes-option after items e (Refused q p) u w = to-option e ∙ w _
+
+-- what a turn promises, at the turn that it is
+pub goes-told : (s bytes : List ℕ) (st : State) (last : Slot) (at : ℕ) (after : List ℕ) (r : Turned) → Goes s bytes st last at after r
+    → (t : Turn) → r .turn ≡ t → (said : List Said) (items : List Slot) → Holds s said st bytes items → last ≡ lastSlot items st → st .used ≤ at
+    → GoesTo s said at bytes t (r .state) after (set items (r .place) (r .slot))
+goes-told s bytes st last at after r g t e said items h l u =
+    subst (λ (w : Turn). GoesTo s said at bytes w (r .state) after (set items (r .place) (r .slot))) e (g said items h l u)
 
 -- the text ends where an option or `)` is due
 pub loop-out : (s : List ℕ) (at : ℕ) (said : List Said) → length s ≤ at → options s (drop at s) 0 at said ≡ refused refusal.NotDue at

@@ -56,8 +56,8 @@ bytes-said s value.NoCase al b a = sym (a .1)
 bytes-said s (value.Distance d) al b a = sym (a .1)
 bytes-said s (value.Within w) al b a = sym (a .1)
 
-used-also : {s : List ℕ} {said : List Said} {st u : State} {bytes after : List ℕ} {items put : List Slot} (dash : ℕ) (v : Value) (al : List Address) (b : List ℕ) → Apart s v al b
-    → Holds s said st bytes items → Holds s (saidAlso said dash (entryOf s v al b)) u after put → u .used ≡ st .used + length b
+used-also : {s : List ℕ} {said : List Said} {st u : State} {bytes after : List ℕ} {items put : List Slot} (dash : ℕ) (v : Value)
+    (al : List Address) (b : List ℕ) → Apart s v al b → Holds s said st bytes items → Holds s (saidAlso said dash (entryOf s v al b)) u after put → u .used ≡ st .used + length b
 used-also {s} {said} dash v al b a h g =
     used-is g
     ∙ ap (λ (l : List Entry). length (bytesIn l)) (entries-also said dash (entryOf s v al b))
@@ -66,7 +66,8 @@ used-also {s} {said} dash v al b a h g =
     ∙ ap (λ (n : ℕ). n + length b) (sym (used-is h))
 
 -- the option is read: what its value stands behind and brings
-unfoldable pub read-behind : {f : Form Entry} {s : List ℕ} {to : ℕ} {bytes after : List ℕ} {st : State} {items : List Slot} {last : Slot} (said : List Said) (r : Parsed)
+unfoldable pub read-behind : {f : Form Entry} {s : List ℕ} {to : ℕ} {bytes after : List ℕ} {st : State} {items : List Slot} {last : Slot}
+    (said : List Said) (r : Parsed)
     → Parses f s to (roomOf bytes (st .used)) (roomOf after (r .used)) r → Holds s said st bytes items → last ≡ lastSlot items st
     → (n : ℕ) → r .cursor ≡ Going n → st .used ≤ to → n ≤ length s → length s ≤ limits01 .text
     → Behind st last (r .value) (r .list) (r .used)
@@ -89,10 +90,12 @@ read-behind {s = s} {bytes = bytes} {items = items} said r p h l n q behind insi
     }
 
 -- the option is read and entered: on behind it, unless something is due
-module _ (s : List ℕ) (said : List Said) (st u : State) (bytes after : List ℕ) (items put : List Slot) (at n : ℕ) (v : Value) (al : List Address) (b : List ℕ)
+module _ (s : List ℕ) (said : List Said) (st u : State) (bytes after : List ℕ) (items put : List Slot) (at n : ℕ) (v : Value)
+    (al : List Address) (b : List ℕ)
     (apart : Apart s v al b) (held : Holds s said st bytes items)
     (is : optionAt s at ≡ listed (Is (entryOf s v al b) n)) (inside : n ≤ length s) (onward : at + 2 ≤ n) (grown : st .used + length b ≤ n) where
-  pub turned : (due : Due) → due ≡ dueFor (entriesOf said) (entryOf s v al b) → (due ≡ Fine → Holds s (saidAlso said at (entryOf s v al b)) u after put)
+  pub turned : (due : Due) → due ≡ dueFor (entriesOf said) (entryOf s v al b)
+      → (due ≡ Fine → Holds s (saidAlso said at (entryOf s v al b)) u after put)
       → TurnsTo s said at (turnBy due at n) u after put
   turned Fine e h =
       let g = h refl in
@@ -104,7 +107,8 @@ pub going-inside : (s : List ℕ) (d : Cursor) (n : ℕ) → placeOf d ≤ lengt
 going-inside s d n h e = subst (λ (x : Cursor). placeOf x ≤ length s) e h
 
 -- before the first option
-pub fresh-holds : (s : List ℕ) (st : State) (bytes : List ℕ) (items : List Slot) → st ≡ stateOf 0 [] → bytes ≡ replicate (limits01 .room) 0 → items ≡ replicate itemsMost noSlot
+pub fresh-holds : (s : List ℕ) (st : State) (bytes : List ℕ) (items : List Slot) → st ≡ stateOf 0 [] → bytes ≡ replicate (limits01 .room) 0
+    → items ≡ replicate itemsMost noSlot
     → Holds s [] st bytes items × (st .used ≤ 0)
 unfolding stateFrom nameIn bytesIn slotsIn keep
 fresh-holds s st bytes items e b i =

@@ -11,11 +11,9 @@ use Rattle.definitions.specs.declared.table.Slot.{Slot}
 use Rattle.definitions.specs.Limits.{limits01, itemsMost}
 use Rattle.definitions.specs.Reading.{Said, options, finished}
 use Rattle.reader_state.specs.State.{Holds}
-use Rattle.reader.specs.declared.turns.Turn.{Turn}
-use Rattle.reader.specs.Turning.{GoesTo}
 use Rattle.enter.proofs.OneMore.{sound, bytes-full, items-full}
 use Rattle.reader.proofs.Steps.{fresh-holds}
-use Rattle.reader.proofs.Looping.{goes-space, loop-out}
+use Rattle.reader.proofs.Looping.{goes-space, goes-told, loop-out}
 use Rattle.reader.proofs.read_options.Statement.{statement}
 use Rattle.reader.proofs.read_options.Tie as tie
 
@@ -101,9 +99,8 @@ loop-less-2 c =
     let l = c .before .before .before .before .before .before .before .before .before .before .before .before .loop in
     let i = l .inv in
     let t = c .before .before .before .before .before .before .turn-at in
-    let g =
-    subst (λ (w : Turn). GoesTo (x .s .now) (i .0) (l .at) (l .bytes) w (t .result .state) (t .last .1 .0) (set (l .items) (t .result .place) (t .result .slot))) (c .before .before .before .turn .given .1)
-    (t .ensures (i .0) (l .items) (i .1) refl (i .2)) in
+    let told = c .before .before .before .turn .given .1 in
+    let g = goes-told (x .s .now) (l .bytes) (l .st) _ (l .at) (t .last .1 .0) (t .result) (t .ensures) _ told (i .0) (l .items) (i .1) refl (i .2) in
     let a = g .4 in
     let b = g .5 in
     omega arith
@@ -114,9 +111,8 @@ loop-again-2 c =
     let l = c .before .before .before .before .before .before .before .before .before .before .before .before .loop in
     let i = l .inv in
     let t = c .before .before .before .before .before .before .turn-at in
-    let g =
-    subst (λ (w : Turn). GoesTo (x .s .now) (i .0) (l .at) (l .bytes) w (t .result .state) (t .last .1 .0) (set (l .items) (t .result .place) (t .result .slot))) (c .before .before .before .turn .given .1)
-    (t .ensures (i .0) (l .items) (i .1) refl (i .2)) in
+    let told = c .before .before .before .turn .given .1 in
+    let g = goes-told (x .s .now) (l .bytes) (l .st) _ (l .at) (t .last .1 .0) (t .result) (t .ensures) _ told (i .0) (l .items) (i .1) refl (i .2) in
     let put : c .before .if2 .items ≡ set (l .items) (t .result .place) (t .result .slot) =
     ⊎-elim (λ w. w .2) (λ w. w .1 ∙ sym (set-out (l .items) _ _ (omega (arith, w .0 .left, items-full (i .1))))) (c .before .if2 .came) in
     (g .0, subst (λ (k : List Slot). Holds (x .s .now) (g .0) (t .result .state) (t .last .1 .0) k) (sym put) (g .2), g .3, g .5, i .4 ∙ g .1)
@@ -130,9 +126,8 @@ finish-requires c κs =
     let l = c .before .before .before .before .before .before .before .before .before .loop in
     let i = l .inv in
     let t = c .before .before .before .turn-at in
-    let g =
-    subst (λ (w : Turn). GoesTo (x .s .now) (i .0) (l .at) (l .bytes) w (t .result .state) (t .last .1 .0) (set (l .items) (t .result .place) (t .result .slot))) (c .enum-told .given .1)
-    (t .ensures (i .0) (l .items) (i .1) refl (i .2)) in
+    let told = c .enum-told .given .1 in
+    let g = goes-told (x .s .now) (l .bytes) (l .st) _ (l .at) (t .last .1 .0) (t .result) (t .ensures) _ told (i .0) (l .items) (i .1) refl (i .2) in
     record { said = i .0; holds = rw (g .1) (i .1) }
 
 returns : tie.Need-returns Inv-loop μ-loop
@@ -141,9 +136,8 @@ returns c =
     let l = c .before .before .before .before .before .before .before .before .before .before .loop in
     let i = l .inv in
     let t = c .before .before .before .before .turn-at in
-    let g =
-    subst (λ (w : Turn). GoesTo (x .s .now) (i .0) (l .at) (l .bytes) w (t .result .state) (t .last .1 .0) (set (l .items) (t .result .place) (t .result .slot))) (c .before .enum-told .given .1)
-    (t .ensures (i .0) (l .items) (i .1) refl (i .2)) in
+    let told = c .before .enum-told .given .1 in
+    let g = goes-told (x .s .now) (l .bytes) (l .st) _ (l .at) (t .last .1 .0) (t .result) (t .ensures) _ told (i .0) (l .items) (i .1) refl (i .2) in
     c .finish .ensures (i .0) (rw (g .1) (i .1)) ∙ sym (ap (finished (limits01 .room) (x .s .now)) (i .4 ∙ g .0))
 
 enum-known-turn-2 : tie.Need-enum-known-turn-2 Inv-loop μ-loop
@@ -158,9 +152,8 @@ returns-2 c =
     let l = c .before .before .before .before .before .before .before .before .before .before .before .loop in
     let i = l .inv in
     let t = c .before .before .before .before .before .turn-at in
-    let g =
-    subst (λ (w : Turn). GoesTo (x .s .now) (i .0) (l .at) (l .bytes) w (t .result .state) (t .last .1 .0) (set (l .items) (t .result .place) (t .result .slot))) (c .before .before .turn2 .given .1)
-    (t .ensures (i .0) (l .items) (i .1) refl (i .2)) in
+    let told = c .before .before .turn2 .given .1 in
+    let g = goes-told (x .s .now) (l .bytes) (l .st) _ (l .at) (t .last .1 .0) (t .result) (t .ensures) _ told (i .0) (l .items) (i .1) refl (i .2) in
     c .refused .ensures ∙ sym (ap (finished (limits01 .room) (x .s .now)) (i .4 ∙ g))
 
 refused-requires-2 : tie.Need-refused-requires-2 Inv-loop μ-loop

@@ -50,8 +50,10 @@ returns-4 c =
     let put = c .before .before .before .before .before .before .before .before .before .put-house in
     let lent = c .before .before .before .before .before .before .before .before .before .before .put-house-arg .given .0 .1 in
     let short = c .before .before .before .before .before .before .before .before .if2 .left in
-    let formed = sym (c .before .before .before .before .before .before .before .before .before .before .before .before .well-formed .ensures) ∙ not-false _ (c .before .before .before .before .before .before .before .before .before .before .before .if1 .left) in
-    written (x .t) (x .out .now) formed (put .result) (measures (x .t) (put .ensures)) short (c .before .before .before .before .before .before .before .if3 .left)
+    let tested = c .before .before .before .before .before .before .before .before .before .before .before in
+    let formed = sym (tested .before .well-formed .ensures) ∙ not-false _ (tested .if1 .left) in
+    let room = c .before .before .before .before .before .before .before .if3 .left in
+    written (x .t) (x .out .now) formed (put .result) (measures (x .t) (put .ensures)) short room
     (told (taken-back (x .t) (put .ensures) short lent) (c .before .before .put-word .ensures))
 
 same-length : tie.Need-same-length

@@ -34,7 +34,9 @@ returns : tie.Need-returns
 returns c =
     λ said items held latest.
     rw (c .turn-only .ensures)
-    (λ K. taken-unlisted _ _ _ K (option-unlisted _ _ _ _ (c .before .before .before .name-end .ensures) (c .before .before .name-place .ensures) (c .before .if1 .taken)))
+    (λ K.
+    taken-unlisted _ _ _ K
+    (option-unlisted _ _ _ _ (c .before .before .before .name-end .ensures) (c .before .before .name-place .ensures) (c .before .if1 .taken)))
 
 option-by-place-requires : tie.Need-option-by-place-requires
 option-by-place-requires c κs =
@@ -85,7 +87,8 @@ returns-2 c =
     let P = read .ensures in
     let q = c .before .before .before .before .before .before .cursor .given .1 in
     let entered = c .before .before .before .enter in
-    let ended = c .before .before .before .before .before .before .before .before .before .before .before .before .before .before .name-end .ensures in
+    let tested = c .before .before .before .before .before .before .before .before .before .before .before .before in
+    let ended = tested .before .before .name-end .ensures in
     let g = name-inside _ _ (pre .inside) ended in
     let z = going-inside (x .s .now) (read .result .cursor) _ (P .reads .inside) q in
     let u = pre .behind in
@@ -94,7 +97,7 @@ returns-2 c =
     let after : List ℕ = read .last .1 .1 .1 .0 in
     let put : List Slot = set items (entered .result .place) (entered .result .slot) in
     let i =
-    option-listed _ _ _ _ ended (c .before .before .before .before .before .before .before .before .before .before .before .before .before .name-place .ensures) (c .before .before .before .before .before .before .before .before .before .before .before .before .if1 .left)
+    option-listed _ _ _ _ ended (tested .before .name-place .ensures) (tested .if1 .left)
     ∙ ap listed (sym (P .reads .reads) ∙ ap (readBy (entryOf _ (read .result .value) (P .al) (P .b))) q) in
     subst (λ (t : Turn). TurnsTo (x .s .now) said (x .at) t (entered .result .state) after put) (sym (c .turn-by .ensures))
     (turned _ said _ _ _ after items put _ _ _ (P .al) (P .b) (P .apart _ q) held i z (omega (arith, g .0, w)) (omega (arith, u, g .0, w)) _
@@ -110,7 +113,9 @@ returns-3 : tie.Need-returns-3
 returns-3 c =
     λ said items held latest.
     let P = c .before .before .before .before .before .option-by-place .ensures in
-    let i = option-listed _ _ _ _ (c .before .before .before .before .before .before .before .before .before .name-end .ensures) (c .before .before .before .before .before .before .before .before .name-place .ensures) (c .before .before .before .before .before .before .before .if1 .left) ∙ ap listed (sym (P .reads .reads)) in
+    let tested = c .before .before .before .before .before .before .before in
+    let named = tested .before .before .name-end .ensures in
+    let i = option-listed _ _ _ _ named (tested .before .name-place .ensures) (tested .if1 .left) ∙ ap listed (sym (P .reads .reads)) in
     rw (c .turn-only2 .ensures) (λ K. taken-over _ _ _ K _ _ i (c .before .enum-told .given .1))
 
 same-length-2 : tie.Need-same-length-2
@@ -120,7 +125,9 @@ returns-4 : tie.Need-returns-4
 returns-4 c =
     λ said items held latest.
     let P = c .before .before .before .before .before .option-by-place .ensures in
-    let i = option-listed _ _ _ _ (c .before .before .before .before .before .before .before .before .before .name-end .ensures) (c .before .before .before .before .before .before .before .before .name-place .ensures) (c .before .before .before .before .before .before .before .if1 .left) ∙ ap listed (sym (P .reads .reads)) in
+    let tested = c .before .before .before .before .before .before .before in
+    let named = tested .before .before .name-end .ensures in
+    let i = option-listed _ _ _ _ named (tested .before .name-place .ensures) (tested .if1 .left) ∙ ap listed (sym (P .reads .reads)) in
     rw (c .turn-only3 .ensures) (λ K. taken-stopped _ _ _ K _ _ i (c .before .enum-told2 .given .1))
 
 same-length-3 : tie.Need-same-length-3
