@@ -47,6 +47,7 @@ pub fn from_item<'a>(
     let facts = q.facts;
     let map = q.map;
     let mut i = k;
+    // The pattern bytes from item i's on begin here.
     let mut from = 0;
     while i < count {
         let slot = q.items[i];
