@@ -52,13 +52,6 @@ pub record Gone (q : Question) (k : ℕ) (b s d : List ℕ) (l : Last) (acc : Pl
   pub ready : Ready (itemsLeft q i) (drop from b) s d l acc
   pub same : found q s d l acc tight (wanted (itemsLeft q k) b) ≡ found q s d l acc tight (wanted (itemsLeft q i) (drop from b))
 
--- where nothing is left, the starts chosen are the one placement
-pub all-passed : (q : Question) (i : ℕ) (b s d : List ℕ) (l : Last) (acc : Placement) (tight : Bool) → q .count ≤ i → (r : Outcome)
-    → r ≡ answer acc tight (drop (acc .count) (q .bound)) ([] ∷ []) → r ≡ found q s d l acc tight (wanted (itemsLeft q i) b)
-all-passed q i b s d l acc tight h r e =
-    let none = ap (λ (sls : List Slot). found q s d l acc tight (wanted sls b)) (stepping.left-out q i h) in
-    e ∙ sym (none ∙ stepping.behind-last (seen (q .facts) s d (q .map)) l acc tight (drop (acc .count) (q .bound)) b)
-
 pub gone-none : {q : Question} {k : ℕ} {b s d : List ℕ} {l : Last} {acc : Placement} {tight : Bool} → q .count ≤ length (q .items)
     → Ready (itemsLeft q k) b s d l acc → Gone q k b s d l acc tight k 0
 gone-none h rd = record { held = h; on = omega arith; inside = omega arith; ready = rd; same = refl }
@@ -78,7 +71,9 @@ module _ {q : Question} {k : ℕ} {b s d : List ℕ} {l : Last} {acc : Placement
 
   -- behind the last item
   pub gone-out : q .count ≤ i → (r : Outcome) → r ≡ answer acc tight passed ([] ∷ []) → r ≡ found q s d l acc tight (wanted (itemsLeft q k) b)
-  gone-out h r e = all-passed q i left s d l acc tight h r e ∙ sym (g .same)
+  gone-out h r e =
+      let none = ap (λ (sls : List Slot). found q s d l acc tight (wanted sls left)) (stepping.left-out q i h) in
+      e ∙ sym (g .same ∙ none ∙ stepping.behind-last view l acc tight passed left)
 
   -- the i-th item, and those behind it
   module _ (more : i < q .count) where

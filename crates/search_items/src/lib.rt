@@ -111,17 +111,9 @@ fn try_starts<'a>(
             let next = last_at(last, p, at);
             let more = with_start(acc, at);
             let still = stays(tight, at, b);
-            // Behind the last item there is nothing to call on for.
-            if k + 1 < q.count {
-                let x = from_item(q, k + 1, rest, payload, decoded, next, more, still);
-                if x.found {
-                    return x;
-                }
-            } else {
-                let ended = at_end(more, still);
-                if ended.found {
-                    return ended;
-                }
+            let x = from_item(q, k + 1, rest, payload, decoded, next, more, still);
+            if x.found {
+                return x;
             }
         }
         at += 1;

@@ -12,7 +12,7 @@ use Rattle.window_spans.specs.Spans.{sizeBound, Measured}
 use Rattle.meaning.proofs.Placing.{measured}
 use Rattle.search_question.specs.Questions.{itemsLeft}
 use Rattle.search_items.proofs.Stepping.{length-mapped, trying-bounded, ready-next}
-use Rattle.search_items.proofs.Going.{all-passed, Gone, gone-none, gone-out, gone-test, stop-test, gone-nowhere, stop-nowhere, placed-first}
+use Rattle.search_items.proofs.Going.{Gone, gone-none, gone-out, gone-test, stop-test, gone-nowhere, stop-nowhere, placed-first}
 use Rattle.search_items.proofs.Going.{pattern-inside, pattern-bounded, pattern-trying}
 use Rattle.search_items.proofs.Trials.{try-absent, Tried, tried-none, tried-out, tried-past, tried-found, tried-vain}
 use Prim.Native.Nat.{ℕ, _+_, _-_, _≤_, _<_}
@@ -97,8 +97,6 @@ try-starts-claims t = (
   stays-reads.Learnt,
   from-item-below t,
   from-item.Post,
-  at-end-reads.Asked,
-  at-end-reads.Learnt,
 )
 
 -- In the answers below `s` is the place where a turn begins, `m` the one where the item's kind is known, `a` the function's entry.
@@ -340,57 +338,33 @@ try-starts-stays-requires : (t : ℕ)
     → try-starts-lts.Need-stays-requires (try-starts-claims t) (try-starts-at t) try-starts.Post try-starts-Inv-loop try-starts-μ-loop
 try-starts-stays-requires t c κs = tt
 
-try-starts-add-if3 : (t : ℕ) → try-starts-lts.Need-add-if3 (try-starts-claims t) (try-starts-at t) try-starts.Post try-starts-Inv-loop try-starts-μ-loop
-try-starts-add-if3 t c =
-    let f = c .before .before .before .before .before .before .before .before .before .before in
-    let a = f .before .before .before .before .before .before .before .before in
-    omega (arith, a .pre .1 .0, a .pre .1 .1)
-
 try-starts-add-from-item : (t : ℕ)
     → try-starts-lts.Need-add-from-item (try-starts-claims t) (try-starts-at t) try-starts.Post try-starts-Inv-loop try-starts-μ-loop
 try-starts-add-from-item t c =
-    let f = c .before .before .before .before .before .before .before .before .before .before .before .before in
+    let f = c .before .before .before .before .before .before .before .before .before .before in
     let a = f .before .before .before .before .before .before .before .before in
     omega (arith, a .pre .1 .0, a .pre .1 .1)
 
 try-starts-from-item-requires : (t : ℕ)
     → try-starts-lts.Need-from-item-requires (try-starts-claims t) (try-starts-at t) try-starts.Post try-starts-Inv-loop try-starts-μ-loop
 try-starts-from-item-requires t c κs =
-    let s = c .before .before .before .before .before .before .before in
+    let s = c .before .before .before .before .before in
     let f = s .before .before .before .before .before in
     let a = f .before .before .before .before .before .before .before .before in
     let x = a .args in
-    let next = c .before .before .before .before .last-at in
-    let more = c .before .before .before .with-start in
+    let next = c .before .before .last-at in
+    let more = c .before .with-start in
     let sls = itemsLeft (x .q) (x .k + 1) in
     let ready = ready-next sls (x .rest .now) (x .p) (x .own .now) (x .payload .now) (x .decoded .now) (x .last) (x .acc) (a .pre .1 .2) (s .before .loop .at) in
     (omega (arith, a .pre .0, a .pre .1 .0), (a .pre .1 .1, ready (next .result) (more .result) (end-inside t s .1) (next .ensures) (more .ensures)))
 
 try-starts-returns-2 : (t : ℕ) → try-starts-lts.Need-returns-2 (try-starts-claims t) (try-starts-at t) try-starts.Post try-starts-Inv-loop try-starts-μ-loop
 try-starts-returns-2 t c =
-    let s = c .before .before .before .before .before .before .before .before .before in
-    let lies = sym (c .before .before .before .before .before .before .before .before .stands-at .ensures) ∙ c .before .before .before .before .before .before .before .if2 .taken in
-    let chosen = c .before .before .before .before .before .before .last-at .ensures in
-    tried-found (s .before .loop .inv) (s .loop-test .taken) lies chosen (c .before .before .before .before .before .with-start .ensures) (c .before .before .before .before .stays .ensures)
-    (c .before .from-item .ensures) (c .if4 .taken)
-
-try-starts-at-end-requires : (t : ℕ)
-    → try-starts-lts.Need-at-end-requires (try-starts-claims t) (try-starts-at t) try-starts.Post try-starts-Inv-loop try-starts-μ-loop
-try-starts-at-end-requires t c κs = tt
-
-try-starts-returns-3 : (t : ℕ) → try-starts-lts.Need-returns-3 (try-starts-claims t) (try-starts-at t) try-starts.Post try-starts-Inv-loop try-starts-μ-loop
-try-starts-returns-3 t c =
-    let s = c .before .before .before .before .before .before .before .before .before in
-    let x = c .before .before .before .before .before .before .before .before .before .before .before .before .before .before .before .before .before .before .before .before .before .before .args in
-    let lies = sym (c .before .before .before .before .before .before .before .before .stands-at .ensures) ∙ c .before .before .before .before .before .before .before .if2 .taken in
-    let next = c .before .before .before .before .before .before .last-at in
-    let more = c .before .before .before .before .before .with-start in
-    let still = c .before .before .before .before .stays in
-    let last = c .before .at-end in
-    tried-found (s .before .loop .inv) (s .loop-test .taken) lies (next .ensures) (more .ensures) (still .ensures)
-    (all-passed (x .q) (x .k + 1) (x .rest .now) (x .payload .now) (x .decoded .now) (next .result) (more .result) (still .result) (c .before .before .if3 .left)
-    (last .result) (last .ensures _))
-    (c .if5 .taken)
+    let s = c .before .before .before .before .before .before .before in
+    let lies = sym (c .before .before .before .before .before .before .stands-at .ensures) ∙ c .before .before .before .before .before .if2 .taken in
+    let chosen = c .before .before .before .before .last-at .ensures in
+    tried-found (s .before .loop .inv) (s .loop-test .taken) lies chosen (c .before .before .before .with-start .ensures) (c .before .before .stays .ensures)
+    (c .before .from-item .ensures) (c .if3 .taken)
 
 try-starts-add-at : (t : ℕ) → try-starts-lts.Need-add-at (try-starts-claims t) (try-starts-at t) try-starts.Post try-starts-Inv-loop try-starts-μ-loop
 try-starts-add-at t c = omega arith
@@ -402,27 +376,18 @@ try-starts-loop-again : (t : ℕ) → try-starts-lts.Need-loop-again (try-starts
 try-starts-loop-again t c =
     let s = c .before .before in
     let o = s .before .loop .inv in
-    let x = c .before .before .before .before .before .before .before .before .before .before .before .before .before .before .before .args in
     let stands = sym (c .before .stands-at .ensures) in
     ⊎-elim
-    (λ w. tried-vain o (s .loop-test .taken) (stands ∙ w .0 .taken) (w .1 .ensures) (w .2 .ensures) (w .3 .ensures) (w .6 .ensures) (w .7 .left))
-    (λ v.
-    ⊎-elim
-    (λ w.
-    tried-vain o (s .loop-test .taken) (stands ∙ w .0 .taken) (w .1 .ensures) (w .2 .ensures) (w .3 .ensures)
-    (all-passed (x .q) (x .k + 1) (x .rest .now) (x .payload .now) (x .decoded .now) (w .1 .result) (w .2 .result) (w .3 .result) (w .5 .left)
-    (w .6 .result) (w .6 .ensures _))
-    (w .7 .left))
+    (λ w. tried-vain o (s .loop-test .taken) (stands ∙ w .0 .taken) (w .1 .ensures) (w .2 .ensures) (w .3 .ensures) (w .4 .ensures) (w .5 .left))
     (λ w. tried-past o (stands ∙ w .left))
-    v)
     (c .if2 .came)
 
 try-starts-no-match-requires-2 : (t : ℕ)
     → try-starts-lts.Need-no-match-requires-2 (try-starts-claims t) (try-starts-at t) try-starts.Post try-starts-Inv-loop try-starts-μ-loop
 try-starts-no-match-requires-2 t c κs = tt
 
-try-starts-returns-4 : (t : ℕ) → try-starts-lts.Need-returns-4 (try-starts-claims t) (try-starts-at t) try-starts.Post try-starts-Inv-loop try-starts-μ-loop
-try-starts-returns-4 t c = tried-out (c .before .before .loop .inv) (c .before .loop-test .left) (c .no-match2 .result) (c .no-match2 .ensures)
+try-starts-returns-3 : (t : ℕ) → try-starts-lts.Need-returns-3 (try-starts-claims t) (try-starts-at t) try-starts.Post try-starts-Inv-loop try-starts-μ-loop
+try-starts-returns-3 t c = tried-out (c .before .before .loop .inv) (c .before .loop-test .left) (c .no-match2 .result) (c .no-match2 .ensures)
 
 pub +from-item+try-starts-spec : {M : Type 1} → statement M
 +from-item+try-starts-spec = close μ-from-item μ-try-starts (λ t. from-item-lts.spec (from-item-claims t)
@@ -475,14 +440,11 @@ pub +from-item+try-starts-spec : {M : Type 1} → statement M
     (try-starts-last-at-requires t)
     (try-starts-with-start-requires t)
     (try-starts-stays-requires t)
-    (try-starts-add-if3 t)
     (try-starts-add-from-item t)
     (try-starts-from-item-requires t)
     (try-starts-returns-2 t)
-    (try-starts-at-end-requires t)
-    (try-starts-returns-3 t)
     (try-starts-add-at t)
     (try-starts-loop-less t)
     (try-starts-loop-again t)
     (try-starts-no-match-requires-2 t)
-    (try-starts-returns-4 t)
+    (try-starts-returns-3 t)
