@@ -8,7 +8,7 @@ ghost use Rattle.definitions.specs.Options.{optionTable};
 ghost use Rattle.entry.specs.Values.{roomOf, entryOf, Plain};
 ghost use Rattle.scan_cursors.specs.Reads.{Reads};
 ghost use Rattle.scan_cursors.specs.declared.Cursor.the-variants.{Going};
-ghost use Rattle.names.specs.Names.{optionCount};
+ghost use Rattle.read_names.specs.Names.{optionCount};
 ghost use Rattle.option_values.specs.Parsing.{nthForm, Parses};
 use crate::lists::address_option;
 use crate::lists::name_option;

@@ -9,8 +9,8 @@ use Rattle.forms.specs.Place.{readAt}
 use Rattle.forms.proofs.Bools.{by-cases}
 use Rattle.definitions.specs.Options.{Option, optionTable, inName, unlisted, listed, parsed, nameLength, optionAt}
 use Rattle.scan.proofs.Running.{run-le}
-use Rattle.names.specs.Names.{optionCount, namesOf, optionNames, placeIn}
-use Rattle.names.proofs.Same.{names-count}
+use Rattle.read_names.specs.Names.{optionCount, namesOf, optionNames, placeIn}
+use Rattle.read_names.proofs.Same.{names-count}
 use Rattle.option_values.specs.Parsing.{nthForm}
 
 nth-listed : (os : List Option) (n s : List ℕ) (at : ℕ) → placeIn (namesOf os) n < length (namesOf os) → parsed os n s at ≡ listed (readAt (nthForm (placeIn (namesOf os) n) os) s at)

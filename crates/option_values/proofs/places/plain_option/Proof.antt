@@ -3,7 +3,7 @@ use Prim.Native.Nat.{_≤_}
 use native.Mathlib.Omega.{arith}
 use Rattle.definitions.specs.Options.{optionTable}
 use Rattle.option_values.specs.Parsing.{nthForm}
-use Rattle.names.proofs.Same.{past}
+use Rattle.read_names.proofs.Same.{past}
 use Rattle.option_values.proofs.places.plain_option.Statement.{statement}
 use Rattle.option_values.proofs.places.plain_option.Tie as tie
 

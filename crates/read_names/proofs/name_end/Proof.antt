@@ -7,10 +7,10 @@ use Rattle.definitions.specs.Options.{inName}
 use Rattle.scan.specs.Classes.{classOf}
 use Rattle.scan.specs.declared.bytes.Class.the-variants.{NameByte}
 use Rattle.scan.proofs.Running.{run-same}
-use Rattle.names.proofs.NameBytes.{name-bytes}
+use Rattle.read_names.proofs.NameBytes.{name-bytes}
 use borrow.Author.Needs.{needs}
-use Rattle.names.proofs.name_end.Statement.{statement}
-use Rattle.names.proofs.name_end.Tie as tie
+use Rattle.read_names.proofs.name_end.Statement.{statement}
+use Rattle.read_names.proofs.name_end.Tie as tie
 
 run-of-requires : tie.Need-run-of-requires
 run-of-requires c κs = search needs

@@ -1,12 +1,12 @@
 use Prim.Native.Nat.{_≤_}
 use mathlib.Core.Path.{_≡_, refl}
 use native.Mathlib.Omega.{arith}
-use Rattle.names.specs.Names.{optionNames, namesOf}
+use Rattle.read_names.specs.Names.{optionNames, namesOf}
 use Rattle.definitions.specs.Options.{optionTable}
-use Rattle.names.proofs.Same.{past}
+use Rattle.read_names.proofs.Same.{past}
 use borrow.Author.Needs.{needs}
-use Rattle.names.proofs.name_is.Statement.{statement}
-use Rattle.names.proofs.name_is.Tie as tie
+use Rattle.read_names.proofs.name_is.Statement.{statement}
+use Rattle.read_names.proofs.name_is.Tie as tie
 
 slice-aggregate-same-word : tie.Need-slice-aggregate-same-word
 slice-aggregate-same-word c = refl

@@ -12,7 +12,7 @@ use borrow.Author.Tests.{eq-eqb, ne-eqb}
 use Rattle.forms.specs.Bytes.{lower, sameWord}
 use Rattle.forms.proofs.Bools.{by-cases}
 use Rattle.definitions.specs.Options.{optionTable}
-use Rattle.names.specs.Names.{optionCount, namesOf, optionNames, placeIn}
+use Rattle.read_names.specs.Names.{optionCount, namesOf, optionNames, placeIn}
 
 -- words of other lengths are not the same
 pub other-length : (x w : List ℕ) → (length x ≡ length w → ⊥) → sameWord x w ≡ false

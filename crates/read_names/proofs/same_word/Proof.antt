@@ -3,9 +3,9 @@ use mathlib.Core.Path.{_≡_, refl, sym, ap, _∙_}
 use native.Mathlib.Omega.{arith}
 use Prim.Native.Nat.{_-_}
 use lib.ListN.{length, take, drop}
-use Rattle.names.proofs.Same.{other-length, Still, letters-on, letters-off, letters-out, part-length, part-at}
-use Rattle.names.proofs.same_word.Statement.{statement}
-use Rattle.names.proofs.same_word.Tie as tie
+use Rattle.read_names.proofs.Same.{other-length, Still, letters-on, letters-off, letters-out, part-length, part-at}
+use Rattle.read_names.proofs.same_word.Statement.{statement}
+use Rattle.read_names.proofs.same_word.Tie as tie
 
 abbrev Inv-loop : tie.InvT-loop
 Inv-loop s from to w i₀ i = (length (take (to - from) (drop from s)) ≡ length w) × (to - from ≡ length w) × Still (take (to - from) (drop from s)) w i

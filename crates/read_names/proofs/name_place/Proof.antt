@@ -2,10 +2,10 @@ use mathlib.Core.Path.{_≡_, refl, sym, _∙_}
 use native.Mathlib.Omega.{arith}
 use Prim.Native.Nat.{_-_, _≤_}
 use lib.ListN.{length, take, drop}
-use Rattle.names.specs.Names.{optionCount, optionNames}
-use Rattle.names.proofs.Same.{names-count, Place, place-start, place-found, place-on, place-none}
-use Rattle.names.proofs.name_place.Statement.{statement}
-use Rattle.names.proofs.name_place.Tie as tie
+use Rattle.read_names.specs.Names.{optionCount, optionNames}
+use Rattle.read_names.proofs.Same.{names-count, Place, place-start, place-found, place-on, place-none}
+use Rattle.read_names.proofs.name_place.Statement.{statement}
+use Rattle.read_names.proofs.name_place.Tie as tie
 
 abbrev Inv-loop : tie.InvT-loop
 Inv-loop s from to k₀ k = (length optionNames ≡ optionCount) × (k ≤ optionCount) × Place optionNames (take (to - from) (drop from s)) k

@@ -5,7 +5,7 @@ ghost use mathlib.Core.List.{[]};
 ghost use lib.ListN.{length, getD, take, drop};
 ghost use Rattle.forms.specs.Bytes.{sameWord, run};
 ghost use Rattle.definitions.specs.Options.{inName};
-ghost use Rattle.names.specs.Names.{optionCount, optionNames, placeIn};
+ghost use Rattle.read_names.specs.Names.{optionCount, optionNames, placeIn};
 use definitions::limits::OPTIONS;
 use letters::lower_of;
 use scan::bytes::Class;
