@@ -1,15 +1,12 @@
--- An option with nothing beside its value, and its place in the table.
+-- An option with nothing beside its value.
 use mathlib.Core.Path.{_≡_, refl, sym, subst}
 use mathlib.Core.Bool.{true}
-use mathlib.Core.List.{List, [], _∷_}
-use Prim.Native.Nat.{ℕ, zero, suc, _≤_}
+use mathlib.Core.List.{List, []}
+use Prim.Native.Nat.{ℕ, _≤_}
 use lib.ListN.{length}
 use Rattle.forms.specs.Form.{Form}
 use Rattle.forms.specs.Scan.{fair}
-use Rattle.forms.proofs.Bools.{both-left, both-right}
 use Rattle.definitions.specs.Entries.{Entry}
-use Rattle.definitions.specs.Options.{Option, optionTable}
-use Rattle.definitions.proofs.Fair.{allFair, options-fair}
 use Rattle.entry.specs.declared.Value.{Value}
 use Rattle.entry.specs.declared.Value.the-variants as value
 use Rattle.entry.specs.Values.{roomOf, entryOf, Plain}
@@ -19,7 +16,7 @@ use Rattle.options.specs.declared.valued.Valued.{Valued}
 use Rattle.reader_state.specs.State.{Apart}
 use Rattle.values.proofs.Rooms.{appended-none}
 use Rattle.option_values.specs.declared.parsed.Parsed.{Parsed}
-use Rattle.option_values.specs.Parsing.{plainParsed, Parses, nthForm}
+use Rattle.option_values.specs.Parsing.{plainParsed, Parses}
 use Rattle.option_values.proofs.Onward.{grown-none}
 
 plain-apart : (s : List ℕ) (v : Value) → Plain v → Apart s v [] []
@@ -48,13 +45,3 @@ plain-parses {f} {s} {at} {bytes} {used} {v} {r} w h q p e =
       apart = λ n g. plain-apart s (v .value) p;
       grown = λ n g. grown-none w h q n g;
     })
-
--- one byte of look-ahead decides in the form at every place
-forms-fair : (os : List Option) (k : ℕ) → allFair os ≡ true → fair (nthForm k os) ≡ true
-unfolding nthForm allFair
-forms-fair [] k e = refl
-forms-fair (o ∷ os) zero e = both-left (fair (o .form)) (allFair os) e
-forms-fair (o ∷ os) (suc k) e = forms-fair os k (both-right (fair (o .form)) (allFair os) e)
-
-pub nth-fair : (k : ℕ) → fair (nthForm k optionTable) ≡ true
-nth-fair k = forms-fair optionTable k options-fair

@@ -1,15 +1,13 @@
 -- An option read behind its name: the entry that its value stands for, and what stands beside the value.
-use Prim.Native.Nat.{ℕ, zero, suc, _+_, _≤_}
+use Prim.Native.Nat.{ℕ, _+_, _≤_}
 use mathlib.Core.Path.{_≡_}
-use mathlib.Core.List.{List, [], _∷_}
+use mathlib.Core.List.{List}
 use lib.ListN.{length, take, replicate}
 use Rattle.forms.specs.Form.{Form}
 use Rattle.definitions.specs.declared.table.Address.{Address}
 use Rattle.definitions.specs.Limits.{addressesMost}
 use Rattle.definitions.specs.Lists.{padded}
 use Rattle.definitions.specs.Entries.{Entry}
-use Rattle.definitions.specs.Forms.{nameForm}
-use Rattle.definitions.specs.Options.{Option}
 use Rattle.definitions.specs.Tables.{noAddress}
 use Rattle.entry.specs.Values.{Room, entryOf, appended}
 use Rattle.scan_cursors.specs.declared.Cursor.the-variants.{Going}
@@ -30,9 +28,3 @@ pub record Parses (f : Form Entry) (s : List ℕ) (at : ℕ) (room to : Room) (r
   pub stored : to ≡ appended room b
   pub apart : (n : ℕ) → r .cursor ≡ Going n → Apart s (r .value) al b
   pub grown : (n : ℕ) → r .cursor ≡ Going n → at + length b ≤ n
-
--- the form at a place of the table of options; behind its end any
-unfoldable pub nthForm : ℕ → List Option → Form Entry
-nthForm k [] = nameForm
-nthForm zero (o ∷ os) = o .form
-nthForm (suc k) (o ∷ os) = nthForm k os

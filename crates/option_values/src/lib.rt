@@ -1,4 +1,4 @@
-// An option's value by the place of its name in document 01's table, with what stands beside it.
+// An option's value by its name in document 01's table, with what stands beside it.
+pub mod by_name;
 mod lists;
 pub mod parsed;
-pub mod places;

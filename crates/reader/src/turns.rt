@@ -7,12 +7,12 @@ ghost use Rattle.reader.specs.Turning.{Turnable, Turns, turnBy, turnOnly
 use definitions::answers::Due;
 use definitions::answers::Refusal;
 use definitions::limits::ITEMS;
-use definitions::limits::OPTIONS;
 use definitions::table::Slot;
 use enter::enter;
-use option_values::places::option_by_place;
+use option_values::by_name::option_by_name;
 use read_names::name_end;
-use read_names::name_place;
+use read_names::option_named;
+use read_names::options::Lookup;
 use reader_state::State;
 use reader_state::no_slot;
 use scan_cursors::Cursor;
@@ -52,11 +52,11 @@ fn option_turn(s: &[u8], bytes: &mut [u8], st: State, last: Slot, at: usize) -> 
 {
     let from = at + 2;
     let to = name_end(s, from);
-    let k = name_place(s, from, to);
-    if OPTIONS <= k {
+    let found = option_named(s, from, to);
+    let Lookup::Found(option) = found else {
         return turn_only(Turn::Refused(Refusal::NotListed, at), st);
-    }
-    let p = option_by_place(s, to, k, bytes, st.used);
+    };
+    let p = option_by_name(s, to, option, bytes, st.used);
     let cursor = p.cursor;
     match cursor {
         Cursor::Going(next) => {

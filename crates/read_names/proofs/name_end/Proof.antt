@@ -17,8 +17,8 @@ run-of-requires c κs = search needs
 
 returns : tie.Need-returns
 returns c =
-    c .run-of .ensures
-    ∙ ap (λ (n : ℕ). c .before .before .args .at + n) (run-same (has (classOf NameByte)) inName name-bytes (drop (c .before .before .args .at) (c .before .before .args .s .now)))
+    let x = c .before .before .args in
+    c .run-of .ensures ∙ ap (λ (n : ℕ). x .at + n) (run-same (has (classOf NameByte)) inName name-bytes (drop (x .at) (x .s .now)))
 
 pub name-end-spec : {M : Type 1} → statement M
 name-end-spec = tie.close (tie.spec run-of-requires returns)

@@ -12,7 +12,7 @@ use Rattle.reader_state.specs.State.{Holds, entryIn, saidAlso}
 use Rattle.enter.proofs.OneMore.{bytes-full}
 use Rattle.reader.specs.declared.turns.Turn.{Turn}
 use Rattle.reader.specs.Turning.{TurnsTo}
-use Rattle.reader.proofs.Listed.{option-listed, option-unlisted, name-inside}
+use Rattle.reader.proofs.Listed.{option-at, name-inside}
 use Rattle.reader.proofs.Steps.{taken-unlisted, taken-stopped, taken-over, read-behind, turned, going-inside}
 use borrow.Author.Needs.{needs}
 use Rattle.reader.proofs.turns.option_turn.Statement.{statement}
@@ -24,8 +24,14 @@ add-from c = search needs
 name-end-requires : tie.Need-name-end-requires
 name-end-requires c κs = search needs
 
-name-place-requires : tie.Need-name-place-requires
-name-place-requires c κs = let g = name-inside _ _ (c .before .before .before .pre .inside) (c .name-end .ensures) in (g .0, g .1)
+option-named-requires : tie.Need-option-named-requires
+option-named-requires c κs = let g = name-inside _ _ (c .before .before .before .pre .inside) (c .name-end .ensures) in (g .0, g .1)
+
+enum-known-found : tie.Need-enum-known-found
+enum-known-found c = search needs
+
+enum-told : tie.Need-enum-told
+enum-told c = search needs
 
 turn-only-requires : tie.Need-turn-only-requires
 turn-only-requires c κs = tt
@@ -36,27 +42,30 @@ returns c =
     rw (c .turn-only .ensures)
     (λ K.
     taken-unlisted _ _ _ K
-    (option-unlisted _ _ _ _ (c .before .before .before .name-end .ensures) (c .before .before .name-place .ensures) (c .before .if1 .taken)))
+    (option-at _ _ _ _ (c .before .before .before .before .name-end .ensures) (c .before .before .before .option-named .ensures) (c .before .enum-told .given .1)))
 
-option-by-place-requires : tie.Need-option-by-place-requires
-option-by-place-requires c κs =
-    let pre = c .before .before .before .before .before .before .pre in
-    let g = name-inside _ _ (pre .inside) (c .before .before .before .name-end .ensures) in
+option-by-name-requires : tie.Need-option-by-name-requires
+option-by-name-requires c κs =
+    let named = c .before .before .before .before .before in
+    let pre = named .before .before .before .pre in
+    let g = name-inside _ _ (pre .inside) (named .name-end .ensures) in
     let u = pre .behind in
     let i = pre .inside in
     let l = pre .short in
-    (g .1, l, omega (arith, u, g .0), bytes-full (pre .holds) (omega (arith, u, i, l)), c .before .if1 .left)
+    (g .1, l, omega (arith, u, g .0), bytes-full (pre .holds) (omega (arith, u, i, l)))
 
 enum-known-cursor : tie.Need-enum-known-cursor
 enum-known-cursor c = search needs
 
 enter-requires : tie.Need-enter-requires
 enter-requires c κs =
-    let start = c .before .before .before .before .before .before .before .before .before .before .before .before .before in
+    let parsed = c .before .before .before .before .before .before in
+    let named = parsed .before .before .before .before .before .before in
+    let start = named .before .before .before in
     let pre = start .pre in
-    let read = c .before .before .before .before .before .before .option-by-place in
+    let read = parsed .option-by-name in
     let q = c .before .before .cursor .given .1 in
-    let g = name-inside _ _ (pre .inside) (c .before .before .before .before .before .before .before .before .before .before .name-end .ensures) in
+    let g = name-inside _ _ (pre .inside) (named .name-end .ensures) in
     let z = going-inside (start .args .s .now) (read .result .cursor) _ (read .ensures .reads .inside) q in
     let u = pre .behind in
     read-behind (pre .said) (read .result) (read .ensures) (pre .holds) (pre .latest) _ q (omega (arith, u, g .0)) z (pre .short)
@@ -64,14 +73,14 @@ enter-requires c κs =
 turn-by-requires : tie.Need-turn-by-requires
 turn-by-requires c κs = tt
 
-enum-told : tie.Need-enum-told
-enum-told c = search needs
+enum-told-2 : tie.Need-enum-told-2
+enum-told-2 c = search needs
 
 turn-only-requires-2 : tie.Need-turn-only-requires-2
 turn-only-requires-2 c κs = tt
 
-enum-told-2 : tie.Need-enum-told-2
-enum-told-2 c = search needs
+enum-told-3 : tie.Need-enum-told-3
+enum-told-3 c = search needs
 
 turn-only-requires-3 : tie.Need-turn-only-requires-3
 turn-only-requires-3 c κs = tt
@@ -80,15 +89,17 @@ returns-2 : tie.Need-returns-2
 unfolding read-behind
 returns-2 c =
     λ said items held latest.
-    let start = c .before .before .before .before .before .before .before .before .before .before .before .before .before .before .before .before .before in
+    let parsed = c .before .before .before .before .before .before .before .before .before .before in
+    let known = parsed .before .before .before in
+    let named = known .before .before .before in
+    let start = named .before .before .before in
     let x = start .args in
     let pre = start .pre in
-    let read = c .before .before .before .before .before .before .before .before .before .before .option-by-place in
+    let read = parsed .option-by-name in
     let P = read .ensures in
     let q = c .before .before .before .before .before .before .cursor .given .1 in
     let entered = c .before .before .before .enter in
-    let tested = c .before .before .before .before .before .before .before .before .before .before .before .before in
-    let ended = tested .before .before .name-end .ensures in
+    let ended = named .name-end .ensures in
     let g = name-inside _ _ (pre .inside) ended in
     let z = going-inside (x .s .now) (read .result .cursor) _ (P .reads .inside) q in
     let u = pre .behind in
@@ -97,7 +108,7 @@ returns-2 c =
     let after : List ℕ = read .last .1 .1 .1 .0 in
     let put : List Slot = set items (entered .result .place) (entered .result .slot) in
     let i =
-    option-listed _ _ _ _ ended (tested .before .name-place .ensures) (tested .if1 .left)
+    option-at _ _ _ _ ended (known .before .before .option-named .ensures) (known .found .given .1)
     ∙ ap listed (sym (P .reads .reads) ∙ ap (readBy (entryOf _ (read .result .value) (P .al) (P .b))) q) in
     subst (λ (t : Turn). TurnsTo (x .s .now) said (x .at) t (entered .result .state) after put) (sym (c .turn-by .ensures))
     (turned _ said _ _ _ after items put _ _ _ (P .al) (P .b) (P .apart _ q) held i z (omega (arith, g .0, w)) (omega (arith, u, g .0, w)) _
@@ -112,11 +123,12 @@ same-length c = search needs
 returns-3 : tie.Need-returns-3
 returns-3 c =
     λ said items held latest.
-    let P = c .before .before .before .before .before .option-by-place .ensures in
-    let tested = c .before .before .before .before .before .before .before in
-    let named = tested .before .before .name-end .ensures in
-    let i = option-listed _ _ _ _ named (tested .before .name-place .ensures) (tested .if1 .left) ∙ ap listed (sym (P .reads .reads)) in
-    rw (c .turn-only2 .ensures) (λ K. taken-over _ _ _ K _ _ i (c .before .enum-told .given .1))
+    let parsed = c .before .before .before .before .before in
+    let known = parsed .before .before .before in
+    let P = parsed .option-by-name .ensures in
+    let ended = known .before .before .before .name-end .ensures in
+    let i = option-at _ _ _ _ ended (known .before .before .option-named .ensures) (known .found .given .1) ∙ ap listed (sym (P .reads .reads)) in
+    rw (c .turn-only2 .ensures) (λ K. taken-over _ _ _ K _ _ i (c .before .enum-told2 .given .1))
 
 same-length-2 : tie.Need-same-length-2
 same-length-2 c = search needs
@@ -124,11 +136,12 @@ same-length-2 c = search needs
 returns-4 : tie.Need-returns-4
 returns-4 c =
     λ said items held latest.
-    let P = c .before .before .before .before .before .option-by-place .ensures in
-    let tested = c .before .before .before .before .before .before .before in
-    let named = tested .before .before .name-end .ensures in
-    let i = option-listed _ _ _ _ named (tested .before .name-place .ensures) (tested .if1 .left) ∙ ap listed (sym (P .reads .reads)) in
-    rw (c .turn-only3 .ensures) (λ K. taken-stopped _ _ _ K _ _ i (c .before .enum-told2 .given .1))
+    let parsed = c .before .before .before .before .before in
+    let known = parsed .before .before .before in
+    let P = parsed .option-by-name .ensures in
+    let ended = known .before .before .before .name-end .ensures in
+    let i = option-at _ _ _ _ ended (known .before .before .option-named .ensures) (known .found .given .1) ∙ ap listed (sym (P .reads .reads)) in
+    rw (c .turn-only3 .ensures) (λ K. taken-stopped _ _ _ K _ _ i (c .before .enum-told3 .given .1))
 
 same-length-3 : tie.Need-same-length-3
 same-length-3 c = search needs
@@ -139,16 +152,18 @@ option-turn-spec =
     (tie.spec
     add-from
     name-end-requires
-    name-place-requires
+    option-named-requires
+    enum-known-found
+    enum-told
     turn-only-requires
     returns
-    option-by-place-requires
+    option-by-name-requires
     enum-known-cursor
     enter-requires
     turn-by-requires
-    enum-told
-    turn-only-requires-2
     enum-told-2
+    turn-only-requires-2
+    enum-told-3
     turn-only-requires-3
     same-length
     returns-2

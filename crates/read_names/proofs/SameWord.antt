@@ -1,4 +1,4 @@
--- Comparing a name with words: letter by letter, and word by word in the table.
+-- Comparing a part of a text with a word, letter by letter.
 use mathlib.Core.Path.{_≡_, refl, ap, _∙_}
 use mathlib.Core.Bool.{true, false, _&&_}
 use mathlib.Core.List.{List, [], _∷_}
@@ -11,8 +11,6 @@ use lib.Dec.{eqb}
 use borrow.Author.Tests.{eq-eqb, ne-eqb}
 use Rattle.forms.specs.Bytes.{lower, sameWord}
 use Rattle.forms.proofs.Bools.{by-cases}
-use Rattle.definitions.specs.Options.{optionTable}
-use Rattle.read_names.specs.Names.{optionCount, namesOf, optionNames, placeIn}
 
 -- words of other lengths are not the same
 pub other-length : (x w : List ℕ) → (length x ≡ length w → ⊥) → sameWord x w ≡ false
@@ -49,32 +47,3 @@ module _ (s : List ℕ) (from to : ℕ) (h : from ≤ to) (g : to ≤ length s) 
 
   pub part-at : (i : ℕ) → i < to - from → getD (take (to - from) (drop from s)) i 0 ≡ getD s (from + i) 0
   part-at i k = getD-take (to - from) (drop from s) i 0 k ∙ getD-drop from s i 0
-
--- ---- a place among words
-
-abbrev pub Place : List (List ℕ) → List ℕ → ℕ → Type 0
-Place ws n k = placeIn ws n ≡ k + placeIn (drop k ws) n
-
-module _ (ws : List (List ℕ)) (n : List ℕ) (k : ℕ) (h : k < length ws) (u : Place ws n k) where
-  pub place-found : sameWord n (getD ws k []) ≡ true → k ≡ placeIn ws n
-  unfolding placeIn
-  place-found e = let z : placeIn (drop k ws) n ≡ 0 = rw (drop-cons ws k [] h, e) in omega (arith, u, z)
-
-  pub place-on : sameWord n (getD ws k []) ≡ false → Place ws n (k + 1)
-  unfolding placeIn
-  place-on e = let z : placeIn (drop k ws) n ≡ suc (placeIn (drop (suc k) ws) n) = rw (drop-cons ws k [] h, e) in rw add-one (omega (arith, u, z))
-
-pub place-none : (ws : List (List ℕ)) (n : List ℕ) (k : ℕ) → length ws ≤ k → Place ws n k → k ≡ placeIn ws n
-unfolding placeIn
-place-none ws n k h u = let z : placeIn (drop k ws) n ≡ 0 = rw (drop-of-length-le ws {i = k} h) in omega (arith, u, z)
-
-pub names-count : length optionNames ≡ optionCount
-unfolding optionNames namesOf optionTable
-names-count = refl
-
--- a number that is at least j and not j is more
-pub past : (j k : ℕ) → j ≤ k → (k ≡ j → ⊥) → j + 1 ≤ k
-past j k h n = omega (arith, h, n)
-
-pub place-start : (ws : List (List ℕ)) (n : List ℕ) → Place ws n 0
-place-start ws n = omega arith

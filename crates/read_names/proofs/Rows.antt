@@ -1,0 +1,86 @@
+-- The options are the rows of the definitions' table, in order; so the option of the first row with a name reads as that row.
+use mathlib.Core.Path.{_≡_, refl, sym, ap, _∙_}
+use mathlib.Core.Bool.{true, false}
+use mathlib.Core.List.{List, [], _∷_, map, head-eq-of-cons-eq, tail-eq-of-cons-eq}
+use Prim.Native.Nat.{ℕ, zero, suc, _+_, _≤_, _<_}
+use native.Mathlib.Omega.{arith}
+use native.Mathlib.Numerals.{add-one}
+use lib.ListN.{length, getD, drop, drop-of-length-le}
+use lib.Seq.{drop-cons}
+use Rattle.forms.specs.Bytes.{if_then_else_, sameWord}
+use Rattle.forms.specs.Form.{Form}
+use Rattle.forms.specs.Place.{readAt}
+use Rattle.forms.proofs.Bools.{by-cases}
+use Rattle.definitions.specs.Entries.{Entry}
+use Rattle.definitions.specs.Options.{Option, optionTable, parsed, listed, unlisted}
+use Rattle.read_names.specs.declared.options.OptionName.{OptionName}
+use Rattle.read_names.specs.declared.options.Lookup.{Lookup}
+use Rattle.read_names.specs.declared.options.Lookup.the-variants.{Found, Unlisted}
+use Rattle.read_names.specs.Names.{optionOrder, formOf, optionNames, optionCount, foundIf, optionNamed, parsedAs}
+
+pub rows-in-order : map formOf optionOrder ≡ map (λ row. row .form) optionTable
+unfolding optionOrder formOf optionTable
+rows-in-order = refl
+
+pub names-count : length optionNames ≡ optionCount
+unfolding optionNames optionTable
+names-count = refl
+
+pub order-count : length optionOrder ≡ optionCount
+unfolding optionOrder
+order-count = refl
+
+-- ---- the first row with a name, row by row
+
+-- what is still to come behind the first k rows
+abbrev pub Left : List OptionName → List (List ℕ) → List ℕ → ℕ → Type 0
+Left os ws n k = optionNamed os ws n ≡ optionNamed (drop k os) (drop k ws) n
+
+module _ (os : List OptionName) (ws : List (List ℕ)) (n : List ℕ) (k : ℕ) (d : OptionName) (h : k < length os) (g : k < length ws) (u : Left os ws n k) where
+  row : optionNamed (drop k os) (drop k ws) n ≡ (if sameWord n (getD ws k []) then Found (getD os k d) else optionNamed (drop (suc k) os) (drop (suc k) ws) n)
+  unfolding optionNamed
+  row = rw (drop-cons os k d h, drop-cons ws k [] g)
+
+  pub row-found : {o : OptionName} → foundIf (sameWord n (getD ws k [])) (getD os k d) ≡ Found o → Found o ≡ optionNamed os ws n
+  row-found {o} e =
+      by-cases (sameWord n (getD ws k []))
+      (λ t. let f : Found (getD os k d) ≡ Found o = rw t at e in sym f ∙ sym (u ∙ row ∙ rw t))
+      (λ t. let f : Unlisted ≡ Found o = rw t at e in absurd (let z : _≡_ {A = ℕ} 0 1 = cc in omega arith))
+
+  pub row-passed : foundIf (sameWord n (getD ws k [])) (getD os k d) ≡ Unlisted → Left os ws n (k + 1)
+  row-passed e =
+      by-cases (sameWord n (getD ws k []))
+      (λ t. let f : Found (getD os k d) ≡ Unlisted = rw t at e in absurd (let z : _≡_ {A = ℕ} 0 1 = cc in omega arith))
+      (λ t. rw add-one (u ∙ row ∙ rw t))
+
+pub rows-out : (os : List OptionName) (ws : List (List ℕ)) (n : List ℕ) (k : ℕ) → length os ≤ k → Left os ws n k → Unlisted ≡ optionNamed os ws n
+unfolding optionNamed
+rows-out os ws n k h u = sym (u ∙ rw (drop-of-length-le os {i = k} h))
+
+-- ---- what the definition reads
+
+parsed-by : (os : List OptionName) (rows : List Option) → map formOf os ≡ map (λ row. row .form) rows
+    → (n s : List ℕ) (at : ℕ) → parsed rows n s at ≡ parsedAs (optionNamed os (map (λ row. row .name) rows) n) s at
+unfolding parsed optionNamed
+parsed-by [] [] e n s at = refl
+parsed-by [] (r ∷ rows) e n s at = absurd (omega (arith, ap length e))
+parsed-by (o ∷ os) [] e n s at = absurd (omega (arith, ap length e))
+parsed-by (o ∷ os) (r ∷ rows) e n s at =
+    by-cases (sameWord n (r .name))
+    (λ t. rw t (ap (λ (f : Form Entry). listed (readAt f s at)) (sym (head-eq-of-cons-eq e))))
+    (λ t. rw t (parsed-by os rows (tail-eq-of-cons-eq e) n s at))
+
+pub parsed-named : (n s : List ℕ) (at : ℕ) → parsed optionTable n s at ≡ parsedAs (optionNamed optionOrder optionNames n) s at
+unfolding optionNames
+parsed-named n s at = parsed-by optionOrder optionTable rows-in-order n s at
+
+-- ---- the last row
+
+-- none of the numbers below j
+abbrev pub NoneBelow : ℕ → ℕ → Type 0
+NoneBelow k zero = Unit {0}
+NoneBelow k (suc j) = NoneBelow k j × (k ≡ j → ⊥)
+
+pub none-below : (j k : ℕ) → NoneBelow k j → j ≤ k
+none-below zero k h = omega arith
+none-below (suc j) k h = let g = none-below j k (h .0) in let n = h .1 in omega (arith, g, n)
