@@ -1,3 +1,3 @@
--- Laws of scanning onward, and of options with nothing beside their values.
-pub mod Onward
-pub mod Plainly
+-- Laws of where reading ends, and of options with nothing beside their values.
+pub mod EndPlaces
+pub mod PlainOptions

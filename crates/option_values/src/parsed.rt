@@ -1,4 +1,4 @@
-// An option read behind its name: its value, the addresses beside it, how many pattern bytes are in use, and where scanning stands.
+// What is read of an option behind its name.
 ghost use mathlib.Core.Path.{_≡_};
 ghost use Rattle.option_values.specs.Parsing.{plainParsed};
 use definitions::limits::ADDRESSES;
@@ -8,6 +8,7 @@ use entry::no_addresses;
 use options::valued::Valued;
 use scan_cursors::Cursor;
 
+// An option's value, the addresses beside it, how many pattern bytes are in use behind it, and where scanning stands.
 pub struct Parsed {
     pub value: Value,
     pub list: [Address; ADDRESSES],

@@ -2,7 +2,7 @@
 use mathlib.Core.Path.{refl}
 use native.Mathlib.Omega.{arith}
 use Rattle.read_names.specs.Names.{formOf}
-use Rattle.option_values.proofs.Plainly.{plain-parses}
+use Rattle.option_values.proofs.PlainOptions.{plain-parses}
 use borrow.Author.Needs.{needs}
 use Rattle.option_values.proofs.by_name.option_by_name.Statement.{statement}
 use Rattle.option_values.proofs.by_name.option_by_name.Tie as tie

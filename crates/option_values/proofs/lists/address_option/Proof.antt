@@ -4,7 +4,7 @@ use mathlib.Core.List.{[]}
 use Rattle.entry.specs.Values.{roomOf, entryOf}
 use Rattle.scan_cursors.proofs.Readings.{made-reads, pair-reads, inside-at, joined-reads}
 use Rattle.options.proofs.Closing.{valued-reads}
-use Rattle.option_values.proofs.Onward.{grown-none}
+use Rattle.option_values.proofs.EndPlaces.{grown-none}
 use Rattle.values.proofs.Rooms.{appended-none}
 use borrow.Author.Needs.{needs}
 use Rattle.option_values.proofs.lists.address_option.Statement.{statement}

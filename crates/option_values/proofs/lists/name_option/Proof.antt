@@ -4,7 +4,7 @@ use mathlib.Core.List.{[]}
 use Rattle.entry.specs.Values.{roomOf, entryOf}
 use Rattle.scan_cursors.proofs.Readings.{made-reads, inside-at, joined-reads}
 use Rattle.options.proofs.Closing.{valued-reads}
-use Rattle.option_values.proofs.Onward.{joined-going, grown-none}
+use Rattle.option_values.proofs.EndPlaces.{joined-going, grown-none}
 use Rattle.values.proofs.Rooms.{appended-none}
 use Rattle.definitions.specs.Forms.{nameForm}
 use Rattle.scan_cursors.specs.Reads.{Reads}

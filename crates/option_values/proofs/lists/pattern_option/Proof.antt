@@ -5,7 +5,7 @@ use mathlib.Core.List.{[]}
 use Rattle.entry.specs.Values.{entryOf}
 use Rattle.scan_cursors.proofs.Readings.{skip-reads, made-reads, pair-reads, inside-at, joined-reads}
 use Rattle.options.proofs.Closing.{valued-reads}
-use Rattle.option_values.proofs.Onward.{onward, joined-going, going-place}
+use Rattle.option_values.proofs.EndPlaces.{onward, joined-going, going-place}
 use Rattle.forms.specs.Pieces.{skip, sign}
 use Rattle.definitions.specs.Forms.{gap, spaces, negation}
 use borrow.Author.Needs.{needs}

@@ -17,7 +17,7 @@ use Rattle.reader_state.specs.State.{Apart}
 use Rattle.values.proofs.Rooms.{appended-none}
 use Rattle.option_values.specs.declared.parsed.Parsed.{Parsed}
 use Rattle.option_values.specs.Parsing.{plainParsed, Parses}
-use Rattle.option_values.proofs.Onward.{grown-none}
+use Rattle.option_values.proofs.EndPlaces.{grown-none}
 
 plain-apart : (s : List ℕ) (v : Value) → Plain v → Apart s v [] []
 plain-apart s (value.Name from n) p = absurd p

@@ -1,4 +1,4 @@
--- Scanning goes onward: what is read from a place ends no earlier, and it goes on only where each part of it went on.
+-- Where reading ends: no earlier than the place from which it began, and a reading of two parts goes on only where each of them did.
 use mathlib.Core.Path.{_≡_, refl, sym, ap, _∙_}
 use mathlib.Core.Bool.{true}
 use mathlib.Core.List.{List, [], _∷_, _++_}
@@ -38,8 +38,11 @@ onward-at {A} f w s at h = go (over f (drop at s)) (scan f (drop at s)) refl
     go (x ∷ o) (Got v r) e = let i = sound-loose f (drop at s) v r e in left-behind s at (i .0) r h (i .1)
     go o (Stop r) e = let i = begun f w (drop at s) r e in left-behind s at (i .0) r h (i .3)
 
-pub onward : {A : Type 0} {f : Form A} {s : List ℕ} {at : ℕ} {v : A} {d : Cursor} → fair f ≡ true → at ≤ length s → Reads f s (Going at) v d → at ≤ placeOf d
-onward {A} {f} {s} {at} {v} {d} w h r = let e : placeBy (readAt f s at) ≡ placeOf d = sym (ap placeBy (r .reads)) ∙ place-by v d in rw (sym e) (onward-at f w s at h)
+pub onward : {A : Type 0} {f : Form A} {s : List ℕ} {at : ℕ} {v : A} {d : Cursor}
+    → fair f ≡ true → at ≤ length s → Reads f s (Going at) v d → at ≤ placeOf d
+onward {A} {f} {s} {at} {v} {d} w h r =
+    let e : placeBy (readAt f s at) ≡ placeOf d = sym (ap placeBy (r .reads)) ∙ place-by v d in
+    rw (sym e) (onward-at f w s at h)
 
 -- where joined cursors go on, both went on
 pub joined-going : (c d : Cursor) (n : ℕ) → joined c d ≡ Going n → (m : ℕ) × (c ≡ Going m) × (d ≡ Going n)
@@ -53,5 +56,6 @@ pub going-place : (d : Cursor) (n : ℕ) → d ≡ Going n → placeOf d ≡ n
 going-place d n e = ap placeOf e
 
 -- an option without pattern bytes ends no earlier than it began
-pub grown-none : {A : Type 0} {f : Form A} {s : List ℕ} {at : ℕ} {v : A} {d : Cursor} → fair f ≡ true → at ≤ length s → Reads f s (Going at) v d → (n : ℕ) → d ≡ Going n → at + 0 ≤ n
+pub grown-none : {A : Type 0} {f : Form A} {s : List ℕ} {at : ℕ} {v : A} {d : Cursor}
+    → fair f ≡ true → at ≤ length s → Reads f s (Going at) v d → (n : ℕ) → d ≡ Going n → at + 0 ≤ n
 grown-none {d = d} w h r n e = omega (arith, onward w h r, going-place d n e)
