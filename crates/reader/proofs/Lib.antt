@@ -2,4 +2,3 @@
 pub mod Listed
 pub mod Steps
 pub mod Looping
-pub mod Frame

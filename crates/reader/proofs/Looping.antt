@@ -1,66 +1,26 @@
 -- One turn of the loop over a text, as the definition takes it.
 use mathlib.Core.Path.{_≡_, refl, sym, ap, _∙_, subst}
-use mathlib.Core.Bool.{Bool, true, false, _&&_}
+use mathlib.Core.Bool.{true, false}
 use mathlib.Core.List.{List, [], _∷_, _++_}
-use Prim.Native.Nat.{ℕ, suc, _+_, _-_, _≤_, _<_}
+use Prim.Native.Nat.{ℕ, _+_, _-_, _≤_, _<_}
 use native.Mathlib.Omega.{arith}
-use native.Mathlib.Numerals.{add-one}
 use lib.ListN.{length, getD, set, take, drop, length-take, length-drop, take-append-drop, drop-of-length-le}
-use lib.Seq.{drop-cons, drop-drop}
+use lib.Seq.{drop-drop}
 use lib.Dec.{eqb}
 use borrow.Author.Tests.{ne-eqb, eqb-true, eqb-false}
 use Rattle.forms.proofs.Bools.{by-cases}
 use Rattle.definitions.specs.declared.answers.Refusal.the-variants as refusal
 use Rattle.definitions.specs.declared.table.Slot.{Slot}
-use Rattle.definitions.specs.Lists.{sameBytes}
 use Rattle.definitions.specs.Options.{optionAt}
 use Rattle.definitions.specs.Reading.{Said, entriesOf, refused, taken, dashes, options}
 use Rattle.syntax.proofs.Loop.{passed-over}
+use Rattle.read_frame.proofs.Dashes.{head}
 use Rattle.reader_state.specs.declared.State.{State}
 use Rattle.reader_state.specs.State.{Holds, lastSlot, saidAlso}
 use Rattle.reader.specs.declared.turns.Turn.{Turn}
 use Rattle.reader.specs.declared.turns.Turn.the-variants.{Next, Done, Refused}
 use Rattle.reader.specs.declared.turns.Turned.{Turned}
 use Rattle.reader.specs.Turning.{closingTurn, TurnsTo, GoesTo, Goes}
-
-module _ (s : List ℕ) (at : ℕ) (h : at < length s) where
-  head : drop at s ≡ getD s at 0 ∷ drop (at + 1) s
-  head = rw add-one (drop-cons s at 0 h)
-
--- `--` by its two bytes
-and-true : (t : Bool) → (t && true) ≡ t
-and-true true = refl
-and-true false = refl
-
-module _ (s : List ℕ) (at : ℕ) (h : at < length s) where
-  pub dashes-both : getD s at 0 ≡ 45 → at + 1 < length s → eqb (getD s (at + 1) 0) 45 ≡ dashes (drop at s)
-  unfolding sameBytes
-  dashes-both e g = rw (head s at h, head s (at + 1) g, e) (sym (and-true (eqb (getD s (at + 1) 0) 45)))
-
-  pub dashes-one : getD s at 0 ≡ 45 → length s ≤ at + 1 → false ≡ dashes (drop at s)
-  unfolding sameBytes
-  dashes-one e g = rw (head s at h, drop-of-length-le s {i = at + 1} g, e)
-
-  pub dashes-none : (getD s at 0 ≡ 45 → ⊥) → false ≡ dashes (drop at s)
-  unfolding sameBytes
-  dashes-none n = rw (drop-cons s at 0 h) (go (drop (suc at) s))
-    where
-      go : (l : List ℕ) → false ≡ dashes (getD s at 0 ∷ l)
-      go [] = rw (ne-eqb (getD s at 0) 45 n)
-      go (x ∷ l) = rw (ne-eqb (getD s at 0) 45 n)
-
-  pub dashes-two : dashes (drop at s) ≡ true → at + 2 ≤ length s
-  unfolding sameBytes
-  dashes-two e = go (drop at s) refl e
-    where
-      go : (l : List ℕ) → drop at s ≡ l → dashes l ≡ true → at + 2 ≤ length s
-      go [] d q = absurd (let z : _≡_ {A = ℕ} 0 1 = cc in omega arith)
-      go (x ∷ []) d q = absurd (let z : (eqb x 45 && false) ≡ true = q in no (eqb x 45) z)
-        where
-          no : (t : Bool) → (t && false) ≡ true → ⊥
-          no true r = let z : _≡_ {A = ℕ} 0 1 = cc in omega arith
-          no false r = let z : _≡_ {A = ℕ} 0 1 = cc in omega arith
-      go (x ∷ (y ∷ l)) d q = omega (arith, ap length d, length-drop at s)
 
 -- ---- what the definition's loop does at a byte
 
@@ -84,19 +44,28 @@ module _ (s : List ℕ) (at : ℕ) (h : at < length s) (said : List Said) (st : 
         let d : dashes (getD s at 0 ∷ drop (at + 1) s) ≡ false = rw (head s at h) at e in
         rw (head s at h, ne-eqb (getD s at 0) 32 space, ne-eqb (getD s at 0) 41 close, d)
 
-    to-option : dashes (drop at s) ≡ true → options s (drop at s) 0 at said ≡ taken (optionAt s at) (entriesOf said) at (λ e next. options s (drop (at + 1) s) (next - (at + 1)) (at + 1) (saidAlso said at e))
+    to-option : dashes (drop at s) ≡ true
+        → options s (drop at s) 0 at said
+        ≡ taken (optionAt s at) (entriesOf said) at (λ e next. options s (drop (at + 1) s) (next - (at + 1)) (at + 1) (saidAlso said at e))
     unfolding options
-    to-option e = let d : dashes (getD s at 0 ∷ drop (at + 1) s) ≡ true = rw (head s at h) at e in rw (head s at h, ne-eqb (getD s at 0) 32 space, ne-eqb (getD s at 0) 41 close, d)
+    to-option e =
+        let d : dashes (getD s at 0 ∷ drop (at + 1) s) ≡ true = rw (head s at h) at e in
+        rw (head s at h, ne-eqb (getD s at 0) 32 space, ne-eqb (getD s at 0) 41 close, d)
 
-    passes : (n : ℕ) (more : List Said) → at + 2 ≤ n → n ≤ length s → options s (drop (at + 1) s) (n - (at + 1)) (at + 1) more ≡ options s (drop n s) 0 n more
+    passes : (n : ℕ) (more : List Said) → at + 2 ≤ n → n ≤ length s
+        → options s (drop (at + 1) s) (n - (at + 1)) (at + 1) more ≡ options s (drop n s) 0 n more
     passes n more a b =
         let k = n - (at + 1) in
         let x = take k (drop (at + 1) s) in
         let l : length x ≡ k = simp (length-take, length-drop) (omega arith) in
-        let d : drop (at + 1) s ≡ x ++ drop n s = sym (take-append-drop k (drop (at + 1) s)) ∙ ap (λ (r : List ℕ). x ++ r) (drop-drop k (at + 1) s ∙ ap (λ (m : ℕ). drop m s) (let z : at + 1 + k ≡ n = omega arith in z)) in
+        let q : at + 1 + k ≡ n = omega arith in
+        let d : drop (at + 1) s ≡ x ++ drop n s =
+        sym (take-append-drop k (drop (at + 1) s)) ∙ ap (λ (r : List ℕ). x ++ r) (drop-drop k (at + 1) s ∙ ap (λ (m : ℕ). drop m s) q) in
         let z : at + 1 + length x ≡ n = omega (arith, l) in
         subst (λ (m : ℕ). options s (drop (at + 1) s) m (at + 1) more ≡ options s (drop n s) 0 n more) l
-        (ap (λ (r : List ℕ). options s r (length x) (at + 1) more) d ∙ passed-over s x (drop n s) (at + 1) more ∙ ap (λ (m : ℕ). options s (drop n s) 0 m more) z)
+        (ap (λ (r : List ℕ). options s r (length x) (at + 1) more) d
+        ∙ passed-over s x (drop n s) (at + 1) more
+        ∙ ap (λ (m : ℕ). options s (drop n s) 0 m more) z)
 
     pub goes-option : (after : List ℕ) (items : List Slot) → dashes (drop at s) ≡ true → (t : Turn) (u : State) → TurnsTo s said at t u after items
         → GoesTo s said at bytes t u after items

@@ -10,6 +10,7 @@ use Rattle.definitions.specs.declared.table.Slot.{Slot}
 use Rattle.definitions.specs.Limits.{limits01, itemsMost}
 use Rattle.definitions.specs.declared.answers.Due.{Due}
 use Rattle.definitions.specs.declared.answers.Due.the-variants.{Fine, No as Not}
+use Rattle.definitions.specs.declared.answers.Refusal.{Refusal}
 use Rattle.definitions.specs.declared.answers.Refusal.the-variants as refusal
 use Rattle.definitions.specs.declared.table.Address.{Address}
 use Rattle.definitions.specs.Entries.{Entry}
@@ -24,6 +25,8 @@ use Rattle.entry.specs.Values.{Room, roomOf, entryOf}
 use Rattle.scan_cursors.specs.declared.Cursor.{Cursor}
 use Rattle.scan_cursors.specs.declared.Cursor.the-variants.{Going, Over, Stopped}
 use Rattle.scan_cursors.specs.Reads.{readBy, placeOf}
+use Rattle.read_frame.specs.declared.Ended.the-variants as ended
+use Rattle.read_frame.specs.Framing.{endedBy}
 use Rattle.reader_state.specs.declared.State.{State}
 use Rattle.reader_state.specs.State.{Holds, lastSlot, Apart, Behind, saidAlso, stateFrom, stateOf}
 use Rattle.option_values.specs.declared.parsed.Parsed.{Parsed}
@@ -36,11 +39,20 @@ module _ (s : List ℕ) (at : ℕ) (es : List Entry) (K : Entry → ℕ → Opti
   pub taken-unlisted : optionAt s at ≡ unlisted → taken (optionAt s at) es at K ≡ refused refusal.NotListed at
   taken-unlisted e = rw e
 
-  pub taken-stopped : (v : Entry) (d : Cursor) {p : ℕ} → optionAt s at ≡ listed (readBy v d) → d ≡ Stopped p → taken (optionAt s at) es at K ≡ refused refusal.Form at
-  taken-stopped v d e f = rw (e, f)
+  pub taken-refused : (v : Entry) (d : Cursor) {q : Refusal} → optionAt s at ≡ listed (readBy v d) → endedBy d ≡ ended.Refused q
+      → taken (optionAt s at) es at K ≡ refused q at
+  taken-refused v d e f = rw e (go d f)
+    where
+      go : (d : Cursor) {q : Refusal} → endedBy d ≡ ended.Refused q → taken (listed (readBy v d)) es at K ≡ refused q at
+      go (Going n) g = absurd (let z : _≡_ {A = ℕ} 0 1 = cc in omega arith)
+      go (Over p n) g = cc
+      go (Stopped p) g = cc
 
-  pub taken-over : (v : Entry) (d : Cursor) {p n : ℕ} → optionAt s at ≡ listed (readBy v d) → d ≡ Over p n → taken (optionAt s at) es at K ≡ refused refusal.Limit at
-  taken-over v d e f = rw (e, f)
+-- an option that ends at a place went on to it
+pub ended-going : (d : Cursor) {n : ℕ} → endedBy d ≡ ended.Next n → d ≡ Going n
+ended-going (Going m) e = cc
+ended-going (Over p m) e = absurd (let z : _≡_ {A = ℕ} 0 1 = cc in omega arith)
+ended-going (Stopped p) e = absurd (let z : _≡_ {A = ℕ} 0 1 = cc in omega arith)
 
 -- how many pattern bytes one option more brings
 bytes-said : (s : List ℕ) (v : Value) (al : List Address) (b : List ℕ) → Apart s v al b → bytesIn (entryOf s v al b ∷ []) ≡ b
@@ -57,7 +69,8 @@ bytes-said s (value.Distance d) al b a = sym (a .1)
 bytes-said s (value.Within w) al b a = sym (a .1)
 
 used-also : {s : List ℕ} {said : List Said} {st u : State} {bytes after : List ℕ} {items put : List Slot} (dash : ℕ) (v : Value)
-    (al : List Address) (b : List ℕ) → Apart s v al b → Holds s said st bytes items → Holds s (saidAlso said dash (entryOf s v al b)) u after put → u .used ≡ st .used + length b
+    (al : List Address) (b : List ℕ) → Apart s v al b → Holds s said st bytes items
+    → Holds s (saidAlso said dash (entryOf s v al b)) u after put → u .used ≡ st .used + length b
 used-also {s} {said} dash v al b a h g =
     used-is g
     ∙ ap (λ (l : List Entry). length (bytesIn l)) (entries-also said dash (entryOf s v al b))

@@ -72,7 +72,8 @@ abbrev pub GoesTo : List ℕ → List Said → ℕ → List ℕ → Turn → Sta
 GoesTo s said at bytes (Refused q p) u after items = options s (drop at s) 0 at said ≡ refused q p
 GoesTo s said at bytes Done u after items = (options s (drop at s) 0 at said ≡ ended said) × (after ≡ bytes)
 GoesTo s said at bytes (Next n) u after items =
-    (more : List Said) × (options s (drop at s) 0 at said ≡ options s (drop n s) 0 n more) × Holds s more u after items × (u .used ≤ n) × (at < n) × (n ≤ length s)
+    (more : List Said) × (options s (drop at s) 0 at said ≡ options s (drop n s) 0 n more)
+    × Holds s more u after items × (u .used ≤ n) × (at < n) × (n ≤ length s)
 
 abbrev pub Goes : List ℕ → List ℕ → State → Slot → ℕ → List ℕ → Turned → Type 0
 Goes s bytes st last at after r =

@@ -1,8 +1,5 @@
 // One option of a text: its name, its form, and what it does to the state.
 ghost use mathlib.Core.Path.{_≡_};
-ghost use Prim.Native.Nat.{_<_};
-ghost use lib.ListN.{length, drop};
-ghost use Rattle.definitions.specs.Reading.{dashes};
 ghost use Rattle.reader.specs.Turning.{Turnable, Turns, turnBy, turnOnly, closingTurn, Placed, Goes};
 use definitions::answers::Due;
 use definitions::answers::Refusal;
@@ -10,12 +7,14 @@ use definitions::limits::ITEMS;
 use definitions::table::Slot;
 use enter::enter;
 use option_values::by_name::option_by_name;
+use read_frame::Ended;
+use read_frame::dashes_at;
+use read_frame::ended_by;
 use read_names::name_end;
 use read_names::option_named;
 use read_names::options::Lookup;
 use reader_state::State;
 use reader_state::no_slot;
-use scan_cursors::Cursor;
 
 // On to a place, the end of the text, or a refusal and its place.
 pub enum Turn {
@@ -58,8 +57,9 @@ fn option_turn(s: &[u8], bytes: &mut [u8], st: State, last: Slot, at: usize) -> 
     };
     let p = option_by_name(s, to, option, bytes, st.used);
     let cursor = p.cursor;
-    match cursor {
-        Cursor::Going(next) => {
+    let ended = ended_by(cursor);
+    match ended {
+        Ended::Next(next) => {
             let value = p.value;
             let list = p.list;
             let e = enter(st, last, at, value, list, p.used);
@@ -73,8 +73,7 @@ fn option_turn(s: &[u8], bytes: &mut [u8], st: State, last: Slot, at: usize) -> 
                 slot,
             }
         }
-        Cursor::Over(_, _) => turn_only(Turn::Refused(Refusal::Limit, at), st),
-        Cursor::Stopped(_) => turn_only(Turn::Refused(Refusal::Form, at), st),
+        Ended::Refused(r) => turn_only(Turn::Refused(r, at), st),
     }
 }
 
@@ -112,18 +111,4 @@ fn closing_turn(behind: usize, len: usize) -> Turn
     } else {
         Turn::Refused(Refusal::NotDue, behind)
     }
-}
-
-// Whether `--` stands at the place.
-fn dashes_at(s: &[u8], at: usize) -> bool
-    requires { ⌜ at < length (now s) ⌝ }
-    ensures { λ r. ⌜ r ≡ dashes (drop at (now (s .entry))) ⌝ }
-{
-    if s[at] == b'-' {
-        let next = at + 1;
-        if next < s.len() {
-            return s[next] == b'-';
-        }
-    }
-    false
 }

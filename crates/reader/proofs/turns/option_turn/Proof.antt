@@ -1,4 +1,4 @@
--- The option is unlisted, stops or is over a limit as the definition's is; else it is read, entered, and the definition goes on behind it (`turned`).
+-- The option is unlisted or refused as the definition's is; else it is read, entered, and the definition goes on behind it (`turned`).
 use mathlib.Core.Path.{sym, ap, _∙_, subst}
 use mathlib.Core.List.{List}
 use Prim.Native.Nat.{ℕ}
@@ -13,7 +13,7 @@ use Rattle.enter.proofs.OneMore.{bytes-full}
 use Rattle.reader.specs.declared.turns.Turn.{Turn}
 use Rattle.reader.specs.Turning.{TurnsTo}
 use Rattle.reader.proofs.Listed.{option-at, name-inside}
-use Rattle.reader.proofs.Steps.{taken-unlisted, taken-stopped, taken-over, read-behind, turned, going-inside}
+use Rattle.reader.proofs.Steps.{taken-unlisted, taken-refused, ended-going, read-behind, turned, going-inside}
 use borrow.Author.Needs.{needs}
 use Rattle.reader.proofs.turns.option_turn.Statement.{statement}
 use Rattle.reader.proofs.turns.option_turn.Tie as tie
@@ -39,10 +39,11 @@ turn-only-requires c κs = tt
 returns : tie.Need-returns
 returns c =
     λ said items held latest.
+    let named = c .before .before .before in
     rw (c .turn-only .ensures)
     (λ K.
     taken-unlisted _ _ _ K
-    (option-at _ _ _ _ (c .before .before .before .before .name-end .ensures) (c .before .before .before .option-named .ensures) (c .before .enum-told .given .1)))
+    (option-at _ _ _ _ (named .before .name-end .ensures) (named .option-named .ensures) (c .before .enum-told .given .1)))
 
 option-by-name-requires : tie.Need-option-by-name-requires
 option-by-name-requires c κs =
@@ -54,17 +55,21 @@ option-by-name-requires c κs =
     let l = pre .short in
     (g .1, l, omega (arith, u, g .0), bytes-full (pre .holds) (omega (arith, u, i, l)))
 
-enum-known-cursor : tie.Need-enum-known-cursor
-enum-known-cursor c = search needs
+ended-by-requires : tie.Need-ended-by-requires
+ended-by-requires c κs = tt
+
+enum-known-ended : tie.Need-enum-known-ended
+enum-known-ended c = search needs
 
 enter-requires : tie.Need-enter-requires
 enter-requires c κs =
-    let parsed = c .before .before .before .before .before .before in
+    let ended = c .before .before .before .before in
+    let parsed = ended .before .before .before in
     let named = parsed .before .before .before .before .before .before in
     let start = named .before .before .before in
     let pre = start .pre in
     let read = parsed .option-by-name in
-    let q = c .before .before .cursor .given .1 in
+    let q = ended-going (read .result .cursor) (sym (ended .ended-by .ensures) ∙ c .before .before .ended .given .1) in
     let g = name-inside _ _ (pre .inside) (named .name-end .ensures) in
     let z = going-inside (start .args .s .now) (read .result .cursor) _ (read .ensures .reads .inside) q in
     let u = pre .behind in
@@ -73,23 +78,18 @@ enter-requires c κs =
 turn-by-requires : tie.Need-turn-by-requires
 turn-by-requires c κs = tt
 
-enum-told-2 : tie.Need-enum-told-2
-enum-told-2 c = search needs
+enum-known-ended-2 : tie.Need-enum-known-ended-2
+enum-known-ended-2 c = search needs
 
 turn-only-requires-2 : tie.Need-turn-only-requires-2
 turn-only-requires-2 c κs = tt
-
-enum-told-3 : tie.Need-enum-told-3
-enum-told-3 c = search needs
-
-turn-only-requires-3 : tie.Need-turn-only-requires-3
-turn-only-requires-3 c κs = tt
 
 returns-2 : tie.Need-returns-2
 unfolding read-behind
 returns-2 c =
     λ said items held latest.
-    let parsed = c .before .before .before .before .before .before .before .before .before .before in
+    let ended = c .before .before .before .before .before .before .before .before in
+    let parsed = ended .before .before .before in
     let known = parsed .before .before .before in
     let named = known .before .before .before in
     let start = named .before .before .before in
@@ -97,7 +97,7 @@ returns-2 c =
     let pre = start .pre in
     let read = parsed .option-by-name in
     let P = read .ensures in
-    let q = c .before .before .before .before .before .before .cursor .given .1 in
+    let q = ended-going (read .result .cursor) (sym (ended .ended-by .ensures) ∙ c .before .before .before .before .before .before .ended .given .1) in
     let entered = c .before .before .before .enter in
     let ended = named .name-end .ensures in
     let g = name-inside _ _ (pre .inside) ended in
@@ -123,28 +123,19 @@ same-length c = search needs
 returns-3 : tie.Need-returns-3
 returns-3 c =
     λ said items held latest.
-    let parsed = c .before .before .before .before .before in
+    let ended = c .before .before .before .before in
+    let parsed = ended .before .before .before in
     let known = parsed .before .before .before in
-    let P = parsed .option-by-name .ensures in
-    let ended = known .before .before .before .name-end .ensures in
-    let i = option-at _ _ _ _ ended (known .before .before .option-named .ensures) (known .found .given .1) ∙ ap listed (sym (P .reads .reads)) in
-    rw (c .turn-only2 .ensures) (λ K. taken-over _ _ _ K _ _ i (c .before .enum-told2 .given .1))
+    let read = parsed .option-by-name in
+    let P = read .ensures in
+    let v = entryOf _ (read .result .value) (P .al) (P .b) in
+    let q = sym (ended .ended-by .ensures) ∙ c .before .before .ended2 .given .1 in
+    let named = known .before .before .before .name-end .ensures in
+    let i = option-at _ _ _ _ named (known .before .before .option-named .ensures) (known .found .given .1) ∙ ap listed (sym (P .reads .reads)) in
+    rw (c .turn-only2 .ensures) (λ K. taken-refused _ _ _ K v (read .result .cursor) i q)
 
 same-length-2 : tie.Need-same-length-2
 same-length-2 c = search needs
-
-returns-4 : tie.Need-returns-4
-returns-4 c =
-    λ said items held latest.
-    let parsed = c .before .before .before .before .before in
-    let known = parsed .before .before .before in
-    let P = parsed .option-by-name .ensures in
-    let ended = known .before .before .before .name-end .ensures in
-    let i = option-at _ _ _ _ ended (known .before .before .option-named .ensures) (known .found .given .1) ∙ ap listed (sym (P .reads .reads)) in
-    rw (c .turn-only3 .ensures) (λ K. taken-stopped _ _ _ K _ _ i (c .before .enum-told3 .given .1))
-
-same-length-3 : tie.Need-same-length-3
-same-length-3 c = search needs
 
 pub option-turn-spec : {M : Type 1} → statement M
 option-turn-spec =
@@ -158,16 +149,13 @@ option-turn-spec =
     turn-only-requires
     returns
     option-by-name-requires
-    enum-known-cursor
+    ended-by-requires
+    enum-known-ended
     enter-requires
     turn-by-requires
-    enum-told-2
+    enum-known-ended-2
     turn-only-requires-2
-    enum-told-3
-    turn-only-requires-3
     same-length
     returns-2
     same-length-2
-    returns-3
-    same-length-3
-    returns-4)
+    returns-3)

@@ -1,6 +1,7 @@
 -- Each way on is the definition's from its first byte on: a `)`, an option, or neither.
 use mathlib.Core.Path.{sym, _∙_}
-use Rattle.reader.proofs.Looping.{goes-close, goes-nowhere, goes-option, dashes-two}
+use Rattle.read_frame.proofs.Dashes.{dashes-two}
+use Rattle.reader.proofs.Looping.{goes-close, goes-nowhere, goes-option}
 use borrow.Author.Needs.{needs}
 use Rattle.reader.proofs.turns.turn_at.Statement.{statement}
 use Rattle.reader.proofs.turns.turn_at.Tie as tie
@@ -48,8 +49,9 @@ returns-2 c =
     let pre = start .pre in
     let turned = c .before .before .option-turn in
     let dashed = sym (c .before .before .before .before .before .dashes-at .ensures) ∙ c .before .before .before .before .if2 .taken in
-    goes-option (x .s .now) (x .at) (pre .inside) said (x .st) (x .bytes .now) (pre .solid) (c .before .before .before .before .before .before .if1 .left) _ _ dashed (turned .result .turn) (turned .result .state)
-    (turned .ensures said items held latest)
+    let unclosed = c .before .before .before .before .before .before .if1 .left in
+    goes-option (x .s .now) (x .at) (pre .inside) said (x .st) (x .bytes .now) (pre .solid) unclosed _ _ dashed
+    (turned .result .turn) (turned .result .state) (turned .ensures said items held latest)
 
 same-length : tie.Need-same-length
 same-length c = search needs

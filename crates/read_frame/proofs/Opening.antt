@@ -1,4 +1,4 @@
--- The front of a text, byte by byte, and the loop's places.
+-- The front of a text: `F-SBID(` byte by byte, and the refusals before the options.
 use mathlib.Core.Path.{_≡_, refl, sym, ap, _∙_}
 use mathlib.Core.Bool.{true, false, _&&_}
 use mathlib.Core.List.{List, [], _∷_}
@@ -16,7 +16,7 @@ use Rattle.definitions.specs.Limits.{limits01}
 use Rattle.definitions.specs.Lists.{none?, sameBytes}
 use Rattle.definitions.specs.Reading.{options, finished, refusedReading, readUnbounded, read}
 use Rattle.definitions.specs.Options.{opening, printable}
-use Rattle.reader.specs.Framing.{isOpened}
+use Rattle.read_frame.specs.Framing.{isOpened}
 
 -- lists of other lengths are not the same
 other-length : (x w : List ℕ) → (length x ≡ length w → ⊥) → sameBytes x w ≡ false
@@ -55,7 +55,10 @@ letters-out s i long h u =
 
 -- a text that is opened is long enough
 pub opened-long : (s : List ℕ) → isOpened s ≡ true → 7 ≤ length s
-opened-long s e = by-cases (leb 7 (length s)) (λ t. leb-true 7 (length s) t) (λ t. absurd (let z : _≡_ {A = ℕ} 0 1 = (let q = too-short s (leb-false 7 (length s) t) in cc) in omega (arith, z)))
+opened-long s e =
+    by-cases (leb 7 (length s))
+    (λ t. leb-true 7 (length s) t)
+    (λ t. absurd (let z : _≡_ {A = ℕ} 0 1 = (let q = too-short s (leb-false 7 (length s) t) in cc) in omega (arith, z)))
 
 -- ---- the refusals before the options, in their order
 

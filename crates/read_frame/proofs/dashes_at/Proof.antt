@@ -1,7 +1,8 @@
-use Rattle.reader.proofs.Looping.{dashes-both, dashes-one, dashes-none}
+-- Each `return` is a law of the one or two bytes that were looked at.
+use Rattle.read_frame.proofs.Dashes.{dashes-both, dashes-one, dashes-none}
 use borrow.Author.Needs.{needs}
-use Rattle.reader.proofs.turns.dashes_at.Statement.{statement}
-use Rattle.reader.proofs.turns.dashes_at.Tie as tie
+use Rattle.read_frame.proofs.dashes_at.Statement.{statement}
+use Rattle.read_frame.proofs.dashes_at.Tie as tie
 
 shared-slice-read-if1 : tie.Need-shared-slice-read-if1
 shared-slice-read-if1 c = search needs

@@ -9,8 +9,8 @@ use Rattle.scan.specs.Classes.{classOf}
 use Rattle.scan.specs.declared.bytes.Class.the-variants.{Printable}
 use Rattle.scan.proofs.Running.{run-same}
 use borrow.Author.Needs.{needs}
-use Rattle.reader.proofs.printable_run.Statement.{statement}
-use Rattle.reader.proofs.printable_run.Tie as tie
+use Rattle.read_frame.proofs.printable_run.Statement.{statement}
+use Rattle.read_frame.proofs.printable_run.Tie as tie
 
 printable-bytes : (b : ℕ) → has (classOf Printable) b ≡ printable b
 unfolding has printable

@@ -1,10 +1,11 @@
+-- The bytes before i are those of `F-SBID(` (`Still`): one more, or the first that differs.
 use mathlib.Core.Path.{refl}
 use native.Mathlib.Omega.{arith}
 use Prim.Native.Nat.{_-_, _≤_}
 use lib.ListN.{length}
-use Rattle.reader.proofs.Frame.{too-short, Still, letters-on, letters-off, letters-out}
-use Rattle.reader.proofs.is_opened.Statement.{statement}
-use Rattle.reader.proofs.is_opened.Tie as tie
+use Rattle.read_frame.proofs.Opening.{too-short, Still, letters-on, letters-off, letters-out}
+use Rattle.read_frame.proofs.is_opened.Statement.{statement}
+use Rattle.read_frame.proofs.is_opened.Tie as tie
 
 abbrev Inv-loop : tie.InvT-loop
 Inv-loop s w i₀ i = (7 ≤ length s) × Still s i
@@ -25,7 +26,10 @@ element-copy-out-if2 : tie.Need-element-copy-out-if2 Inv-loop μ-loop
 element-copy-out-if2 c = c .before .loop-test .taken
 
 returns-2 : tie.Need-returns-2 Inv-loop μ-loop
-returns-2 c = letters-off (c .before .before .before .before .before .before .before .args .s .now) _ (c .before .before .before .before .loop .inv .0) (c .before .before .before .loop-test .taken) (c .before .before .before .before .loop .inv .1) (c .if2 .taken)
+returns-2 c =
+    let turn = c .before .before .before .before .loop in
+    let s = c .before .before .before .before .before .before .before .args .s .now in
+    letters-off s _ (turn .inv .0) (c .before .before .before .loop-test .taken) (turn .inv .1) (c .if2 .taken)
 
 add-i : tie.Need-add-i Inv-loop μ-loop
 add-i c = omega arith
@@ -34,7 +38,10 @@ loop-less : tie.Need-loop-less Inv-loop μ-loop
 loop-less c = omega arith
 
 loop-again : tie.Need-loop-again Inv-loop μ-loop
-loop-again c = (c .before .before .before .before .loop .inv .0, letters-on (c .before .before .before .before .before .before .before .args .s .now) _ (c .before .before .before .before .loop .inv .0) (c .before .before .before .loop-test .taken) (c .before .before .before .before .loop .inv .1) (c .if2 .left))
+loop-again c =
+    let turn = c .before .before .before .before .loop in
+    let s = c .before .before .before .before .before .before .before .args .s .now in
+    (turn .inv .0, letters-on s _ (turn .inv .0) (c .before .before .before .loop-test .taken) (turn .inv .1) (c .if2 .left))
 
 returns-3 : tie.Need-returns-3 Inv-loop μ-loop
 returns-3 c = letters-out (c .before .before .before .before .args .s .now) _ (c .before .loop .inv .0) (c .loop-test .left) (c .before .loop .inv .1)

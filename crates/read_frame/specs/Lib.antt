@@ -1,0 +1,2 @@
+-- What stands around the options of a text.
+pub mod Framing
