@@ -1,6 +1,5 @@
 -- A part more of a line: kept as far as the buffer has room; what is kept stays the first bytes of the line.
 use mathlib.Core.Path.{_≡_, refl, sym, ap, _∙_}
-use mathlib.Core.Bool.{false}
 use mathlib.Core.List.{List, [], _∷_, _++_, append-assoc, append-nil}
 use Prim.Native.Nat.{ℕ, suc, _+_, _-_, _≤_, _<_}
 use native.Mathlib.Omega.{arith}
@@ -14,10 +13,8 @@ use Rattle.forms.specs.Bytes.{if_then_else_}
 use Rattle.forms.proofs.Bools.{by-cases}
 use Rattle.output.specs.Clipped.{atMost}
 use Rattle.output.proofs.Clipping.{at-most-le, taken-most}
-use Rattle.line_stream.specs.declared.Going.{Going}
-use Rattle.line_stream.specs.Stream.{Standing}
+use Rattle.line_stream.specs.Stream.{State}
 use Rattle.line_stream.specs.Steps.{fitting, Keeps}
-use Rattle.line_stream.proofs.Closing.{stood}
 
 -- ---- byte by byte
 
@@ -58,8 +55,8 @@ partly-on room s b part =
     let none : room - length s ≡ 0 = omega (arith, ltb-false (length s) room f) in
     rw (f, none))
 
--- where a program stands that keeps a part more of the line begun
-abbrev pub further : ℕ → Standing → List ℕ → Standing
+-- the state of a program that keeps a part more of the line begun
+abbrev pub further : ℕ → State → List ℕ → State
 further room st part = record { number = st .number; begun = partly room (st .begun) part; written = st .written }
 
 -- ---- in a buffer, as the code keeps it
@@ -139,26 +136,19 @@ module _ {line₀ part line : List ℕ} {len n i : ℕ} (s : Copied line₀ part
         ∙ ap (paste line₀ len part) (sym (add-one i));
   }
 
-pub copied-all : {line₀ part line : List ℕ} {n i : ℕ} (g : Going) → Copied line₀ part line (g .len) n i → n ≤ i
-    → Keeps line₀ line g part (record { number = g .number; len = g .len + n; put = g .put; full = false })
-copied-all {line₀ = line₀} {part = part} {i = i} g s h =
-    let e : i ≡ fitting line₀ (g .len) part = omega (arith, h, s .some, s .all) in
-    record { kept = rw (sym e) (s .is); going = rw (s .all) }
+pub copied-all : {line₀ part line : List ℕ} {len n i : ℕ} → Copied line₀ part line len n i → n ≤ i → Keeps line₀ line len part (len + n)
+copied-all {line₀ = line₀} {part = part} {len = len} {i = i} s h =
+    let e : i ≡ fitting line₀ len part = omega (arith, h, s .some, s .all) in
+    record { kept = rw (sym e) (s .is); long = ap (λ (k : ℕ). len + k) (s .all) }
 
 -- ---- what the code keeps is what the program keeps
 
-module _ {line line' : List ℕ} {g r : Going} {part : List ℕ} (k : Keeps line line' g part r) where
-  pub keeps-put : r .put ≡ g .put
-  keeps-put = ap (λ (x : Going). x .put) (k .going)
-
+module _ {line line' : List ℕ} {len r : ℕ} {part : List ℕ} (k : Keeps line line' len part r) where
   pub keeps-length : length line' ≡ length line
-  keeps-length = ap length (k .kept) ∙ kept-length line (g .len) part
+  keeps-length = ap length (k .kept) ∙ kept-length line len part
 
-  pub keeps-stood : (out : List ℕ) → stood line' out r ≡ further (length line) (stood line out g) part
-  keeps-stood out =
-      ap (λ (l : List ℕ). stood l out r) (k .kept)
-      ∙ ap (stood (kept line (g .len) part) out) (k .going)
-      ∙ ap (λ (s : List ℕ). record { number = g .number; begun = s; written = take (g .put) out }) (kept-partly line (g .len) part)
+  pub keeps-partly : take r line' ≡ partly (length line) (take len line) part
+  keeps-partly = rw (k .kept, k .long) (kept-partly line len part)
 
 -- where all lines beyond so many bytes have one answer, any more bytes of a line are the same
 pub kept-beyond : (answer : List ℕ → List ℕ) (most : ℕ) (same : List ℕ) → ((s : List ℕ) → most < length s → answer s ≡ same)

@@ -1,7 +1,9 @@
 -- How feeding follows, whatever is answered, and that a run of it writes the program's output.
-pub mod Closing
+pub mod Room
 pub mod Parts
 pub mod Keeping
-pub mod Feeding
+pub mod Taking
+pub mod Loop
+pub mod Finish
 pub mod Output
 pub mod Running

@@ -1,4 +1,4 @@
--- A PROGRAM'S OUTPUT is what it has written behind all its input and the last line's answer.
+-- A PROGRAM'S OUTPUT is what it has written after all its input, and the last line's answer.
 use mathlib.Core.Path.{_≡_, refl, sym, ap, _∙_}
 use mathlib.Core.Bool.{true, false}
 use mathlib.Core.List.{List, [], _∷_, _++_, append-assoc}
@@ -14,9 +14,7 @@ use Rattle.forms.specs.Bytes.{if_then_else_, text}
 use Rattle.forms.proofs.Bools.{by-cases}
 use Rattle.definitions.specs.House.{decimal}
 use Rattle.definitions.specs.Lines.{lineTexts, linesFrom, outputOver}
-use Rattle.output.specs.Clipped.{atMost}
-use Rattle.output.proofs.Clipping.{at-most-le, taken-most}
-use Rattle.line_stream.specs.Stream.{numberMost, nextNumber, answerTo, Standing, byteRead, behind, lastLine, start, outputOf}
+use Rattle.line_stream.specs.Stream.{numberMost, nextNumber, answerTo, State, byteRead, after, lastLine, start, outputOf}
 use Rattle.line_stream.proofs.Keeping.{first-more}
 
 texts-on : (line : List ℕ) (b : ℕ) (l : List ℕ) → lineTexts line (b ∷ l) ≡ (if eqb b 10 then line ∷ lineTexts [] l else lineTexts (line ++ (b ∷ [])) l)
@@ -29,22 +27,6 @@ next-is : (n k : ℕ) → n + suc k < 2 ^ 64 → nextNumber n ≡ suc n
 next-is n k h = rw (lt-ltb n numberMost (omega (arith, h))) (add-one n)
 
 module _ (answer : List ℕ → List ℕ) where
-  -- ---- the last line, where it lacks its LF: none, or one that is answered as any other
-
-  module _ (n : ℕ) (line : List ℕ) (len : ℕ) where
-    pub last-none : {r : ℕ} → r ≡ atMost len (length line) → r ≡ 0 → lastLine answer n (take len line) ≡ []
-    last-none e z = ap (lastLine answer n) (taken-most len line refl e ∙ ap (λ (k : ℕ). take k line) z)
-
-    some-line : (l : List ℕ) → 1 ≤ length l → lastLine answer n l ≡ answerTo answer n l
-    some-line [] h = absurd (not-suc-le-zero h)
-    some-line (b ∷ l) h = refl
-
-    pub last-some : (r : ℕ) → r ≡ atMost len (length line) → (r ≡ 0 → ⊥) → lastLine answer n (take len line) ≡ answerTo answer n (take (r - 0) (drop 0 line))
-    last-some r e z =
-        let few : r ≤ length line = omega (arith, e, at-most-le len (length line)) in
-        let some : 1 ≤ length (take r line) = omega (arith, z, length-take-le r line few) in
-        ap (lastLine answer n) (taken-most len line refl e) ∙ some-line (take r line) some ∙ ap (λ (k : ℕ). answerTo answer n (take k line)) (sym (sub-zero r))
-
   -- ---- line by line
 
   lines-on : (n : ℕ) (s : List ℕ) (ss : List (List ℕ)) → linesFrom answer n (s ∷ ss) ≡ answerTo answer n s ++ linesFrom answer (suc n) ss
@@ -65,11 +47,11 @@ module _ (answer : List ℕ → List ℕ) where
     clipped n zero (x ∷ s) g = absurd (let z : ⊥ = omega (arith, g) in z)
     clipped n (suc m) (x ∷ s) g = ap (λ (l : List ℕ). decimal n ++ (9 ∷ (l ++ (10 ∷ [])))) (kept (suc m) (x ∷ s) g)
 
-    abbrev at : ℕ → List ℕ → List ℕ → Standing
+    abbrev at : ℕ → List ℕ → List ℕ → State
     at n s w = record { number = n; begun = s; written = w }
 
     -- where the program stands that has read so much of the line begun
-    abbrev reading : ℕ → List ℕ → List ℕ → Standing
+    abbrev reading : ℕ → List ℕ → List ℕ → State
     reading n s w = at n (take room s) w
 
     read-end : (n : ℕ) (s w : List ℕ) (b k : ℕ) → n + suc k < 2 ^ 64 → eqb b 10 ≡ true → byteRead answer room (reading n s w) b ≡ reading (suc n) [] (w ++ answerTo answer n s)
@@ -83,33 +65,33 @@ module _ (answer : List ℕ → List ℕ) where
     read-on n s w b f = rw f (ap (λ (l : List ℕ). at n l w) (first-more room s b))
 
     abbrev Comes : ℕ → List ℕ → List ℕ → List ℕ → Type 0
-    Comes n s w input = w ++ linesFrom answer n (lineTexts s input) ≡ outputOf answer (behind answer room (reading n s w) input)
+    Comes n s w input = w ++ linesFrom answer n (lineTexts s input) ≡ outputOf answer (after answer room (reading n s w) input)
 
     module _ (n : ℕ) (s w : List ℕ) (b : ℕ) (l : List ℕ) where
       comes-end : n + suc (length l) < 2 ^ 64 → eqb b 10 ≡ true → Comes (suc n) [] (w ++ answerTo answer n s) l → Comes n s w (b ∷ l)
-      unfolding behind
+      unfolding after
       comes-end few t next =
           ap (λ (x : List (List ℕ)). w ++ linesFrom answer n x) (texts-on s b l ∙ rw t)
           ∙ ap (λ (x : List ℕ). w ++ x) (lines-on n s (lineTexts [] l))
           ∙ sym (append-assoc w (answerTo answer n s) (linesFrom answer (suc n) (lineTexts [] l)))
           ∙ next
-          ∙ ap (λ (x : Standing). outputOf answer (behind answer room x l)) (sym (read-end n s w b (length l) few t))
+          ∙ ap (λ (x : State). outputOf answer (after answer room x l)) (sym (read-end n s w b (length l) few t))
 
       comes-on : eqb b 10 ≡ false → Comes n (s ++ (b ∷ [])) w l → Comes n s w (b ∷ l)
-      unfolding behind
+      unfolding after
       comes-on f next =
           ap (λ (x : List (List ℕ)). w ++ linesFrom answer n x) (texts-on s b l ∙ rw f)
           ∙ next
-          ∙ ap (λ (x : Standing). outputOf answer (behind answer room x l)) (sym (read-on n s w b f))
+          ∙ ap (λ (x : State). outputOf answer (after answer room x l)) (sym (read-on n s w b f))
 
     to-come : (n : ℕ) (s w input : List ℕ) → n + length input < 2 ^ 64 → Comes n s w input
-    unfolding behind
+    unfolding after
     to-come n s w [] few = ap (λ (l : List ℕ). w ++ l) (texts-end n s ∙ sym (clipped n room s roomy))
     to-come n s w (b ∷ l) few =
         by-cases (eqb b 10)
         (λ t. comes-end n s w b l few t (to-come (suc n) [] (w ++ answerTo answer n s) l (omega (arith, few))))
         (λ f. comes-on n s w b l f (to-come n (s ++ (b ∷ [])) w l (omega (arith, few))))
 
-    pub whole-output : (input : List ℕ) → length input + 1 < 2 ^ 64 → outputOver answer input ≡ outputOf answer (behind answer room start input)
+    pub whole-output : (input : List ℕ) → length input + 1 < 2 ^ 64 → outputOver answer input ≡ outputOf answer (after answer room start input)
     unfolding outputOver
-    whole-output input few = to-come 1 [] [] input (omega (arith, few)) ∙ ap (λ (s : List ℕ). outputOf answer (behind answer room (record { number = 1; begun = s; written = [] }) input)) (take-nil room)
+    whole-output input few = to-come 1 [] [] input (omega (arith, few)) ∙ ap (λ (s : List ℕ). outputOf answer (after answer room (record { number = 1; begun = s; written = [] }) input)) (take-nil room)

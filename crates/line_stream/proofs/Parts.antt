@@ -1,4 +1,4 @@
--- A part of the input ends at the first LF, or with the input: where that is, and that no LF stands before it.
+-- A line of the input ends at the first LF, or with the input: where that is, and that no LF stands before it.
 use mathlib.Core.Path.{_≡_, refl, sym, ap, _∙_}
 use mathlib.Core.Bool.{true}
 use mathlib.Core.List.{List, [], _∷_, _++_}
@@ -13,7 +13,7 @@ use borrow.Author.Tests.{eq-eqb, ne-eqb, eqb-true}
 use Rattle.forms.specs.Bytes.{run}
 use Rattle.forms.proofs.Bools.{by-cases}
 use Rattle.definitions.specs.Lists.{all?}
-use Rattle.line_stream.specs.Steps.{inLine, lfFrom}
+use Rattle.line_stream.specs.Steps.{inLine, lfFrom, lineFrom}
 
 -- ---- the search for it, byte by byte
 
@@ -50,26 +50,23 @@ unfolding run all?
 front-whole [] = refl
 front-whole (b ∷ l) = by-cases (eqb b 10) (λ t. rw t) (λ f. rw (f, f) (front-whole l))
 
--- ---- a part from a place on
+-- ---- a line from a place on
 
--- as a slice has it
-abbrev pub part : List ℕ → ℕ → ℕ → List ℕ
-part s i e = take (e - i) (drop i s)
+module _ (s : List ℕ) (i : ℕ) where
+  pub line-within : i ≤ length s → lfFrom s i ≤ length s
+  line-within h = omega (arith, h, front-le (drop i s), length-drop i s)
 
-module _ (s : List ℕ) (i : ℕ) {e : ℕ} (is : e ≡ lfFrom s i) where
-  pub part-within : i ≤ length s → e ≤ length s
-  part-within h = omega (arith, is, h, front-le (drop i s), length-drop i s)
+  pub line-lf : lfFrom s i < length s → getD s (lfFrom s i) 0 ≡ 10
+  line-lf h =
+      let inside : run inLine (drop i s) < length (drop i s) = omega (arith, h, length-drop i s) in
+      sym (getD-drop i s (run inLine (drop i s)) 0) ∙ front-ends (drop i s) inside
 
-  pub part-lf : e < length s → getD s e 0 ≡ 10
-  part-lf h =
-      let inside : run inLine (drop i s) < length (drop i s) = omega (arith, is, h, length-drop i s) in
-      ap (λ (k : ℕ). getD s k 0) is ∙ sym (getD-drop i s (run inLine (drop i s)) 0) ∙ front-ends (drop i s) inside
+  pub line-inside : all? inLine (lineFrom s i) ≡ true
+  line-inside = front-whole (drop i s)
 
-  front : part s i e ≡ take (run inLine (drop i s)) (drop i s)
-  front = let n : e - i ≡ run inLine (drop i s) = omega (arith, is) in ap (λ (k : ℕ). take k (drop i s)) n
+  pub line-after : take (lfFrom s i) s ≡ take i s ++ lineFrom s i
+  line-after = take-add i (run inLine (drop i s)) s
 
-  pub part-whole : all? inLine (part s i e) ≡ true
-  part-whole = rw front (front-whole (drop i s))
-
-  pub part-behind : take e s ≡ take i s ++ part s i e
-  part-behind = rw front (ap (λ (k : ℕ). take k s) is ∙ take-add i (run inLine (drop i s)) s)
+  -- as a slice has it
+  pub line-slice : {e : ℕ} → e ≡ lfFrom s i → take (e - i) (drop i s) ≡ lineFrom s i
+  line-slice {e = e} is = let n : e - i ≡ run inLine (drop i s) = omega (arith, is) in ap (λ (k : ℕ). take k (drop i s)) n

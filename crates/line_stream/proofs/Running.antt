@@ -15,40 +15,40 @@ use Rattle.output.proofs.Putting.{same-length}
 use Rattle.output.proofs.Whole.{placed-whole}
 use Rattle.line_stream.specs.declared.Begun.{Begun}
 use Rattle.line_stream.specs.declared.Fed.{Fed}
-use Rattle.line_stream.specs.Stream.{numberMost, answerTo, Standing, standing, byteRead, behind, lastLine, outputOf, hasRoom, answerFits, Feeds}
+use Rattle.line_stream.specs.Stream.{numberMost, answerTo, State, stateOf, byteRead, after, lastLine, outputOf, hasRoom, answerFits, Feeds}
 use Rattle.line_stream.specs.Runs.{Runs, last, part}
-use Rattle.line_stream.proofs.Closing.{room-counted, room-within}
-use Rattle.line_stream.proofs.Feeding.{behind-parts}
+use Rattle.line_stream.proofs.Room.{room-counted, room-within}
+use Rattle.line_stream.proofs.Loop.{after-append}
 use Rattle.line_stream.proofs.Output.{whole-output}
 
 module _ (answer : List ℕ → List ℕ) where
   -- ---- what was written before stays before
 
-  abbrev after : List ℕ → Standing → Standing
-  after w st = record { number = st .number; begun = st .begun; written = w ++ st .written }
+  abbrev prepend : List ℕ → State → State
+  prepend w st = record { number = st .number; begun = st .begun; written = w ++ st .written }
 
-  byte-after : (room : ℕ) (w : List ℕ) (st : Standing) (b : ℕ) → byteRead answer room (after w st) b ≡ after w (byteRead answer room st b)
-  byte-after room w st b =
+  byte-prepend : (room : ℕ) (w : List ℕ) (st : State) (b : ℕ) → byteRead answer room (prepend w st) b ≡ prepend w (byteRead answer room st b)
+  byte-prepend room w st b =
       by-cases (eqb b 10)
       (λ t. rw t (ap (λ (l : List ℕ). record { number = byteRead answer room st 10 .number; begun = []; written = l }) (append-assoc w (st .written) (answerTo answer (st .number) (st .begun)))))
       (λ f. rw f)
 
-  behind-after : (room : ℕ) (w : List ℕ) (st : Standing) (l : List ℕ) → behind answer room (after w st) l ≡ after w (behind answer room st l)
-  unfolding behind
-  behind-after room w st [] = refl
-  behind-after room w st (b ∷ l) = ap (λ (x : Standing). behind answer room x l) (byte-after room w st b) ∙ behind-after room w (byteRead answer room st b) l
+  after-prepend : (room : ℕ) (w : List ℕ) (st : State) (l : List ℕ) → after answer room (prepend w st) l ≡ prepend w (after answer room st l)
+  unfolding after
+  after-prepend room w st [] = refl
+  after-prepend room w st (b ∷ l) = ap (λ (x : State). after answer room x l) (byte-prepend room w st b) ∙ after-prepend room w (byteRead answer room st b) l
 
-  output-after : (w : List ℕ) (st : Standing) → outputOf answer (after w st) ≡ w ++ outputOf answer st
-  output-after w st = append-assoc w (st .written) (lastLine answer (st .number) (st .begun))
+  output-prepend : (w : List ℕ) (st : State) → outputOf answer (prepend w st) ≡ w ++ outputOf answer st
+  output-prepend w st = append-assoc w (st .written) (lastLine answer (st .number) (st .begun))
 
   -- ---- what a run writes from anywhere on
 
   abbrev comes : List ℕ → List ℕ → Begun → List ℕ
-  comes input line b = outputOf answer (behind answer (length line) (standing b line []) input)
+  comes input line b = outputOf answer (after answer (length line) (stateOf b line []) input)
 
   last-comes : (line : List ℕ) (b : Begun) {out out' : List ℕ} {n : ℕ} → Puts out 0 (lastLine answer (b .number) (take (b .len) line)) out' n → hasRoom n (length out') ≡ true
       → take n out' ≡ comes [] line b
-  unfolding behind
+  unfolding after
   last-comes line b {out = out} {out' = out'} {n = n} p t =
       placed-whole out 0 p (room-counted n (length out') t) (subst (λ (k : ℕ). n ≤ k) (same-length p) (room-within n (length out') t))
 
@@ -59,13 +59,13 @@ module _ (answer : List ℕ → List ℕ) where
       let front = take (r .taken) block in
       let back = drop (r .taken) block ++ rest in
       let whole : front ++ back ≡ block ++ rest = sym (append-assoc front (drop (r .taken) block) rest) ∙ ap (λ (l : List ℕ). l ++ rest) (take-append-drop (r .taken) block) in
-      sym (output-after w (behind answer (length line') (standing (r .begun) line' []) back))
-      ∙ ap (outputOf answer) (sym (behind-after (length line') w (standing (r .begun) line' []) back)
-      ∙ ap (λ (l : List ℕ). behind answer (length line') (standing (r .begun) line' l) back) (append-nil w)
-      ∙ ap (λ (n : ℕ). behind answer n (standing (r .begun) line' w) back) (f .same-line)
-      ∙ ap (λ (x : Standing). behind answer (length line) x back) (f .stands)
-      ∙ sym (behind-parts answer (length line) (standing b line []) front back)
-      ∙ ap (behind answer (length line) (standing b line [])) whole)
+      sym (output-prepend w (after answer (length line') (stateOf (r .begun) line' []) back))
+      ∙ ap (outputOf answer) (sym (after-prepend (length line') w (stateOf (r .begun) line' []) back)
+      ∙ ap (λ (l : List ℕ). after answer (length line') (stateOf (r .begun) line' l) back) (append-nil w)
+      ∙ ap (λ (n : ℕ). after answer n (stateOf (r .begun) line' w) back) (f .same-line)
+      ∙ ap (λ (x : State). after answer (length line) x back) (f .stands)
+      ∙ sym (after-append answer (length line) (stateOf b line []) front back)
+      ∙ ap (after answer (length line) (stateOf b line [])) whole)
 
   pub runs-on : {input line w : List ℕ} {b : Begun} → Runs answer input line b w → w ≡ comes input line b
   runs-on (last {line = line} {b = b} p t) = last-comes line b p t
@@ -88,7 +88,7 @@ module _ (answer : List ℕ → List ℕ) where
   pub goes-on : (k : ℕ) → ((n : ℕ) (s : List ℕ) → n ≤ numberMost → length (answerTo answer n s) ≤ k)
       → {input line out line' out' : List ℕ} {b : Begun} {r : Fed} → k ≤ length out → k < countedMost → b .number ≤ numberMost → 0 < length input
       → Feeds answer input line out line' out' b r → 0 < r .taken
-  unfolding behind
+  unfolding after
   goes-on k short {input = input} {line = line} {out = out} {out' = out'} {b = b} {r = r} fits few counts some f =
       by-cases (ltb 0 (r .taken)) (λ t. ltb-true 0 (r .taken) t) (λ e. absurd (stuck (z e)))
     where
@@ -97,9 +97,9 @@ module _ (answer : List ℕ → List ℕ) where
 
       stuck : r .taken ≡ 0 → ⊥
       stuck e =
-          let st : behind answer (length line) (standing b line []) (take (r .taken) input) ≡ standing b line [] = ap (λ (n : ℕ). behind answer (length line) (standing b line []) (take n input)) e in
-          let none : r .put ≡ 0 = none-taken (r .put) out' (f .put) (ap (λ (x : Standing). x .written) (f .stands ∙ st)) in
-          let crowded : answerFits answer (standing b line []) (r .put) out' ≡ false = subst (λ (x : Standing). answerFits answer x (r .put) out' ≡ false) st (f .stops (omega (arith, e, some)) .1) in
+          let st : after answer (length line) (stateOf b line []) (take (r .taken) input) ≡ stateOf b line [] = ap (λ (n : ℕ). after answer (length line) (stateOf b line []) (take n input)) e in
+          let none : r .put ≡ 0 = none-taken (r .put) out' (f .put) (ap (λ (x : State). x .written) (f .stands ∙ st)) in
+          let crowded : answerFits answer (stateOf b line []) (r .put) out' ≡ false = subst (λ (x : State). answerFits answer x (r .put) out' ≡ false) st (f .stops (omega (arith, e, some)) .1) in
           let len : length (answerTo answer (b .number) (take (b .len) line)) ≤ k = short (b .number) (take (b .len) line) counts in
           let n = r .put + length (answerTo answer (b .number) (take (b .len) line)) in
           true≢false (sym (has-room n (length out') (omega (arith, none, len, few)) (omega (arith, none, len, fits, f .same-out))) ∙ crowded)

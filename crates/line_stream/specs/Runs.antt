@@ -11,7 +11,7 @@ use Rattle.line_stream.specs.Stream.{lastLine, hasRoom, Feeds}
 
 -- what is written for the input still to come, from a line buffer and a line begun on; each turn may lend another output buffer
 pub data Runs (answer : List ℕ → List ℕ) : List ℕ → List ℕ → Begun → List ℕ → Type 0 where
-  -- behind the last byte
+  -- after the last byte
   last : {line out out' : List ℕ} {b : Begun} {n : ℕ}
       → Puts out 0 (lastLine answer (b .number) (take (b .len) line)) out' n → hasRoom n (length out') ≡ true
       → Runs answer [] line b (take n out')

@@ -1,31 +1,19 @@
 -- What each step of feeding does, whatever it is given.
 use mathlib.Core.Path.{_≡_}
 use mathlib.Core.Bool.{Bool, true, false, not}
-use Prim.Native.Nat.{ℕ, _+_, _-_}
-use mathlib.Core.List.{List}
-use lib.Dec.{eqb}
+use Prim.Native.Nat.{ℕ, suc, _+_, _-_}
+use mathlib.Core.List.{List, [], _++_}
+use lib.Dec.{eqb, ltb}
 use lib.ListN.{length, take, drop}
 use lib.Seq.{paste}
-use Rattle.forms.specs.Bytes.{if_then_else_, run}
+use Rattle.forms.specs.Bytes.{if_then_else_, text, run}
+use Rattle.definitions.specs.House.{decimal}
 use Rattle.output.specs.Puts.{Puts}
 use Rattle.output.specs.Clipped.{atMost}
 use Rattle.line_stream.specs.declared.Begun.{Begun}
 use Rattle.line_stream.specs.declared.Fed.{Fed}
-use Rattle.line_stream.specs.declared.Going.{Going}
-use Rattle.line_stream.specs.Stream.{nextNumber, hasRoom, answerTo}
-
-abbrev pub begunOf : Going → Begun
-begunOf g = record { number = g .number; len = g .len }
-
-abbrev pub fedOf : ℕ → Going → Fed
-fedOf taken g = record { taken = taken; put = g .put; begun = begunOf g }
-
--- behind a line whose answer was put up to a place: the next is begun, or it had no room and nothing is counted of it
-abbrev pub closed : Going → ℕ → ℕ → Going
-closed g place room =
-    if hasRoom place room
-    then record { number = nextNumber (g .number); len = 0; put = place; full = false }
-    else record { number = g .number; len = g .len; put = g .put; full = true }
+use Rattle.line_stream.specs.declared.Feeding.{Feeding}
+use Rattle.line_stream.specs.Stream.{nextNumber, hasRoom}
 
 -- a byte that ends no line
 abbrev pub inLine : ℕ → Bool
@@ -35,18 +23,52 @@ inLine b = not (eqb b 10)
 abbrev pub lfFrom : List ℕ → ℕ → ℕ
 lfFrom s from = from + run inLine (drop from s)
 
--- so many bytes of a part have room behind the first `len` of a buffer
+-- the bytes from a place on, up to there
+abbrev pub lineFrom : List ℕ → ℕ → List ℕ
+lineFrom s from = take (run inLine (drop from s)) (drop from s)
+
+-- so many bytes of a part have room after the first `len` of a buffer
 abbrev pub fitting : List ℕ → ℕ → List ℕ → ℕ
 fitting line len part = atMost (length line - len) (length part)
 
--- a part more of the line begun; past the buffer's end none is kept
-pub record Keeps (line line' : List ℕ) (g : Going) (part : List ℕ) (r : Going) : Type 0 where
-  pub kept : line' ≡ paste line (g .len) part (fitting line (g .len) part)
-  pub going : r ≡ record { number = g .number; len = g .len + fitting line (g .len) part; put = g .put; full = false }
+-- a part more after the first `len` bytes of a buffer; past its end none is kept
+pub record Keeps (line line' : List ℕ) (len : ℕ) (part : List ℕ) (r : ℕ) : Type 0 where
+  pub kept : line' ≡ paste line len part (fitting line len part)
+  pub long : r ≡ len + fitting line len part
 
-module _ (answer : List ℕ → List ℕ) where
-  -- the line begun is ended: its answer is put up to a place
-  pub record Ends (line out out' : List ℕ) (g r : Going) : Type 0 where
-    pub place : ℕ
-    pub answered : Puts out (g .put) (answerTo answer (g .number) (take (g .len) line)) out' place
-    pub going : r ≡ closed g place (length out')
+-- what is put before an answer: the line's number and a tab, if a line waits
+abbrev pub opening : Bool → ℕ → List ℕ
+opening false n = []
+opening true n = decimal n ++ text "\t"
+
+-- A LINE IS TAKEN from a place on: its bytes are kept up to the next LF, or to the end; at an LF it waits for its answer
+pub record Takes (input : List ℕ) (from : ℕ) (line line' out out' : List ℕ) (place : ℕ) (b : Begun) (r : Feeding) : Type 0 where
+  pub len : ℕ
+  pub next : ℕ
+  pub keeps : Keeps line line' (b .len) (lineFrom input from) len
+  pub opened : Puts out place (opening (ltb (lfFrom input from) (length input)) (b .number)) out' next
+  pub is : r ≡ record {
+    fed = record { taken = lfFrom input from; put = place; begun = record { number = b .number; len = len } };
+    at = next;
+    waits = ltb (lfFrom input from) (length input);
+  }
+
+-- THE NEXT LINE, the answer being put up to a place: LF, then the line after it is taken; or there was no room, and nothing is counted of the answer
+pub record Nexts (input line line' out out' : List ℕ) (fed : Fed) (at : ℕ) (r : Feeding) : Type 0 where
+  pub ended : List ℕ
+  pub place : ℕ
+  pub puts : Puts out at (text "\n") ended place
+  pub room : hasRoom place (length ended) ≡ true
+      → Takes input (fed .taken + 1) line line' ended out' place (record { number = nextNumber (fed .begun .number); len = 0 }) r
+  pub full : hasRoom place (length ended) ≡ false
+      → (line' ≡ line) × (out' ≡ ended) × (r ≡ record { fed = fed; at = fed .put; waits = false })
+
+-- THE LAST LINE, which lacks its LF: it waits for its answer, if a byte of it is kept
+pub record Lasts (line out out' : List ℕ) (b : Begun) (r : Feeding) : Type 0 where
+  pub next : ℕ
+  pub opened : Puts out 0 (opening (ltb 0 (length (take (b .len) line))) (b .number)) out' next
+  pub is : r ≡ record { fed = record { taken = 0; put = 0; begun = b }; at = next; waits = ltb 0 (length (take (b .len) line)) }
+
+-- the turns that are left at most: one for each byte still to come, and for the line that waits
+abbrev pub turnsLeft : List ℕ → Feeding → ℕ
+turnsLeft input t = if t .waits then suc (length input - t .fed .taken) else 0

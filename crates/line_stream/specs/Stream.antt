@@ -19,21 +19,21 @@ numberMost = 18446744073709551615
 abbrev pub nextNumber : ℕ → ℕ
 nextNumber n = if ltb n numberMost then n + 1 else n
 
--- where the program stands behind some input: the number of the line begun, what is kept of that line, and all that was written
-pub record Standing : Type 0 where
+-- THE STATE of a program after some input: the number of the line begun, what is kept of that line, and all that was written
+pub record State : Type 0 where
   pub number : ℕ
   pub begun : List ℕ
   pub written : List ℕ
 
-abbrev pub start : Standing
+abbrev pub start : State
 start = record { number = 1; begun = []; written = [] }
 
--- what a line buffer and the line begun say, whatever they are, to a program that has written so much
-abbrev pub standing : Begun → List ℕ → List ℕ → Standing
-standing b line written = record { number = b .number; begun = take (b .len) line; written = written }
+-- the state that a line buffer and the line begun stand for, whatever they hold, where so much was written
+abbrev pub stateOf : Begun → List ℕ → List ℕ → State
+stateOf b line written = record { number = b .number; begun = take (b .len) line; written = written }
 
 -- one byte more of the line begun; a buffer keeps the first bytes of a line, as many as it has room for
-abbrev pub longer : ℕ → Standing → ℕ → Standing
+abbrev pub longer : ℕ → State → ℕ → State
 longer room st b = record {
   number = st .number;
   begun = if ltb (length (st .begun)) room then st .begun ++ (b ∷ []) else st .begun;
@@ -50,39 +50,39 @@ module _ (answer : List ℕ → List ℕ) where
   answerTo n s = decimal n ++ (text "\t" ++ (answer s ++ text "\n"))
 
   -- the line begun is ended by LF
-  abbrev pub ended : Standing → Standing
+  abbrev pub ended : State → State
   ended st = record { number = nextNumber (st .number); begun = []; written = st .written ++ answerTo (st .number) (st .begun) }
 
-  -- behind one byte more, where `room` bytes of a line are kept
-  abbrev pub byteRead : ℕ → Standing → ℕ → Standing
+  -- after one byte more, where `room` bytes of a line are kept
+  abbrev pub byteRead : ℕ → State → ℕ → State
   byteRead room st b = if eqb b 10 then ended st else longer room st b
 
-  -- behind some more input
-  unfoldable pub behind : ℕ → Standing → List ℕ → Standing
-  behind room st [] = st
-  behind room st (b ∷ l) = behind room (byteRead room st b) l
+  -- the state after some more input
+  unfoldable pub after : ℕ → State → List ℕ → State
+  after room st [] = st
+  after room st (b ∷ l) = after room (byteRead room st b) l
 
   -- at the end of the input: a last line may lack its LF
   abbrev pub lastLine : ℕ → List ℕ → List ℕ
   lastLine n [] = []
   lastLine n (b ∷ s) = answerTo n (b ∷ s)
 
-  abbrev pub outputOf : Standing → List ℕ
+  abbrev pub outputOf : State → List ℕ
   outputOf st = st .written ++ lastLine (st .number) (st .begun)
 
-  -- the answer to the line begun has room behind the first bytes of a buffer
-  abbrev pub answerFits : Standing → ℕ → List ℕ → Bool
+  -- the answer to the line begun has room after the first bytes of a buffer
+  abbrev pub answerFits : State → ℕ → List ℕ → Bool
   answerFits st put out = hasRoom (put + length (answerTo (st .number) (st .begun))) (length out)
 
-  -- FEEDING, whatever is given: the code stands where the program stands behind what was taken of the input, the output's first bytes being what it has
-  -- written. All is taken, unless an LF comes and the answer to its line has no room. Left free are the bytes of both buffers behind those: of the output
-  -- behind what was put, of the line behind what is kept of it
+  -- FEEDING, whatever is given: the code is in the program's state after what was taken of the input, the output's first bytes being what was written.
+  -- All is taken, unless an LF comes and the answer to its line has no room. Left free are the bytes of both buffers after those: of the output after what
+  -- was put, of the line after what is kept of it
   pub record Feeds (input line out line' out' : List ℕ) (b : Begun) (r : Fed) : Type 0 where
     pub taken : r .taken ≤ length input
     pub put : r .put ≤ length out'
     pub same-line : length line' ≡ length line
     pub same-out : length out' ≡ length out
-    pub stands : standing (r .begun) line' (take (r .put) out') ≡ behind (length line) (standing b line []) (take (r .taken) input)
+    pub stands : stateOf (r .begun) line' (take (r .put) out') ≡ after (length line) (stateOf b line []) (take (r .taken) input)
     pub stops : r .taken < length input
         → (getD input (r .taken) 0 ≡ 10)
-        × (answerFits (behind (length line) (standing b line []) (take (r .taken) input)) (r .put) out' ≡ false)
+        × (answerFits (after (length line) (stateOf b line []) (take (r .taken) input)) (r .put) out' ≡ false)

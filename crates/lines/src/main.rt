@@ -1,64 +1,39 @@
-// The line program: moves bytes between standard input, the work on lines (crate text_lines) and standard output.
-use blocks::Step;
-use blocks::go_on;
-use blocks::no_room;
-use blocks::stop;
-use blocks::unread;
-use blocks::write_first;
-use blocks::write_last;
+// The line program: standard input and output (crate line_io) around the work on lines (crate text_lines).
+ghost use Prim.Native.Nat.{_<_};
 use definitions::limits::TEXT_BYTES;
-use libc::STDIN_FILENO;
-use line_stream::Begun;
+use line_io::BLOCK;
+use line_io::Step;
+use line_io::fill;
+use line_io::rest;
+use line_io::start;
+use line_io::write_fed;
+use line_io::write_last;
 use text_lines::feed;
 use text_lines::finish;
 
-// Feeds a block and writes its answers, in turns where the output has no room for all of them.
-fn answer_block(block: &[u8], line: &mut [u8], out: &mut [u8], begun: Begun) -> Step {
-    let mut now = begun;
-    let mut from = 0;
-    while from < block.len() {
-        let fed = feed(&block[from..], line, out, now);
-        let taken = fed.taken;
-        now = fed.begun;
-        if !write_first(out, fed.put) {
-            return stop(now);
-        }
-        if taken == 0 {
-            return no_room(now);
-        }
-        from += taken;
+// Bytes of a line that are kept: one more than an answer looks at.
+const LINE: usize = TEXT_BYTES + 1;
+
+// Reads, answers what came and writes; at the end of the input, a last line that lacks its LF.
+fn step(block: &mut [u8; BLOCK], line: &mut [u8; LINE], out: &mut [u8; BLOCK], s: Step) -> Step
+    requires { ⌜ 0 < s .left ⌝ }
+    ensures { λ r. ⌜ r .left < s .left ⌝ }
+{
+    let now = fill(block, s);
+    if now.from < now.end {
+        let fed = feed(rest(block, now), line, out, now.begun);
+        return write_fed(out, fed, now);
     }
-    go_on(now)
+    let put = finish(line, out, now.begun);
+    write_last(out, put, now)
 }
 
-// Reads once and answers what came; at the end of the input, a last line that lacks its LF.
-fn answer_some(line: &mut [u8], out: &mut [u8], begun: Begun) -> Step {
-    let mut block = io::large_buffer();
-    let got = libc::read(STDIN_FILENO, &mut block);
-    if got < 0 {
-        return unread(begun);
-    }
-    let n = io::count(got, &block);
-    if n == 0 {
-        let put = finish(line, out, begun);
-        return write_last(out, put, begun);
-    }
-    answer_block(&block[..n], line, out, begun)
-}
-
-// A proved loop has to end, and nothing says that the input does: it counts its turns down from a number that no run uses up.
 fn main() {
-    let mut line = [0u8; TEXT_BYTES + 1];
-    let mut out = io::large_buffer();
-    let begun = Begun { number: 1, len: 0 };
-    let mut step = Step { begun, going: true };
-    let mut turns = u64::MAX;
-    while turns > 0 {
-        let now = step.begun;
-        step = answer_some(&mut line, &mut out, now);
-        if !step.going {
-            return;
-        }
-        turns -= 1;
+    let mut block = [0u8; BLOCK];
+    let mut line = [0u8; LINE];
+    let mut out = [0u8; BLOCK];
+    let mut s = start();
+    while s.left > 0 {
+        s = step(&mut block, &mut line, &mut out, s);
     }
 }

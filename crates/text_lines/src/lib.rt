@@ -3,70 +3,37 @@ ghost use lib.ListN.{take};
 ghost use Rattle.definitions.specs.Limits.{limits01};
 ghost use Rattle.definitions.specs.Lines.{lineOf};
 ghost use Rattle.output.specs.Puts.{Puts};
-ghost use Rattle.line_stream.specs.Stream.{answerTo, lastLine, Feeds};
-ghost use Rattle.line_stream.specs.Steps.{Ends};
+ghost use Rattle.line_stream.specs.Stream.{lastLine, Feeds};
 use line_stream::Begun;
 use line_stream::Fed;
-use line_stream::Going;
-use line_stream::close_line;
-use line_stream::fed_so_far;
-use line_stream::keep_part;
-use line_stream::lf_from;
-use line_stream::open_line;
-use output::limits::at_most;
-use output::put;
+use line_stream::end_line;
+use line_stream::first_line;
+use line_stream::kept;
+use line_stream::last_line;
+use line_stream::next_line;
 use text_answers::answer_text;
 
-// Line number, tab, answer, LF.
-fn put_line(out: &mut [u8], at: usize, number: u64, s: &[u8]) -> usize
-    ensures { λ n. ⌜ Puts (now (out .entry)) at (answerTo (lineOf limits01) number (now (s .entry))) (now (out .exit)) n ⌝ }
-{
-    let a1 = open_line(out, at, number);
-    let a2 = answer_text(out, a1, s);
-    put(out, a2, 10)
-}
-
-// The line begun is ended.
-fn end_line(line: &[u8], out: &mut [u8], g: Going) -> Going
-    ensures { λ r. ⌜ Ends (lineOf limits01) (now (line .entry)) (now (out .entry)) (now (out .exit)) g r ⌝ }
-{
-    let len = at_most(g.len, line.len());
-    let place = put_line(out, g.put, g.number, &line[0..len]);
-    close_line(g, place, out.len())
-}
-
-// Takes bytes of the input until all are taken, or an answer has no room in the output: line by line, then what is left behind the last LF.
+// Takes bytes of the input until all are taken, or an answer has no room in the output.
 pub fn feed(input: &[u8], line: &mut [u8], out: &mut [u8], begun: Begun) -> Fed
     ensures { λ r. ⌜ Feeds (lineOf limits01) (now (input .entry)) (now (line .entry)) (now (out .entry)) (now (line .exit)) (now (out .exit)) begun r ⌝ }
 {
-    let mut g = Going {
-        number: begun.number,
-        len: begun.len,
-        put: 0,
-        full: false,
-    };
-    let mut i = 0;
-    let mut e = lf_from(input, i);
-    while e < input.len() {
-        g = keep_part(line, g, &input[i..e]);
-        g = end_line(line, out, g);
-        if g.full {
-            return fed_so_far(e, g);
-        }
-        i = e + 1;
-        e = lf_from(input, i);
+    let mut t = first_line(input, line, out, begun);
+    while t.waits {
+        let fed = t.fed;
+        let at = answer_text(out, t.at, kept(line, fed.begun));
+        t = next_line(input, line, out, fed, at);
     }
-    g = keep_part(line, g, &input[i..e]);
-    fed_so_far(e, g)
+    t.fed
 }
 
 // Behind the last byte: the answer to a line that lacks its LF. The answer is how many bytes it has, more than the buffer's if it has no room.
 pub fn finish(line: &[u8], out: &mut [u8], begun: Begun) -> usize
     ensures { λ r. ⌜ Puts (now (out .entry)) 0 (lastLine (lineOf limits01) (begun .number) (take (begun .len) (now (line .entry)))) (now (out .exit)) r ⌝ }
 {
-    let len = at_most(begun.len, line.len());
-    if len == 0 {
-        return 0;
+    let t = last_line(line, out, begun);
+    if t.waits {
+        let at = answer_text(out, t.at, kept(line, begun));
+        return end_line(out, at);
     }
-    put_line(out, 0, begun.number, &line[0..len])
+    t.at
 }

@@ -6,19 +6,19 @@ use Rattle.line_stream.proofs.keep_part.Statement.{statement}
 use Rattle.line_stream.proofs.keep_part.Tie as tie
 
 abbrev Inv-loop : tie.InvT-loop
-Inv-loop line₀ g part len n i₀ line i = Copied line₀ part line len n i
+Inv-loop line₀ len part n i₀ line i = Copied line₀ part line len n i
 
 abbrev μ-loop : tie.MeasureT-loop
-μ-loop line₀ g part len n i₀ line i = n - i
+μ-loop line₀ len part n i₀ line i = n - i
 
-room-behind-requires : tie.Need-room-behind-requires Inv-loop μ-loop
-room-behind-requires c κs = tt
+room-after-requires : tie.Need-room-after-requires Inv-loop μ-loop
+room-after-requires c κs = tt
 
 at-most-requires : tie.Need-at-most-requires Inv-loop μ-loop
 at-most-requires c κs = tt
 
 loop-holds : tie.Need-loop-holds Inv-loop μ-loop
-loop-holds c = copied-none (c .before .room-behind .ensures) (c .at-most .ensures)
+loop-holds c = copied-none (c .before .room-after .ensures) (c .at-most .ensures)
 
 shared-slice-read-line : tie.Need-shared-slice-read-line Inv-loop μ-loop
 shared-slice-read-line c = copied-within (c .before .before .loop .inv) (c .before .loop-test .taken) .0
@@ -38,11 +38,11 @@ loop-less c = omega arith
 loop-again : tie.Need-loop-again Inv-loop μ-loop
 loop-again c = copied-one (c .before .before .loop .inv) (c .before .loop-test .taken)
 
-add-t7 : tie.Need-add-t7 Inv-loop μ-loop
-add-t7 c = omega (arith, copied-room (c .before .loop .inv))
+add-result : tie.Need-add-result Inv-loop μ-loop
+add-result c = omega (arith, copied-room (c .before .loop .inv))
 
 returns : tie.Need-returns Inv-loop μ-loop
-returns c = copied-all _ (c .before .loop .inv) (c .loop-test .left)
+returns c = copied-all (c .before .loop .inv) (c .loop-test .left)
 
 same-length : tie.Need-same-length Inv-loop μ-loop
 same-length c = keeps-length (returns c)
@@ -53,7 +53,7 @@ keep-part-spec =
     (tie.spec
     Inv-loop
     μ-loop
-    room-behind-requires
+    room-after-requires
     at-most-requires
     loop-holds
     shared-slice-read-line
@@ -62,6 +62,6 @@ keep-part-spec =
     add-i
     loop-less
     loop-again
-    add-t7
+    add-result
     same-length
     returns)

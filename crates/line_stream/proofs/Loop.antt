@@ -1,0 +1,231 @@
+-- THE LOOP of a feed, whatever is answered: the code is in the program's state after the bytes taken so far, line by line, in whatever parts the input comes.
+use mathlib.Core.Path.{_≡_, refl, sym, ap, subst, _∙_}
+use mathlib.Core.Bool.{true, false, true≢false, false≢true}
+use mathlib.Core.List.{List, [], _∷_, _++_}
+use Prim.Native.Nat.{ℕ, _+_, _≤_, _<_}
+use native.Mathlib.Omega.{arith}
+use native.Mathlib.Nat.{le-of-lt}
+use native.Mathlib.Numerals.{add-one}
+use lib.Dec.{eqb, ltb}
+use lib.ListN.{length, getD, take}
+use lib.Seq.{take-suc}
+use borrow.Author.Tests.{not-true, ltb-true, ltb-false}
+use Rattle.forms.specs.Bytes.{text}
+use Rattle.forms.proofs.Bools.{by-cases, both-left, both-right}
+use Rattle.definitions.specs.Lists.{all?}
+use Rattle.definitions.specs.House.{decimal}
+use Rattle.output.specs.Puts.{puts, Puts}
+use Rattle.output.proofs.Putting.{none-put, same-length}
+use Rattle.output.proofs.Whole.{placed-front, placed-whole}
+use Rattle.line_stream.specs.declared.Begun.{Begun}
+use Rattle.line_stream.specs.declared.Fed.{Fed}
+use Rattle.line_stream.specs.declared.Feeding.{Feeding}
+use Rattle.line_stream.specs.Stream.{State, stateOf, longer, ended, byteRead, after, hasRoom, answerTo, answerFits, Feeds}
+use Rattle.line_stream.specs.Steps.{inLine, lfFrom, lineFrom, opening, Takes, Nexts, turnsLeft}
+use Rattle.line_stream.proofs.Room.{line-put, no-room, room-counted, room-within}
+use Rattle.line_stream.proofs.Parts.{line-within, line-lf, line-inside, line-after}
+use Rattle.line_stream.proofs.Keeping.{partly-none, partly-on, further, keeps-length, keeps-partly}
+
+nothing-put : {out o : List ℕ} {at n : ℕ} → Puts out at [] o n → o ≡ out
+unfolding puts
+nothing-put p = ap (λ (q : List ℕ × ℕ). q .0) (p .is)
+
+module _ (answer : List ℕ → List ℕ) where
+  -- ---- the state after a part of the input
+
+  pub after-append : (room : ℕ) (st : State) (k l : List ℕ) → after answer room st (k ++ l) ≡ after answer room (after answer room st k) l
+  unfolding after
+  after-append room st [] l = refl
+  after-append room st (b ∷ k) l = after-append room (byteRead answer room st b) k l
+
+  -- a part without LF is kept
+  after-line : (room : ℕ) (st : State) (part : List ℕ) → all? inLine part ≡ true → after answer room st part ≡ further room st part
+  unfolding after all?
+  after-line room st [] t = ap (λ (s : List ℕ). record { number = st .number; begun = s; written = st .written }) (sym (partly-none room (st .begun)))
+  after-line room st (b ∷ part) t =
+      let isnt : eqb b 10 ≡ false = not-true (eqb b 10) (both-left (inLine b) (all? inLine part) t) in
+      rw isnt
+      (after-line room (longer room st b) part (both-right (inLine b) (all? inLine part) t)
+      ∙ ap (λ (s : List ℕ). record { number = st .number; begun = s; written = st .written }) (partly-on room (st .begun) b part))
+
+  -- LF ends the line
+  after-lf : (room : ℕ) (st : State) (input : List ℕ) (i : ℕ) → i < length input → getD input i 0 ≡ 10
+      → after answer room st (take (i + 1) input) ≡ ended answer (after answer room st (take i input))
+  unfolding after
+  after-lf room st input i h e =
+      ap (λ (k : ℕ). after answer room st (take k input)) (add-one i)
+      ∙ ap (after answer room st) (take-suc input i 0 h)
+      ∙ after-append room st (take i input) (getD input i 0 ∷ [])
+      ∙ ap (byteRead answer room (after answer room st (take i input))) e
+
+  module _ (input line₀ out₀ : List ℕ) (b : Begun) where
+    abbrev now : ℕ → State
+    now i = after answer (length line₀) (stateOf b line₀ []) (take i input)
+
+    -- ---- the code is in the program's state after i bytes
+
+    record At (i : ℕ) (line out : List ℕ) (place : ℕ) (g : Begun) : Type 0 where
+      within : i ≤ length input
+      put : place ≤ length out
+      same-line : length line ≡ length line₀
+      same-out : length out ≡ length out₀
+      is : stateOf g line (take place out) ≡ now i
+
+    -- where a line waits, an LF comes, and number and tab were put; where none waits, all was taken, or the answer had no room
+
+    record SoFar (line out : List ℕ) (t : Feeding) : Type 0 where
+      before : List ℕ
+      at : At (t .fed .taken) line before (t .fed .put) (t .fed .begun)
+      opened : Puts before (t .fed .put) (opening (t .waits) (t .fed .begun .number)) out (t .at)
+      lf : t .waits ≡ true → (t .fed .taken < length input) × (getD input (t .fed .taken) 0 ≡ 10)
+      stops : t .waits ≡ false → t .fed .taken < length input
+          → (getD input (t .fed .taken) 0 ≡ 10) × (answerFits answer (now (t .fed .taken)) (t .fed .put) before ≡ false)
+
+    abbrev begunWith : Begun → List ℕ → List ℕ → State
+    begunWith g w l = record { number = g .number; begun = l; written = w }
+
+    -- a line is taken
+    module _ {i place : ℕ} {line line' out out' : List ℕ} {g : Begun} {r : Feeding} (k : Takes input i line line' out out' place g r) (s : At i line out place g) where
+      abbrev end : ℕ
+      end = lfFrom input i
+
+      at-end : At end line' out place (record { number = g .number; len = k .len })
+      at-end =
+          let st = stateOf g line (take place out) in
+          record {
+            within = line-within input i (s .within);
+            put = s .put;
+            same-line = keeps-length (k .keeps) ∙ s .same-line;
+            same-out = s .same-out;
+            is =
+                ap (begunWith g (take place out)) (keeps-partly (k .keeps))
+                ∙ sym (after-line (length line) st (lineFrom input i) (line-inside input i))
+                ∙ ap (λ (n : ℕ). after answer n st (lineFrom input i)) (s .same-line)
+                ∙ ap (λ (x : State). after answer (length line₀) x (lineFrom input i)) (s .is)
+                ∙ sym (after-append (length line₀) (stateOf b line₀ []) (take i input) (lineFrom input i))
+                ∙ ap (after answer (length line₀) (stateOf b line₀ [])) (sym (line-after input i));
+          }
+
+      taken : SoFar line' out' r
+      taken = subst (SoFar line' out') (sym (k .is)) (record {
+        before = out;
+        at = at-end;
+        opened = k .opened;
+        lf = λ t. (ltb-true end (length input) t, line-lf input i (ltb-true end (length input) t));
+        stops = λ f h. absurd (let z : ⊥ = omega (arith, h, ltb-false end (length input) f) in z);
+      })
+
+    begins : {line out : List ℕ} {t : Feeding} → Takes input 0 line₀ line out₀ out 0 b t → SoFar line out t
+    unfolding after
+    begins k = taken k (record { within = omega arith; put = omega arith; same-line = refl; same-out = refl; is = refl })
+
+    -- the answer is put to the line that waits
+    module _
+        {line out s o line' out' : List ℕ} {t r : Feeding} {j : ℕ} (so : SoFar line out t) (w : t .waits ≡ true) (e : s ≡ take (t .fed .begun .len) line)
+        (p : Puts out (t .at) (answer s) o j) (k : Nexts input line line' o out' (t .fed) j r) where
+      abbrev place : ℕ
+      place = t .fed .put
+
+      abbrev begun : Begun
+      begun = t .fed .begun
+
+      number-put : Puts (so .before) place (decimal (begun .number) ++ text "\t") out (t .at)
+      number-put = rw w at (so .opened)
+
+      answered : Puts (so .before) place (answerTo answer (begun .number) (take (begun .len) line)) (k .ended) (k .place)
+      answered = line-put answer (begun .number) (take (begun .len) line) number-put (rw e at p) (k .puts)
+
+      same : length (k .ended) ≡ length (so .before)
+      same = same-length answered
+
+      at-next : hasRoom (k .place) (length (k .ended)) ≡ true
+          → At (t .fed .taken + 1) line (k .ended) (k .place) (record { number = ended answer (stateOf begun line []) .number; len = 0 })
+      at-next h =
+          let fits : k .place ≤ length (k .ended) = room-within (k .place) (length (k .ended)) h in
+          let few = room-counted (k .place) (length (k .ended)) h in
+          let all = placed-whole (so .before) place answered few (omega (arith, fits, same)) in
+          let lf = so .lf w in
+          record {
+            within = omega (arith, lf .0);
+            put = fits;
+            same-line = so .at .same-line;
+            same-out = same ∙ so .at .same-out;
+            is =
+                ap (λ (l : List ℕ). record { number = ended answer (stateOf begun line []) .number; begun = []; written = l }) all
+                ∙ ap (ended answer) (so .at .is)
+                ∙ sym (after-lf (length line₀) (stateOf b line₀ []) input (t .fed .taken) (lf .0) (lf .1));
+          }
+
+      -- the same state as before: the answer is not counted
+      at-full : At (t .fed .taken) line (k .ended) place begun
+      at-full = record {
+        within = so .at .within;
+        put = subst (λ (n : ℕ). place ≤ n) (sym same) (so .at .put);
+        same-line = so .at .same-line;
+        same-out = same ∙ so .at .same-out;
+        is = ap (stateOf begun line) (placed-front (so .before) place answered) ∙ so .at .is;
+      }
+
+      full : hasRoom (k .place) (length (k .ended)) ≡ false → SoFar line (k .ended) (record { fed = t .fed; at = place; waits = false })
+      full f = record {
+        before = k .ended;
+        at = at-full;
+        opened = none-put;
+        lf = λ z. absurd (false≢true z);
+        stops = λ _ _. (so .lf w .1, subst (λ (x : State). answerFits answer x place (k .ended) ≡ false) (so .at .is) (no-room (so .before) place (length (k .ended)) answered f));
+      }
+
+      next-taken : SoFar line' out' r
+      next-taken =
+          by-cases (hasRoom (k .place) (length (k .ended)))
+          (λ h. taken (k .room h) (at-next h))
+          (λ f. rw (k .full f .0, k .full f .1, k .full f .2) (full f))
+
+    -- no line waits: the feed is done
+    done : {line out : List ℕ} {t : Feeding} → SoFar line out t → t .waits ≡ false → Feeds answer input line₀ out₀ line out b (t .fed)
+    done {t = t} so f =
+        let none : Puts (so .before) (t .fed .put) [] _ (t .at) = rw f at (so .opened) in
+        rw (nothing-put none) (record {
+          taken = so .at .within;
+          put = so .at .put;
+          same-line = so .at .same-line;
+          same-out = so .at .same-out;
+          stands = so .at .is;
+          stops = so .stops f;
+        })
+
+  -- ---- THE LOOP'S INVARIANT: it began behind the first line, and whatever that line was begun with, the code is where it says since
+
+  pub record Loop (input line₁ out₁ : List ℕ) (t₁ : Feeding) (line out : List ℕ) (t : Feeding) : Type 0 where
+    since : (line₀ out₀ : List ℕ) (b : Begun) → SoFar input line₀ out₀ b line₁ out₁ t₁ → SoFar input line₀ out₀ b line out t
+
+  pub loop-begins : {input line out : List ℕ} {t : Feeding} → Loop input line out t line out t
+  loop-begins = record { since = λ line₀ out₀ b s. s }
+
+  module _ {input line₁ out₁ line out : List ℕ} {t₁ t : Feeding} (l : Loop input line₁ out₁ t₁ line out t) where
+    pub loop-goes : {s o line' out' : List ℕ} {r : Feeding} {j : ℕ} → t .waits ≡ true → s ≡ take (t .fed .begun .len) line → Puts out (t .at) (answer s) o j
+        → Nexts input line line' o out' (t .fed) j r → Loop input line₁ out₁ t₁ line' out' r
+    loop-goes w e p k = record { since = λ line₀ out₀ b s. next-taken input line₀ out₀ b (l .since line₀ out₀ b s) w e p k }
+
+    -- each turn takes some of the input, or is the last
+    pub loop-less : {o line' out' : List ℕ} {r : Feeding} {j : ℕ} → t .waits ≡ true → Nexts input line line' o out' (t .fed) j r
+        → turnsLeft input r < turnsLeft input t
+    loop-less w k =
+        by-cases (hasRoom (k .place) (length (k .ended)))
+        (λ h.
+        let from = t .fed .taken + 1 in
+        rw (k .room h .is, w)
+        (by-cases (ltb (lfFrom input from) (length input))
+        (λ e. rw e (omega (arith, ltb-true (lfFrom input from) (length input) e)))
+        (λ f. rw f (omega arith))))
+        (λ f. rw (k .full f .2, w) (omega arith))
+
+    module _ {line₀ out₀ : List ℕ} {b : Begun} (k : Takes input 0 line₀ line₁ out₀ out₁ 0 b t₁) where
+      now-so-far : SoFar input line₀ out₀ b line out t
+      now-so-far = l .since line₀ out₀ b (begins input line₀ out₀ b k)
+
+      pub loop-lf : t .waits ≡ true → t .fed .taken < length input
+      loop-lf w = now-so-far .lf w .0
+
+      pub loop-ends : t .waits ≡ false → Feeds answer input line₀ out₀ line out b (t .fed)
+      loop-ends f = done input line₀ out₀ b now-so-far f
