@@ -15,8 +15,9 @@ use Rattle.definitions.specs.Refusals.{numberOf}
 use Rattle.definitions.specs.Reading.{read}
 use Rattle.definitions.specs.House.{decimal}
 use Rattle.definitions.specs.Answers.{verdictDue, placementsOf, firstAnswer, nextAnswer}
-use Rattle.cases.specs.CaseLines.{Ask, all, first, next, isCase, Case, caseOf}
+use Rattle.case_columns.specs.Asks.{Ask, all, first, next}
 use Rattle.case_lists.specs.AnswerTexts.{listText, dueText, answerText}
+use Rattle.case_answers.specs.CaseLines.{isCase, Case, caseOf}
 
 -- a text's refusal with its place
 abbrev pub unreadText : Refusal → ℕ → List ℕ

@@ -7,22 +7,16 @@ ghost use Rattle.definitions.specs.Cases.{pairs};
 ghost use Rattle.definitions.specs.Limits.{limits01};
 ghost use Rattle.definitions.specs.Reading.{read as readText};
 ghost use Rattle.output.specs.Puts.{Puts};
-ghost use Rattle.cases.specs.CaseLines.{lineMost, isHex};
-ghost use Rattle.cases.specs.Parsing.{isKind, askBy};
+ghost use Rattle.line_numbers.specs.HexPairs.{isHex};
+ghost use Rattle.case_columns.specs.Asks.{askBy};
+ghost use Rattle.case_answers.specs.CaseLines.{maxLine};
 ghost use Rattle.case_answers.specs.CaseAnswers.{askText, unreadText, readingText, caseAnswer};
-ghost use Rattle.case_answers.specs.Columns.{columnsText, Formed};
+ghost use Rattle.case_answers.specs.Columns.{columnsText};
+use case_columns::Kind;
+use case_columns::is_ask;
+use case_columns::parse_ask;
 use case_lists::answers::put_answer;
 use case_lists::lists::put_list;
-use cases::asks::Kind;
-use cases::asks::ask_column;
-use cases::directions::direction_of;
-use cases::directions::is_direction;
-use cases::hex::is_hex_column;
-use cases::hex::put_pairs;
-use cases::maps::map_column;
-use cases::parts::front;
-use cases::parts::marked;
-use cases::parts::rear;
 use codes::number_of;
 use definitions::answers::ReadOutcome;
 use definitions::answers::Reading;
@@ -31,6 +25,12 @@ use definitions::packet::Direction;
 use definitions::packet::FieldMap;
 use definitions::packet::Placement;
 use definitions::table::Table;
+use line_numbers::hex_pairs::put_pairs;
+use line_packets::packets::PacketResult;
+use line_packets::packets::parse_packet;
+use line_parts::contains;
+use line_parts::part_after;
+use line_parts::part_before;
 use output::put;
 use output::put_decimal;
 use output::put_word;
@@ -69,7 +69,7 @@ fn put_unread(out: &mut [u8], at: usize, r: Refusal, place: usize) -> usize
 {
     let a1 = put_word(out, at, b"text ");
     let a2 = put_decimal(out, a1, number_of(r));
-    let a3 = put(out, a2, 32);
+    let a3 = put(out, a2, b' ');
     put_decimal(out, a3, place as u64)
 }
 
@@ -108,7 +108,7 @@ fn put_formed(
     room: &mut [u8; PAIRS],
     more: &mut [u8; PAIRS],
 ) -> usize
-    requires { ⌜ (isHex (now packet) ≡ true) × (isHex (now decoded) ≡ true) × (length (now packet) ≤ lineMost) × (length (now decoded) ≤ lineMost) ⌝ }
+    requires { ⌜ (isHex (now packet) ≡ true) × (isHex (now decoded) ≡ true) × (length (now packet) ≤ maxLine) × (length (now decoded) ≤ maxLine) ⌝ }
     ensures { λ r. ⌜ Puts (now (out .entry)) at (readingText (pairs (now (packet .entry))) (pairs (now (decoded .entry))) dir m (readText limits01 (now (text .entry))) (askBy kind held)) (now (out .exit)) r ⌝ }
 {
     let n = put_pairs(room, 0, packet);
@@ -129,36 +129,6 @@ fn put_formed(
     )
 }
 
-fn is_ask(kind: Kind) -> bool
-    ensures { λ r. ⌜ r ≡ isKind kind ⌝ }
-{
-    match kind {
-        Kind::All => true,
-        Kind::First => true,
-        Kind::Next => true,
-        Kind::Bad => false,
-    }
-}
-
-// Whether each column is of its form, where it is told already of the map and of the ask.
-fn are_formed(origin: &[u8], packet: &[u8], mapped: bool, decoded: &[u8], asked: bool) -> bool
-    ensures { λ r. ⌜ Formed (now (origin .entry)) (now (packet .entry)) mapped (now (decoded .entry)) asked r ⌝ }
-{
-    if !is_direction(origin) {
-        return false;
-    }
-    if !is_hex_column(packet) {
-        return false;
-    }
-    if !mapped {
-        return false;
-    }
-    if !is_hex_column(decoded) {
-        return false;
-    }
-    asked
-}
-
 // The six columns of a line; `bad` where one is of another form.
 fn put_columns(
     out: &mut [u8],
@@ -172,21 +142,24 @@ fn put_columns(
     room: &mut [u8; PAIRS],
     more: &mut [u8; PAIRS],
 ) -> usize
-    requires { ⌜ (length (now packet) ≤ lineMost) × (length (now decoded) ≤ lineMost) ⌝ }
+    requires { ⌜ (length (now packet) ≤ maxLine) × (length (now decoded) ≤ maxLine) ⌝ }
     ensures { λ r. ⌜ Puts (now (out .entry)) at (columnsText (now (origin .entry)) (now (packet .entry)) (now (fields .entry)) (now (decoded .entry)) (now (ask .entry)) (now (text .entry))) (now (out .exit)) r ⌝ }
 {
-    let mapped = map_column(fields);
-    let asked = ask_column(ask);
+    let asked = parse_ask(ask);
     let kind = asked.kind;
-    if !are_formed(origin, packet, mapped.fits, decoded, is_ask(kind)) {
+    let held = asked.placement;
+    if !is_ask(kind) {
         return put_word(out, at, b"bad");
     }
-    let map = mapped.map;
-    let held = asked.placement;
+    let PacketResult::Parsed(said) = parse_packet(origin, packet, fields, decoded) else {
+        return put_word(out, at, b"bad");
+    };
+    let dir = said.direction;
+    let map = said.fields;
     put_formed(
         out,
         at,
-        direction_of(origin),
+        dir,
         packet,
         map,
         decoded,
@@ -211,19 +184,19 @@ pub fn answer_case(
     if LINE_BYTES < line.len() {
         return put_word(out, at, b"bad");
     }
-    let r1 = rear(line, 9);
-    let r2 = rear(r1, 9);
-    let r3 = rear(r2, 9);
-    let r4 = rear(r3, 9);
-    let r5 = rear(r4, 9);
-    if !marked(r4, 9) {
+    let r1 = part_after(line, b'\t');
+    let r2 = part_after(r1, b'\t');
+    let r3 = part_after(r2, b'\t');
+    let r4 = part_after(r3, b'\t');
+    let r5 = part_after(r4, b'\t');
+    if !contains(r4, b'\t') {
         return put_word(out, at, b"bad");
     }
-    let origin = front(line, 9);
-    let packet = front(r1, 9);
-    let fields = front(r2, 9);
-    let decoded = front(r3, 9);
-    let ask = front(r4, 9);
+    let origin = part_before(line, b'\t');
+    let packet = part_before(r1, b'\t');
+    let fields = part_before(r2, b'\t');
+    let decoded = part_before(r3, b'\t');
+    let ask = part_before(r4, b'\t');
     put_columns(
         out,
         at,

@@ -4,10 +4,10 @@ use mathlib.Core.List.{List}
 use Prim.Native.Nat.{ℕ, _<_}
 use lib.ListN.{take}
 use Rattle.forms.specs.Bytes.{text}
-use Rattle.cases.specs.CaseLines.{lineMost}
+use Rattle.case_answers.specs.CaseLines.{maxLine}
 use Rattle.case_answers.specs.CaseAnswers.{caseAnswer}
 use Rattle.case_answers.proofs.Columns.{long-line}
 use Rattle.line_stream.proofs.Keeping.{kept-beyond}
 
-pub kept-case : (m : ℕ) (s : List ℕ) → lineMost < m → caseAnswer (take m s) ≡ caseAnswer s
-kept-case = kept-beyond caseAnswer lineMost (text "bad") long-line
+pub kept-case : (m : ℕ) (s : List ℕ) → maxLine < m → caseAnswer (take m s) ≡ caseAnswer s
+kept-case = kept-beyond caseAnswer maxLine (text "bad") long-line

@@ -5,12 +5,12 @@ use mathlib.Core.List.{List}
 use Prim.Native.Nat.{ℕ, _+_, _<_, _^_}
 use lib.ListN.{length}
 use Rattle.definitions.specs.Lines.{outputOver}
-use Rattle.cases.specs.CaseLines.{lineMost}
+use Rattle.case_answers.specs.CaseLines.{maxLine}
 use Rattle.case_answers.specs.CaseAnswers.{caseAnswer}
 use Rattle.line_stream.specs.Runs.{Runs}
 use Rattle.line_stream.proofs.Running.{runs-output}
 use Rattle.case_lines.proofs.Kept.{kept-case}
 
-pub run-writes : {input line w : List ℕ} → lineMost < length line → length input + 1 < 2 ^ 64
+pub run-writes : {input line w : List ℕ} → maxLine < length line → length input + 1 < 2 ^ 64
     → Runs caseAnswer input line (record { number = 1; len = 0 }) w → w ≡ outputOver caseAnswer input
-run-writes roomy few u = runs-output caseAnswer lineMost kept-case roomy few u
+run-writes roomy few u = runs-output caseAnswer maxLine kept-case roomy few u

@@ -15,23 +15,23 @@ put-word-requires c κs = tt
 returns : tie.Need-returns
 returns c = told (long-line _ (c .before .before .before .before .before .if1 .taken)) (c .before .before .put-word .ensures)
 
-rear-requires : tie.Need-rear-requires
-rear-requires c κs = tt
+part-after-requires : tie.Need-part-after-requires
+part-after-requires c κs = tt
 
-rear-requires-2 : tie.Need-rear-requires-2
-rear-requires-2 c κs = tt
+part-after-requires-2 : tie.Need-part-after-requires-2
+part-after-requires-2 c κs = tt
 
-rear-requires-3 : tie.Need-rear-requires-3
-rear-requires-3 c κs = tt
+part-after-requires-3 : tie.Need-part-after-requires-3
+part-after-requires-3 c κs = tt
 
-rear-requires-4 : tie.Need-rear-requires-4
-rear-requires-4 c κs = tt
+part-after-requires-4 : tie.Need-part-after-requires-4
+part-after-requires-4 c κs = tt
 
-rear-requires-5 : tie.Need-rear-requires-5
-rear-requires-5 c κs = tt
+part-after-requires-5 : tie.Need-part-after-requires-5
+part-after-requires-5 c κs = tt
 
-marked-requires : tie.Need-marked-requires
-marked-requires c κs = tt
+contains-requires : tie.Need-contains-requires
+contains-requires c κs = tt
 
 slice-aggregate-put-word-2 : tie.Need-slice-aggregate-put-word-2
 slice-aggregate-put-word-2 c = refl
@@ -40,28 +40,53 @@ put-word-requires-2 : tie.Need-put-word-requires-2
 put-word-requires-2 c κs = tt
 
 returns-2 : tie.Need-returns-2
-returns-2 c = told (few-tabs _ _ _ _ _ (c .before .before .before .before .before .before .before .before .before .before .before .before .if1 .left) (c .before .before .before .before .before .before .before .before .before .before .before .rear .ensures) (c .before .before .before .before .before .before .before .before .before .before .rear2 .ensures) (c .before .before .before .before .before .before .before .before .before .rear3 .ensures) (c .before .before .before .before .before .before .before .before .rear4 .ensures) (sym (c .before .before .before .before .before .before .marked .ensures) ∙ not-true _ (c .before .before .before .before .before .if2 .taken))) (c .before .before .put-word2 .ensures)
+returns-2 c =
+    let test = c .before .before .before .before .before in
+    let tabs = test .before .before .before in
+    told
+    (few-tabs _ _ _ _ _ (tabs .before .before .before .before .if1 .left) (tabs .before .before .before .part-after .ensures)
+    (tabs .before .before .part-after2 .ensures) (tabs .before .part-after3 .ensures) (tabs .part-after4 .ensures)
+    (sym (test .before .contains .ensures) ∙ not-true _ (test .if2 .taken)))
+    (c .before .before .put-word2 .ensures)
 
-front-requires : tie.Need-front-requires
-front-requires c κs = tt
+part-before-requires : tie.Need-part-before-requires
+part-before-requires c κs = tt
 
-front-requires-2 : tie.Need-front-requires-2
-front-requires-2 c κs = tt
+part-before-requires-2 : tie.Need-part-before-requires-2
+part-before-requires-2 c κs = tt
 
-front-requires-3 : tie.Need-front-requires-3
-front-requires-3 c κs = tt
+part-before-requires-3 : tie.Need-part-before-requires-3
+part-before-requires-3 c κs = tt
 
-front-requires-4 : tie.Need-front-requires-4
-front-requires-4 c κs = tt
+part-before-requires-4 : tie.Need-part-before-requires-4
+part-before-requires-4 c κs = tt
 
-front-requires-5 : tie.Need-front-requires-5
-front-requires-5 c κs = tt
+part-before-requires-5 : tie.Need-part-before-requires-5
+part-before-requires-5 c κs = tt
 
 put-columns-requires : tie.Need-put-columns-requires
-put-columns-requires c κs = (packet-le _ _ _ _ _ (c .before .before .before .before .before .before .before .before .before .before .before .before .before .before .before .if1 .left) (c .before .before .before .before .before .before .before .before .before .before .before .before .before .before .rear .ensures) (c .before .before .before .before .before .before .before .before .before .before .before .before .before .rear2 .ensures) (c .before .before .before .before .before .before .before .before .before .before .before .before .rear3 .ensures) (c .before .before .before .before .before .before .before .before .before .before .before .rear4 .ensures) _ (c .before .before .before .before .before .before .front2 .ensures), decoded-le _ _ _ _ _ (c .before .before .before .before .before .before .before .before .before .before .before .before .before .before .before .if1 .left) (c .before .before .before .before .before .before .before .before .before .before .before .before .before .before .rear .ensures) (c .before .before .before .before .before .before .before .before .before .before .before .before .before .rear2 .ensures) (c .before .before .before .before .before .before .before .before .before .before .before .before .rear3 .ensures) (c .before .before .before .before .before .before .before .before .before .before .before .rear4 .ensures) _ (c .before .before .before .before .front4 .ensures))
+put-columns-requires c κs =
+    let tabs = c .before .before .before .before .before .before .before .before .before .before .before in (
+      packet-le _ _ _ _ _ (tabs .before .before .before .before .if1 .left) (tabs .before .before .before .part-after .ensures)
+          (tabs .before .before .part-after2 .ensures) (tabs .before .part-after3 .ensures) (tabs .part-after4 .ensures)
+          _ (c .before .before .before .before .before .before .part-before2 .ensures),
+      decoded-le _ _ _ _ _ (tabs .before .before .before .before .if1 .left) (tabs .before .before .before .part-after .ensures)
+          (tabs .before .before .part-after2 .ensures) (tabs .before .part-after3 .ensures) (tabs .part-after4 .ensures)
+          _ (c .before .before .before .before .part-before4 .ensures),
+    )
 
 returns-3 : tie.Need-returns-3
-returns-3 c = told (as-columns _ _ _ _ _ (c .before .before .before .before .before .before .before .before .before .before .before .before .before .before .before .before .before .before .if1 .left) (c .before .before .before .before .before .before .before .before .before .before .before .before .before .before .before .before .before .rear .ensures) (c .before .before .before .before .before .before .before .before .before .before .before .before .before .before .before .before .rear2 .ensures) (c .before .before .before .before .before .before .before .before .before .before .before .before .before .before .before .rear3 .ensures) (c .before .before .before .before .before .before .before .before .before .before .before .before .before .before .rear4 .ensures) (sym (c .before .before .before .before .before .before .before .before .before .before .before .before .marked .ensures) ∙ not-false _ (c .before .before .before .before .before .before .before .before .before .before .before .if2 .left)) _ _ _ _ _ _ (c .before .before .before .before .before .before .before .before .before .before .front .ensures) (c .before .before .before .before .before .before .before .before .before .front2 .ensures) (c .before .before .before .before .before .before .before .before .front3 .ensures) (c .before .before .before .before .before .before .before .front4 .ensures) (c .before .before .before .before .before .before .front5 .ensures) (c .before .before .before .before .before .before .before .before .before .before .before .before .before .rear5 .ensures)) (c .before .before .put-columns .ensures)
+returns-3 c =
+    let columns = c .before .before .before .before .before .before in
+    let test = columns .before .before .before .before .before in
+    let tabs = test .before .before .before in
+    told
+    (as-columns _ _ _ _ _ (tabs .before .before .before .before .if1 .left) (tabs .before .before .before .part-after .ensures)
+    (tabs .before .before .part-after2 .ensures) (tabs .before .part-after3 .ensures) (tabs .part-after4 .ensures)
+    (sym (test .before .contains .ensures) ∙ not-false _ (test .if2 .left)) _ _ _ _ _ _
+    (columns .before .before .before .before .part-before .ensures) (columns .before .before .before .part-before2 .ensures) (columns .before .before .part-before3 .ensures)
+    (columns .before .part-before4 .ensures) (columns .part-before5 .ensures) (test .before .before .part-after5 .ensures))
+    (c .before .before .put-columns .ensures)
 
 same-length : tie.Need-same-length
 same-length c = same (returns c)
@@ -80,21 +105,21 @@ answer-case-spec =
     put-word-requires
     same-length
     returns
-    rear-requires
-    rear-requires-2
-    rear-requires-3
-    rear-requires-4
-    rear-requires-5
-    marked-requires
+    part-after-requires
+    part-after-requires-2
+    part-after-requires-3
+    part-after-requires-4
+    part-after-requires-5
+    contains-requires
     slice-aggregate-put-word-2
     put-word-requires-2
     same-length-2
     returns-2
-    front-requires
-    front-requires-2
-    front-requires-3
-    front-requires-4
-    front-requires-5
+    part-before-requires
+    part-before-requires-2
+    part-before-requires-3
+    part-before-requires-4
+    part-before-requires-5
     put-columns-requires
     same-length-3
     returns-3)

@@ -1,6 +1,6 @@
 use mathlib.Core.Path.{_≡_, sym, ap, _∙_}
 use Rattle.output.proofs.Putting.{told, same-length as same}
-use Rattle.cases.specs.Parsing.{askBy}
+use Rattle.case_columns.specs.Asks.{askBy}
 use Rattle.case_lists.specs.AnswerTexts.{answerText}
 use Rattle.case_answers.specs.CaseAnswers.{askText}
 use borrow.Author.Needs.{needs}

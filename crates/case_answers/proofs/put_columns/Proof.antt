@@ -1,22 +1,18 @@
--- The columns together: `bad` where one is of another form.
+-- The ask, then the columns of the packet: `bad` where one is of another form.
 use mathlib.Core.Path.{refl, sym, _∙_}
 use borrow.Author.Tests.{not-true, not-false}
 use Rattle.output.proofs.Putting.{told, same-length as same}
-use Rattle.case_answers.proofs.Columns.{bad-columns, hex-packet, hex-decoded, is-mapped, is-asked, good-columns}
+use Rattle.line_packets.proofs.FourColumns.{failed-packet, parsed-packet, packet-value, hex-packet, hex-decoded}
+use Rattle.case_columns.proofs.Asks.{ask-is, ask-says}
+use Rattle.case_answers.proofs.Columns.{no-ask, no-packet, good-columns}
 use Rattle.case_answers.proofs.put_columns.Statement.{statement}
 use Rattle.case_answers.proofs.put_columns.Tie as tie
 
-map-column-requires : tie.Need-map-column-requires
-map-column-requires c κs = tt
-
-ask-column-requires : tie.Need-ask-column-requires
-ask-column-requires c κs = tt
+parse-ask-requires : tie.Need-parse-ask-requires
+parse-ask-requires c κs = tt
 
 is-ask-requires : tie.Need-is-ask-requires
 is-ask-requires c κs = tt
-
-are-formed-requires : tie.Need-are-formed-requires
-are-formed-requires c κs = tt
 
 slice-aggregate-put-word : tie.Need-slice-aggregate-put-word
 slice-aggregate-put-word c = refl
@@ -25,47 +21,79 @@ put-word-requires : tie.Need-put-word-requires
 put-word-requires c κs = tt
 
 returns : tie.Need-returns
-returns c = told (bad-columns (c .before .before .before .before .before .before .are-formed .ensures) _ _ _ (c .before .before .before .before .before .before .before .before .before .map-column .ensures .is) (c .before .before .before .before .before .before .before .is-ask .ensures ∙ c .before .before .before .before .before .before .before .before .ask-column .ensures .is) (not-true _ (c .before .before .before .before .before .if1 .taken))) (c .before .before .put-word .ensures)
+returns c =
+    let test = c .before .before .before .before .before in
+    let asked = test .before .before .before in
+    told
+    (no-ask _ _ _ _ _ _ (sym (ask-is _ _ (asked .parse-ask .ensures)) ∙ (sym (test .before .is-ask .ensures) ∙ not-true _ (test .if1 .taken))))
+    (c .before .before .put-word .ensures)
 
 same-length : tie.Need-same-length
 same-length c = same (returns c)
 
-direction-of-requires : tie.Need-direction-of-requires
-direction-of-requires c κs = tt
+parse-packet-requires : tie.Need-parse-packet-requires
+parse-packet-requires c κs = tt
 
-put-formed-requires : tie.Need-put-formed-requires
-put-formed-requires c κs =
-    let e = c .before .before .before .before .before .before .before .are-formed .ensures in
-    let y = not-false _ (c .before .before .before .before .before .before .if1 .left) in
-    (hex-packet e y, hex-decoded e y, c .before .before .before .before .before .before .before .before .before .before .before .before .before .before .before .before .before .before .pre .0, c .before .before .before .before .before .before .before .before .before .before .before .before .before .before .before .before .before .before .pre .1)
+enum-known-said : tie.Need-enum-known-said
+enum-known-said c = c .match .keys1
+
+enum-told : tie.Need-enum-told
+enum-told c = c .match .keys2
+
+slice-aggregate-put-word-2 : tie.Need-slice-aggregate-put-word-2
+slice-aggregate-put-word-2 c = refl
+
+put-word-requires-2 : tie.Need-put-word-requires-2
+put-word-requires-2 c κs = tt
 
 returns-2 : tie.Need-returns-2
 returns-2 c =
-    let e = c .before .before .before .before .before .before .before .before .before .before .are-formed .ensures in
-    let y = not-false _ (c .before .before .before .before .before .before .before .before .before .if1 .left) in
-    let m = c .before .before .before .before .before .before .before .before .before .before .before .before .before .map-column .ensures in
-    let a = c .before .before .before .before .before .before .before .before .before .before .before .before .ask-column .ensures in
-    let i = c .before .before .before .before .before .before .before .before .before .before .before .is-ask .ensures in
+    let found = c .before .before .before .before .before in
     told
-    (good-columns e _ _ _ (m .is) (i ∙ a .is) y _ _ _ (c .before .before .before .before .before .direction-of .ensures) (m .says (is-mapped e y)) (a .says (sym i ∙ is-asked e y)))
-    (c .before .before .put-formed .ensures)
+    (no-packet _ _ _ _ _ _ (failed-packet _ _ _ _ (sym (found .before .before .parse-packet .ensures) ∙ found .enum-told .given .1)))
+    (c .before .before .put-word2 .ensures)
 
 same-length-2 : tie.Need-same-length-2
 same-length-2 c = same (returns-2 c)
+
+put-formed-requires : tie.Need-put-formed-requires
+put-formed-requires c κs =
+    let found = c .before .before .before .before .before in
+    let start = found .before .before .before .before .before .before .before .before .before .before .before .before .before .before in
+    let e = sym (found .before .before .parse-packet .ensures) ∙ found .said .given .1 in
+    (hex-packet _ _ _ _ _ e, hex-decoded _ _ _ _ _ e, start .pre .0, start .pre .1)
+
+returns-3 : tie.Need-returns-3
+returns-3 c =
+    let found = c .before .before .before .before .before .before .before .before in
+    let test = found .before .before .before in
+    let asked = test .before .before .before in
+    let e = sym (found .before .before .parse-packet .ensures) ∙ found .said .given .1 in
+    let y = sym (ask-is _ _ (asked .parse-ask .ensures)) ∙ (sym (test .before .is-ask .ensures) ∙ not-false _ (test .if1 .left)) in
+    told
+    (good-columns _ _ _ _ _ _ y (parsed-packet _ _ _ _ _ e) _ (packet-value _ _ _ _ _ e) _ (ask-says _ _ (asked .parse-ask .ensures) y))
+    (c .before .before .put-formed .ensures)
+
+same-length-3 : tie.Need-same-length-3
+same-length-3 c = same (returns-3 c)
 
 pub put-columns-spec : {M : Type 1} → statement M
 put-columns-spec =
     tie.close
     (tie.spec
-    map-column-requires
-    ask-column-requires
+    parse-ask-requires
     is-ask-requires
-    are-formed-requires
     slice-aggregate-put-word
     put-word-requires
     same-length
     returns
-    direction-of-requires
-    put-formed-requires
+    parse-packet-requires
+    enum-known-said
+    enum-told
+    slice-aggregate-put-word-2
+    put-word-requires-2
     same-length-2
-    returns-2)
+    returns-2
+    put-formed-requires
+    same-length-3
+    returns-3)

@@ -1,6 +1,8 @@
 use native.Mathlib.Omega.{arith}
 use Rattle.output.proofs.Putting.{told, same-length as same}
-use Rattle.case_answers.proofs.Columns.{room-is, pairs-in, pairs-are, formed-is}
+use Rattle.line_numbers.proofs.HexBytes.{pairs-in, pairs-are}
+use Rattle.case_answers.specs.CaseLines.{maxLine}
+use Rattle.case_answers.proofs.Columns.{room-is, formed-is}
 use borrow.Author.Needs.{needs}
 use Rattle.case_answers.proofs.put_formed.Statement.{statement}
 use Rattle.case_answers.proofs.put_formed.Tie as tie
@@ -21,7 +23,10 @@ part-put-reading-start : tie.Need-part-put-reading-start
 part-put-reading-start c = search needs
 
 part-put-reading-end : tie.Need-part-put-reading-end
-part-put-reading-end c = omega (arith, pairs-in _ _ _ _ (c .before .before .before .before .before .before .before .before .put-pairs .ensures) (c .before .before .before .before .before .before .before .before .before .before .before .before .before .before .pre .2) (room-is (c .before .before .before .before .before .before .before .before .before .put-pairs-arg .given .0 .1)))
+part-put-reading-end c =
+    let put = c .before .before .before .before .before .before .before .before in
+    let start = put .before .before .before .before .before .before in
+    omega (arith, pairs-in maxLine (omega arith) _ _ _ _ (put .put-pairs .ensures) (start .pre .2) (room-is (put .before .put-pairs-arg .given .0 .1)))
 
 sub-put-reading-2 : tie.Need-sub-put-reading-2
 sub-put-reading-2 c = search needs
@@ -30,16 +35,22 @@ part-put-reading-start-2 : tie.Need-part-put-reading-start-2
 part-put-reading-start-2 c = search needs
 
 part-put-reading-end-2 : tie.Need-part-put-reading-end-2
-part-put-reading-end-2 c = omega (arith, pairs-in _ _ _ _ (c .before .before .before .before .before .before .before .put-pairs2 .ensures) (c .before .before .before .before .before .before .before .before .before .before .before .before .before .before .before .pre .3) (room-is (c .before .before .before .before .before .before .before .before .put-pairs-arg2 .given .0 .1)))
+part-put-reading-end-2 c =
+    let put = c .before .before .before .before .before .before .before in
+    let start = put .before .before .before .before .before .before .before .before in
+    omega (arith, pairs-in maxLine (omega arith) _ _ _ _ (put .put-pairs2 .ensures) (start .pre .3) (room-is (put .before .put-pairs-arg2 .given .0 .1)))
 
 put-reading-requires : tie.Need-put-reading-requires
 put-reading-requires c κs = tt
 
 returns : tie.Need-returns
 returns c =
-    told
-    (formed-is _ _ _ (pairs-are _ _ _ _ (c .before .before .before .before .before .before .before .before .before .before .before .before .before .put-pairs .ensures) (c .before .before .before .before .before .before .before .before .before .before .before .before .before .before .before .before .before .before .before .pre .2) (room-is (c .before .before .before .before .before .before .before .before .before .before .before .before .before .before .put-pairs-arg .given .0 .1))) (pairs-are _ _ _ _ (c .before .before .before .before .before .before .before .before .before .before .before .put-pairs2 .ensures) (c .before .before .before .before .before .before .before .before .before .before .before .before .before .before .before .before .before .before .before .pre .3) (room-is (c .before .before .before .before .before .before .before .before .before .before .before .before .put-pairs-arg2 .given .0 .1))) (c .before .before .before .before .before .before .before .before .before .before .read .ensures))
-    (c .before .before .put-reading .ensures)
+    let second = c .before .before .before .before .before .before .before .before .before .before .before in
+    let first = second .before .before in
+    let start = first .before .before .before .before .before .before in
+    let packet = pairs-are maxLine (omega arith) _ _ _ _ (first .put-pairs .ensures) (start .pre .2) (room-is (first .before .put-pairs-arg .given .0 .1)) in
+    let decoded = pairs-are maxLine (omega arith) _ _ _ _ (second .put-pairs2 .ensures) (start .pre .3) (room-is (second .before .put-pairs-arg2 .given .0 .1)) in
+    told (formed-is _ _ _ packet decoded (c .before .before .before .before .before .before .before .before .before .before .read .ensures)) (c .before .before .put-reading .ensures)
 
 same-length : tie.Need-same-length
 same-length c = same (returns c)

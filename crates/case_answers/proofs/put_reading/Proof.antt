@@ -1,6 +1,6 @@
 use mathlib.Core.Path.{ap}
 use Rattle.output.proofs.Putting.{told, same-length as same}
-use Rattle.cases.specs.Parsing.{askBy}
+use Rattle.case_columns.specs.Asks.{askBy}
 use Rattle.case_answers.specs.CaseAnswers.{outcomeText}
 use borrow.Author.Needs.{needs}
 use Rattle.case_answers.proofs.put_reading.Statement.{statement}

@@ -1,0 +1,108 @@
+-- The starts of an earlier placement, one after the other.
+use mathlib.Core.Path.{_≡_, refl, sym, ap, _∙_}
+use mathlib.Core.Bool.{true, false, _&&_, and-false}
+use mathlib.Core.List.{List, [], _∷_, _++_, map, append-nil}
+use Prim.Native.Nat.{ℕ, _+_, _-_, _≤_, _<_}
+use native.Mathlib.Omega.{arith}
+use lib.ListN.{length, take, drop, set, length-append}
+use lib.Seq.{append-snoc}
+use borrow.Author.Tests.{le-leb, lt-leb}
+use Rattle.definitions.specs.Limits.{patternsMost}
+use Rattle.definitions.specs.Lists.{all?, none?, padded}
+use Rattle.definitions.specs.Numbers.{valueOf}
+use Rattle.definitions.specs.Answers.{placementOf}
+use Rattle.laws.proofs.Padded.{padded-one}
+use Rattle.line_parts.specs.Parts.{partBefore, parts}
+use Rattle.line_parts.proofs.PartsFrom.{partsFrom, from-start, from-step, from-end}
+use Rattle.line_numbers.specs.declared.decimals.NumberResult.{NumberResult}
+use Rattle.line_numbers.specs.declared.decimals.NumberResult.the-variants as number
+use Rattle.line_numbers.specs.Decimals.{isNumber, parsedNumber}
+use Rattle.line_numbers.proofs.Results.{failed-number, parsed-number, number-value}
+use Rattle.case_columns.specs.declared.Asked.{Asked}
+use Rattle.case_columns.specs.declared.Kind.the-variants.{Next}
+use Rattle.case_columns.specs.Asks.{maxStart, areStarts, startsIn, askedBy, next, noAsk, parsedStarts}
+
+some-bytes : (s : List ℕ) → (length s ≡ 0 → ⊥) → none? s ≡ false
+some-bytes [] n = absurd (n refl)
+some-bytes (b ∷ s) n = refl
+
+not-starts : (s : List ℕ) → areStarts s ≡ false → (r : Asked) → r ≡ noAsk → r ≡ parsedStarts s
+unfolding parsedStarts
+not-starts s f r e = rw f e
+
+pub no-starts : (s : List ℕ) → length s ≡ 0 → (r : Asked) → r ≡ askedBy (next (placementOf [])) → r ≡ parsedStarts s
+unfolding parsedStarts areStarts startsIn
+no-starts [] h r e = e
+no-starts (b ∷ s) h r e = absurd (omega (arith, h))
+
+-- what is still to come: the starts from a place on, after those that are held
+pub record Starting (s held starts : List ℕ) (count at : ℕ) : Type 0 where
+  pub some : none? s ≡ false
+  pub size : count ≡ length held
+  pub room : count ≤ patternsMost
+  pub array : starts ≡ padded patternsMost 0 held
+  pub is : all? (isNumber maxStart) (parts 44 s) ≡ all? (isNumber maxStart) (partsFrom 44 s at)
+  pub left : length (parts 44 s) ≡ count + length (partsFrom 44 s at)
+  pub says : map (valueOf 10 0) (parts 44 s) ≡ held ++ map (valueOf 10 0) (partsFrom 44 s at)
+
+pub starting : (s : List ℕ) → (length s ≡ 0 → ⊥) → Starting s [] (padded patternsMost 0 []) 0 0
+starting s n =
+    record {
+      some = some-bytes s n;
+      size = refl;
+      room = omega arith;
+      array = refl;
+      is = ap (all? (isNumber maxStart)) (from-start 44 s);
+      left = omega (arith, ap length (from-start 44 s));
+      says = ap (map (valueOf 10 0)) (from-start 44 s);
+    }
+
+module _ (s held starts : List ℕ) (count at : ℕ) (k : Starting s held starts count at) where
+  -- e is the part from the place on, a what the code made of it
+  module _ (h : at ≤ length s) (e : List ℕ) (q : e ≡ partBefore 44 (take (length s - at) (drop at s))) (a : NumberResult) (p : a ≡ parsedNumber maxStart e) where
+    abbrev rest : List (List ℕ)
+    rest = partsFrom 44 s (at + (length e + 1))
+
+    step : partsFrom 44 s at ≡ e ∷ rest
+    step = from-step 44 s at h e q
+
+    pub starting-halt : a ≡ number.Failed → (r : Asked) → r ≡ noAsk → r ≡ parsedStarts s
+    unfolding areStarts all?
+    starting-halt f = not-starts s (rw (k .some, k .is ∙ ap (all? (isNumber maxStart)) step, failed-number maxStart e (sym p ∙ f)))
+
+    pub starting-full : patternsMost ≤ count → (r : Asked) → r ≡ noAsk → r ≡ parsedStarts s
+    unfolding areStarts
+    starting-full g =
+        let long : patternsMost < length (parts 44 s) = omega (arith, g, k .left, ap length step) in
+        not-starts s (rw (k .some, lt-leb (length (parts 44 s)) patternsMost long) (and-false (all? (isNumber maxStart) (parts 44 s))))
+
+    pub starting-on : (n : ℕ) → a ≡ number.Parsed n → count < patternsMost → (v : ℕ) → v ≡ n → Starting s (held ++ (v ∷ [])) (set starts count v) (count + 1) (at + (length e + 1))
+    unfolding all?
+    starting-on n t g v ve =
+        let one : length (held ++ (v ∷ [])) ≡ length held + 1 = length-append held (v ∷ []) in
+        let value : valueOf 10 0 e ≡ v = sym (number-value maxStart e n (sym p ∙ t)) ∙ sym ve in
+        record {
+          some = k .some;
+          size = omega (arith, one, k .size);
+          room = omega (arith, g);
+          array =
+              ap (λ (l : List ℕ). set l count v) (k .array)
+              ∙ ap (λ (j : ℕ). set (padded patternsMost 0 held) j v) (k .size)
+              ∙ sym (padded-one patternsMost 0 held v (omega (arith, g, k .size)));
+          is = k .is ∙ ap (all? (isNumber maxStart)) step ∙ rw (parsed-number maxStart e n (sym p ∙ t));
+          left = omega (arith, k .left, ap length step);
+          says =
+              k .says
+              ∙ ap (λ (l : List (List ℕ)). held ++ map (valueOf 10 0) l) step
+              ∙ ap (λ (w : ℕ). held ++ (w ∷ map (valueOf 10 0) rest)) value
+              ∙ sym (append-snoc held v (map (valueOf 10 0) rest));
+        }
+
+  pub starting-out : length s < at → _≡_ {A = Asked} (record { kind = Next; placement = record { count = count; starts = starts } }) (parsedStarts s)
+  unfolding parsedStarts areStarts startsIn all?
+  starting-out h =
+      let none = from-end 44 s at h in
+      let long : length (parts 44 s) ≤ patternsMost = omega (arith, k .left, ap length none, k .room) in
+      let value : map (valueOf 10 0) (parts 44 s) ≡ held =
+      k .says ∙ ap (λ (l : List (List ℕ)). held ++ map (valueOf 10 0) l) none ∙ append-nil held in
+      rw (k .some, k .is ∙ ap (all? (isNumber maxStart)) none, le-leb (length (parts 44 s)) patternsMost long, value, k .array, k .size)

@@ -1,0 +1,2 @@
+-- What the contracts of `case_columns` cite.
+pub mod Asks

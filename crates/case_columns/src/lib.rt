@@ -1,0 +1,131 @@
+// The column that a line of cases alone has, the ask: `all`, `first`, or an earlier placement such as `(2,9)` or `()`.
+ghost use mathlib.Core.Path.{_≡_};
+ghost use mathlib.Core.List.{[]};
+ghost use Rattle.definitions.specs.Answers.{placementOf};
+ghost use Rattle.case_columns.specs.Asks.{isEnclosed, isKind, parsedStarts, parsedNext, parsedAsk};
+use definitions::limits::PATTERNS;
+use definitions::packet::Placement;
+use line_numbers::decimals::NumberResult;
+use line_numbers::decimals::parse_decimal;
+use line_parts::contains;
+use line_parts::is_word;
+use line_parts::part_after;
+use line_parts::part_before;
+
+// What is asked: all placements, the first, the next one after a placement; or the bytes are no ask.
+pub enum Kind {
+    All,
+    First,
+    Next,
+    Bad,
+}
+
+// What is asked, and after which placement; it is empty but for `Next`. An enum with the placement in it would hold an array.
+pub struct Asked {
+    pub kind: Kind,
+    pub placement: Placement,
+}
+
+// The largest start.
+const MAX_START: u64 = 18446744073709551615;
+
+// Whether it is an ask.
+pub fn is_ask(kind: Kind) -> bool
+    ensures { λ r. ⌜ r ≡ isKind kind ⌝ }
+{
+    match kind {
+        Kind::All => true,
+        Kind::First => true,
+        Kind::Next => true,
+        Kind::Bad => false,
+    }
+}
+
+// With the placement of no starts.
+fn plain_ask(kind: Kind) -> Asked
+    ensures { λ r. ⌜ r ≡ record { kind = kind; placement = placementOf [] } ⌝ }
+{
+    Asked {
+        kind,
+        placement: Placement {
+            count: 0,
+            starts: [0; PATTERNS],
+        },
+    }
+}
+
+// Whether `(` is the first byte and `)` the last.
+fn is_enclosed(s: &[u8]) -> bool
+    ensures { λ r. ⌜ r ≡ isEnclosed (now (s .entry)) ⌝ }
+{
+    if !contains(s, b'(') {
+        return false;
+    }
+    if part_before(s, b'(').len() != 0 {
+        return false;
+    }
+    let rest = part_after(s, b'(');
+    if !contains(rest, b')') {
+        return false;
+    }
+    part_after(rest, b')').len() == 0
+}
+
+// The start that a number names.
+fn start_at(n: u64) -> usize
+    ensures { λ r. ⌜ r ≡ n ⌝ }
+{
+    n as usize
+}
+
+// The next one after the placement whose starts stand between the commas.
+fn parse_starts(s: &[u8]) -> Asked
+    ensures { λ r. ⌜ r ≡ parsedStarts (now (s .entry)) ⌝ }
+{
+    if s.len() == 0 {
+        return plain_ask(Kind::Next);
+    }
+    let mut starts = [0usize; PATTERNS];
+    let mut count = 0;
+    let mut at = 0;
+    while at <= s.len() {
+        let e = part_before(&s[at..], b',');
+        let NumberResult::Parsed(n) = parse_decimal(e, MAX_START) else {
+            return plain_ask(Kind::Bad);
+        };
+        if PATTERNS <= count {
+            return plain_ask(Kind::Bad);
+        }
+        starts[count] = start_at(n);
+        count += 1;
+        at += e.len() + 1;
+    }
+    Asked {
+        kind: Kind::Next,
+        placement: Placement { count, starts },
+    }
+}
+
+// The starts between the brackets.
+fn parse_next(s: &[u8]) -> Asked
+    ensures { λ r. ⌜ r ≡ parsedNext (now (s .entry)) ⌝ }
+{
+    if !is_enclosed(s) {
+        return plain_ask(Kind::Bad);
+    }
+    let rest = part_after(s, b'(');
+    parse_starts(part_before(rest, b')'))
+}
+
+// The ask of a column.
+pub fn parse_ask(s: &[u8]) -> Asked
+    ensures { λ r. ⌜ r ≡ parsedAsk (now (s .entry)) ⌝ }
+{
+    if is_word(s, b"all") {
+        return plain_ask(Kind::All);
+    }
+    if is_word(s, b"first") {
+        return plain_ask(Kind::First);
+    }
+    parse_next(s)
+}

@@ -1,3 +1,0 @@
--- What the contracts of `cases` cite.
-pub mod CaseLines
-pub mod Parsing

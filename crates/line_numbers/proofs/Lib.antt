@@ -1,0 +1,5 @@
+-- Laws of the numbers of a line.
+pub mod Digits
+pub mod Results
+pub mod HexForm
+pub mod HexBytes

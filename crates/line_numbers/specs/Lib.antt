@@ -1,0 +1,3 @@
+-- What the contracts of `line_numbers` cite.
+pub mod Decimals
+pub mod HexPairs

@@ -1,0 +1,4 @@
+-- What the contracts of `line_packets` cite.
+pub mod Directions
+pub mod FieldMaps
+pub mod Packets

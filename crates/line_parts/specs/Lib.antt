@@ -1,0 +1,2 @@
+-- What the contracts of `line_parts` cite.
+pub mod Parts
