@@ -14,6 +14,7 @@ use borrow.Fn.Kinds.{endedOf}
 use Rattle.definitions.specs.declared.table.Table.{Table}
 use Rattle.definitions.specs.declared.packet.Direction.{Direction}
 use Rattle.definitions.specs.declared.packet.FieldMap.{FieldMap}
+use Rattle.definitions.specs.declared.packet.Start.{Start}
 use Rattle.definitions.specs.declared.packet.Placement.{Placement}
 use Rattle.definitions.specs.declared.answers.Due.the-variants.{Fine}
 use Rattle.definitions.specs.declared.answers.Answer.{Answer}
@@ -44,7 +45,7 @@ module _ (t : Table) (p d : List ℕ) (dir : Direction) (m : FieldMap) where
 
     one-then-none : placementsOf t p d dir m ≡ [] ∷ [] → answers t p d dir m h (First ∷ Next ∷ []) ≡ foundAnswer [] ∷ noneAnswer ∷ []
     one-then-none e =
-        subst (λ (l : List (List ℕ)). answers t p d dir m h (First ∷ replicate (length l) Next) ≡ map foundAnswer l ++ (noneAnswer ∷ [])) e (all-listed t p d dir m due h)
+        subst (λ (l : List (List Start)). answers t p d dir m h (First ∷ replicate (length l) Next) ≡ map foundAnswer l ++ (noneAnswer ∷ [])) e (all-listed t p d dir m due h)
 
     -- of the answers, whatever is claimed of what they are equal to
     empty-claims : (claim : List Answer → Type 0) → ((rs : List Answer) → answers t p d dir m h (First ∷ Next ∷ []) ≡ rs → claim rs) → EmptyOrNone claim

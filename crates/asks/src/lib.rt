@@ -13,7 +13,7 @@ use definitions::packet::FieldMap;
 use definitions::packet::Placement;
 use definitions::table::Table;
 
-// One ask, a byte: 0 is "first", any other "next" behind the placement held.
+// One ask, a byte: 0 is "first", any other "next" after the placement held.
 fn answer_to<'a>(
     t: Table,
     p: &'a [u8],

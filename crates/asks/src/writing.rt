@@ -1,10 +1,11 @@
 // An answer as numbers: refusal number, found or none, count, starts and unused room.
 ghost use mathlib.Core.Path.{_≡_};
-ghost use mathlib.Core.List.{_++_};
+ghost use mathlib.Core.List.{_++_, map};
 ghost use Prim.Native.Nat.{_+_, _≤_};
 ghost use lib.ListN.{length, take, drop};
 ghost use lib.Seq.{sets};
 ghost use Rattle.definitions.specs.Limits.{patternsMost};
+ghost use Rattle.definitions.specs.Starts.{startNumber};
 ghost use Rattle.definitions.specs.Refusals.{foundNumber, foundOne};
 ghost use Rattle.definitions.specs.Asks.{answerNumbers};
 ghost use Rattle.asks.specs.Runs.{numbersOfOne};
@@ -12,6 +13,8 @@ use codes::number_of;
 use definitions::answers::Answer;
 use definitions::answers::Found;
 use definitions::limits::PATTERNS;
+use definitions::packet::Start;
+use match_starts::start_number;
 
 // Numbers of an answer.
 pub const NUMBERS: usize = 3 + PATTERNS;
@@ -39,13 +42,13 @@ fn found_one(f: Found) -> u64
 }
 
 // All starts, those not in use too.
-fn put_starts(out: &mut [u64], at: usize, starts: [usize; PATTERNS])
+fn put_starts(out: &mut [u64], at: usize, starts: [Start; PATTERNS])
     requires { ⌜ at + patternsMost ≤ length (now out) ⌝ }
-    ensures { λ _. ⌜ now (out .exit) ≡ sets (now (out .entry)) at starts ⌝ }
+    ensures { λ _. ⌜ now (out .exit) ≡ sets (now (out .entry)) at (map startNumber starts) ⌝ }
 {
     let mut j = 0;
     while j < PATTERNS {
-        out[at + j] = starts[j] as u64;
+        out[at + j] = start_number(starts[j]);
         j += 1;
     }
 }

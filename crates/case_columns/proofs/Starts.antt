@@ -7,9 +7,11 @@ use native.Mathlib.Omega.{arith}
 use lib.ListN.{length, take, drop, set, length-append}
 use lib.Seq.{append-snoc}
 use borrow.Author.Tests.{le-leb, lt-leb}
+use Rattle.definitions.specs.declared.packet.Start.{Start}
 use Rattle.definitions.specs.Limits.{patternsMost}
 use Rattle.definitions.specs.Lists.{all?, none?, padded}
 use Rattle.definitions.specs.Numbers.{valueOf}
+use Rattle.definitions.specs.Starts.{startAt}
 use Rattle.definitions.specs.Answers.{placementOf}
 use Rattle.laws.proofs.Padded.{padded-one}
 use Rattle.line_parts.specs.Parts.{partBefore, parts}
@@ -20,7 +22,7 @@ use Rattle.line_numbers.specs.Decimals.{isNumber, parsedNumber}
 use Rattle.line_numbers.proofs.Results.{failed-number, parsed-number, number-value}
 use Rattle.case_columns.specs.declared.Asked.{Asked}
 use Rattle.case_columns.specs.declared.Kind.the-variants.{Next}
-use Rattle.case_columns.specs.Asks.{maxStart, areStarts, startsIn, askedBy, next, noAsk, parsedStarts}
+use Rattle.case_columns.specs.Asks.{maxStart, areStarts, startOf, startsIn, askedBy, next, noAsk, parsedStarts}
 
 some-bytes : (s : List ℕ) → (length s ≡ 0 → ⊥) → none? s ≡ false
 some-bytes [] n = absurd (n refl)
@@ -36,16 +38,16 @@ no-starts [] h r e = e
 no-starts (b ∷ s) h r e = absurd (omega (arith, h))
 
 -- what is still to come: the starts from a place on, after those that are held
-pub record Starting (s held starts : List ℕ) (count at : ℕ) : Type 0 where
+pub record Starting (s : List ℕ) (held starts : List Start) (count at : ℕ) : Type 0 where
   pub some : none? s ≡ false
   pub size : count ≡ length held
   pub room : count ≤ patternsMost
-  pub array : starts ≡ padded patternsMost 0 held
+  pub array : starts ≡ padded patternsMost (startAt 0) held
   pub is : all? (isNumber maxStart) (parts 44 s) ≡ all? (isNumber maxStart) (partsFrom 44 s at)
   pub left : length (parts 44 s) ≡ count + length (partsFrom 44 s at)
-  pub says : map (valueOf 10 0) (parts 44 s) ≡ held ++ map (valueOf 10 0) (partsFrom 44 s at)
+  pub says : map startOf (parts 44 s) ≡ held ++ map startOf (partsFrom 44 s at)
 
-pub starting : (s : List ℕ) → (length s ≡ 0 → ⊥) → Starting s [] (padded patternsMost 0 []) 0 0
+pub starting : (s : List ℕ) → (length s ≡ 0 → ⊥) → Starting s [] (padded patternsMost (startAt 0) []) 0 0
 starting s n =
     record {
       some = some-bytes s n;
@@ -54,10 +56,10 @@ starting s n =
       array = refl;
       is = ap (all? (isNumber maxStart)) (from-start 44 s);
       left = omega (arith, ap length (from-start 44 s));
-      says = ap (map (valueOf 10 0)) (from-start 44 s);
+      says = ap (map startOf) (from-start 44 s);
     }
 
-module _ (s held starts : List ℕ) (count at : ℕ) (k : Starting s held starts count at) where
+module _ (s : List ℕ) (held starts : List Start) (count at : ℕ) (k : Starting s held starts count at) where
   -- e is the part from the place on, a what the code made of it
   module _ (h : at ≤ length s) (e : List ℕ) (q : e ≡ partBefore 44 (take (length s - at) (drop at s))) (a : NumberResult) (p : a ≡ parsedNumber maxStart e) where
     abbrev rest : List (List ℕ)
@@ -76,26 +78,26 @@ module _ (s held starts : List ℕ) (count at : ℕ) (k : Starting s held starts
         let long : patternsMost < length (parts 44 s) = omega (arith, g, k .left, ap length step) in
         not-starts s (rw (k .some, lt-leb (length (parts 44 s)) patternsMost long) (and-false (all? (isNumber maxStart) (parts 44 s))))
 
-    pub starting-on : (n : ℕ) → a ≡ number.Parsed n → count < patternsMost → (v : ℕ) → v ≡ n → Starting s (held ++ (v ∷ [])) (set starts count v) (count + 1) (at + (length e + 1))
+    pub starting-on : (n : ℕ) → a ≡ number.Parsed n → count < patternsMost → (v : Start) → v ≡ startAt n → Starting s (held ++ (v ∷ [])) (set starts count v) (count + 1) (at + (length e + 1))
     unfolding all?
     starting-on n t g v ve =
         let one : length (held ++ (v ∷ [])) ≡ length held + 1 = length-append held (v ∷ []) in
-        let value : valueOf 10 0 e ≡ v = sym (number-value maxStart e n (sym p ∙ t)) ∙ sym ve in
+        let value : startOf e ≡ v = ap startAt (sym (number-value maxStart e n (sym p ∙ t))) ∙ sym ve in
         record {
           some = k .some;
           size = omega (arith, one, k .size);
           room = omega (arith, g);
           array =
-              ap (λ (l : List ℕ). set l count v) (k .array)
-              ∙ ap (λ (j : ℕ). set (padded patternsMost 0 held) j v) (k .size)
-              ∙ sym (padded-one patternsMost 0 held v (omega (arith, g, k .size)));
+              ap (λ (l : List Start). set l count v) (k .array)
+              ∙ ap (λ (j : ℕ). set (padded patternsMost (startAt 0) held) j v) (k .size)
+              ∙ sym (padded-one patternsMost (startAt 0) held v (omega (arith, g, k .size)));
           is = k .is ∙ ap (all? (isNumber maxStart)) step ∙ rw (parsed-number maxStart e n (sym p ∙ t));
           left = omega (arith, k .left, ap length step);
           says =
               k .says
-              ∙ ap (λ (l : List (List ℕ)). held ++ map (valueOf 10 0) l) step
-              ∙ ap (λ (w : ℕ). held ++ (w ∷ map (valueOf 10 0) rest)) value
-              ∙ sym (append-snoc held v (map (valueOf 10 0) rest));
+              ∙ ap (λ (l : List (List ℕ)). held ++ map startOf l) step
+              ∙ ap (λ (w : Start). held ++ (w ∷ map startOf rest)) value
+              ∙ sym (append-snoc held v (map startOf rest));
         }
 
   pub starting-out : length s < at → _≡_ {A = Asked} (record { kind = Next; placement = record { count = count; starts = starts } }) (parsedStarts s)
@@ -103,6 +105,6 @@ module _ (s held starts : List ℕ) (count at : ℕ) (k : Starting s held starts
   starting-out h =
       let none = from-end 44 s at h in
       let long : length (parts 44 s) ≤ patternsMost = omega (arith, k .left, ap length none, k .room) in
-      let value : map (valueOf 10 0) (parts 44 s) ≡ held =
-      k .says ∙ ap (λ (l : List (List ℕ)). held ++ map (valueOf 10 0) l) none ∙ append-nil held in
+      let value : map startOf (parts 44 s) ≡ held =
+      k .says ∙ ap (λ (l : List (List ℕ)). held ++ map startOf l) none ∙ append-nil held in
       rw (k .some, k .is ∙ ap (all? (isNumber maxStart)) none, le-leb (length (parts 44 s)) patternsMost long, value, k .array, k .size)

@@ -6,9 +6,11 @@ use lib.ListN.{length}
 use lib.Dec.{leb}
 use Rattle.forms.specs.Bytes.{if_then_else_, text}
 use Rattle.definitions.specs.declared.packet.Placement.{Placement}
+use Rattle.definitions.specs.declared.packet.Start.{Start}
 use Rattle.definitions.specs.Limits.{patternsMost}
 use Rattle.definitions.specs.Lists.{all?, none?, sameBytes}
 use Rattle.definitions.specs.Numbers.{valueOf}
+use Rattle.definitions.specs.Starts.{startAt}
 use Rattle.definitions.specs.Answers.{placementOf}
 use Rattle.line_parts.specs.Parts.{contains, partBefore, partAfter, parts}
 use Rattle.line_numbers.specs.Decimals.{isNumber}
@@ -36,8 +38,12 @@ isEnclosed l = contains 40 l && (none? (partBefore 40 l) && (contains 41 (partAf
 unfoldable pub areStarts : List ℕ → Bool
 areStarts l = none? l || (all? (isNumber maxStart) (parts 44 l) && leb (length (parts 44 l)) patternsMost)
 
-unfoldable pub startsIn : List ℕ → List ℕ
-startsIn l = if none? l then [] else map (valueOf 10 0) (parts 44 l)
+-- the start that digits name
+abbrev pub startOf : List ℕ → Start
+startOf l = startAt (valueOf 10 0 l)
+
+unfoldable pub startsIn : List ℕ → List Start
+startsIn l = if none? l then [] else map startOf (parts 44 l)
 
 unfoldable pub isAsk : List ℕ → Bool
 isAsk l = sameBytes l (text "all") || (sameBytes l (text "first") || (isEnclosed l && areStarts (inside l)))

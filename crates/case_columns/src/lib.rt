@@ -1,16 +1,19 @@
 // The column that a line of cases alone has, the ask: `all`, `first`, or an earlier placement such as `(2,9)` or `()`.
 ghost use mathlib.Core.Path.{_≡_};
 ghost use mathlib.Core.List.{[]};
+ghost use Rattle.definitions.specs.Starts.{startAt};
 ghost use Rattle.definitions.specs.Answers.{placementOf};
 ghost use Rattle.case_columns.specs.Asks.{isEnclosed, isKind, parsedStarts, parsedNext, parsedAsk};
 use definitions::limits::PATTERNS;
 use definitions::packet::Placement;
+use definitions::packet::Start;
 use line_numbers::decimals::NumberResult;
 use line_numbers::decimals::parse_decimal;
 use line_parts::contains;
 use line_parts::is_word;
 use line_parts::part_after;
 use line_parts::part_before;
+use match_starts::start_at;
 
 // What is asked: all placements, the first, the next one after a placement; or the bytes are no ask.
 pub enum Kind {
@@ -49,7 +52,7 @@ fn plain_ask(kind: Kind) -> Asked
         kind,
         placement: Placement {
             count: 0,
-            starts: [0; PATTERNS],
+            starts: [Start { at: 0 }; PATTERNS],
         },
     }
 }
@@ -72,10 +75,10 @@ fn is_enclosed(s: &[u8]) -> bool
 }
 
 // The start that a number names.
-fn start_at(n: u64) -> usize
-    ensures { λ r. ⌜ r ≡ n ⌝ }
+fn start_of(n: u64) -> Start
+    ensures { λ r. ⌜ r ≡ startAt n ⌝ }
 {
-    n as usize
+    start_at(n as usize)
 }
 
 // The next one after the placement whose starts stand between the commas.
@@ -85,7 +88,7 @@ fn parse_starts(s: &[u8]) -> Asked
     if s.len() == 0 {
         return plain_ask(Kind::Next);
     }
-    let mut starts = [0usize; PATTERNS];
+    let mut starts = [Start { at: 0 }; PATTERNS];
     let mut count = 0;
     let mut at = 0;
     while at <= s.len() {
@@ -96,7 +99,7 @@ fn parse_starts(s: &[u8]) -> Asked
         if PATTERNS <= count {
             return plain_ask(Kind::Bad);
         }
-        starts[count] = start_at(n);
+        starts[count] = start_of(n);
         count += 1;
         at += e.len() + 1;
     }

@@ -1,4 +1,4 @@
--- The starts of a placement, and the list of placements, as a search behind the placement written last has what is left of it.
+-- The starts of a placement, and the list of placements, as a search from the placement written last has what is left of it.
 use mathlib.Core.Path.{_≡_, refl, sym, ap, _∙_, subst}
 use mathlib.Core.Bool.{true, false, false≢true}
 use mathlib.Core.List.{List, [], _∷_, _++_}
@@ -8,106 +8,108 @@ use types.Run.{OneOf, miss}
 use denote.Enum.Declared.{tagOf}
 use lib.ListN.{length, take, drop, getD}
 use Rattle.forms.specs.Bytes.{text}
+use Rattle.definitions.specs.declared.packet.Start.{Start}
 use Rattle.definitions.specs.declared.packet.Placement.{Placement}
 use Rattle.definitions.specs.declared.answers.Due.{Due}
 use Rattle.definitions.specs.declared.answers.Due.the-variants.{Fine, No}
 use Rattle.definitions.specs.declared.answers.Found.the-variants.{Placed}
 use Rattle.definitions.specs.declared.answers.Answer.{Answer}
 use Rattle.definitions.proofs.answers.Found as found-type
-use Rattle.definitions.specs.House.{decimal}
+use Rattle.definitions.specs.Starts.{startAt}
 use Rattle.definitions.specs.Lists.{keep}
-use Rattle.definitions.specs.Placements.{behind}
+use Rattle.definitions.specs.Placements.{lexLess}
 use Rattle.definitions.specs.Answers.{startsOf, headOf, unless}
 use Rattle.references.proofs.Firsts.{first-here, first-out}
 use Rattle.output.specs.Puts.{puts, Puts}
 use Rattle.output.proofs.Putting.{then, onward}
+use Rattle.match_starts.specs.StartTexts.{startText}
 use Rattle.search_outcomes.specs.declared.Outcome.{Outcome}
 use Rattle.search_outcomes.specs.Outcomes.{outcomeOf}
-use Rattle.case_lists.specs.AnswerTexts.{startsBehind, startsText, placementText, placementsBehind, behindMost, listText, dueText, answerText}
+use Rattle.case_lists.specs.AnswerTexts.{startsAfter, startsText, placementText, placementsAfter, afterMost, listText, dueText, answerText}
 use Rattle.case_lists.proofs.Rest.{starts-back, Ordered, first-rest, list-rest}
 
 -- ---- starts
 
-pub starts-on : (l : List ℕ) (n i : ℕ) → i < n → n ≤ length l
-    → startsBehind (drop i (take n l)) ≡ text "," ++ (decimal (getD l i 0) ++ startsBehind (drop (i + 1) (take n l)))
-unfolding startsBehind
-starts-on l n i h g = ap startsBehind (first-here l n i 0 h g)
+pub starts-on : (l : List Start) (n i : ℕ) → i < n → n ≤ length l
+    → startsAfter (drop i (take n l)) ≡ text "," ++ (startText (getD l i (startAt 0)) ++ startsAfter (drop (i + 1) (take n l)))
+unfolding startsAfter
+starts-on l n i h g = ap startsAfter (first-here l n i (startAt 0) h g)
 
-pub starts-end : (l : List ℕ) (n i : ℕ) → n ≤ i → startsBehind (drop i (take n l)) ≡ []
-unfolding startsBehind
-starts-end l n i h = ap startsBehind (first-out l n i h)
+pub starts-end : (l : List Start) (n i : ℕ) → n ≤ i → startsAfter (drop i (take n l)) ≡ []
+unfolding startsAfter
+starts-end l n i h = ap startsAfter (first-out l n i h)
 
-pub starts-none : (l : List ℕ) (n : ℕ) → n ≡ 0 → startsText (take n l) ≡ []
+pub starts-none : (l : List Start) (n : ℕ) → n ≡ 0 → startsText (take n l) ≡ []
 starts-none l n e = rw e
 
-pub starts-first : (l : List ℕ) (n : ℕ) → 0 < n → n ≤ length l → startsText (take n l) ≡ decimal (getD l 0 0) ++ startsBehind (drop 1 (take n l))
-starts-first l n h g = ap startsText (first-here l n 0 0 h g)
+pub starts-first : (l : List Start) (n : ℕ) → 0 < n → n ≤ length l → startsText (take n l) ≡ startText (getD l 0 (startAt 0)) ++ startsAfter (drop 1 (take n l))
+starts-first l n h g = ap startsText (first-here l n 0 (startAt 0) h g)
 
 -- ---- what a search says of the placements left
 
-behind-none : (x : Outcome) (qs : List (List ℕ)) (k : ℕ) → x ≡ outcomeOf qs → x .found ≡ false → placementsBehind k qs ≡ []
-unfolding placementsBehind
-behind-none x [] k e n = refl
-behind-none x (q ∷ qs) k e n = absurd (false≢true (sym n ∙ ap (λ (y : Outcome). y .found) e))
+after-none : (x : Outcome) (qs : List (List Start)) (k : ℕ) → x ≡ outcomeOf qs → x .found ≡ false → placementsAfter k qs ≡ []
+unfolding placementsAfter
+after-none x [] k e n = refl
+after-none x (q ∷ qs) k e n = absurd (false≢true (sym n ∙ ap (λ (y : Outcome). y .found) e))
 
-behind-over : (x : Outcome) (qs : List (List ℕ)) → x ≡ outcomeOf qs → x .found ≡ true → placementsBehind 0 qs ≡ text ";..."
-unfolding placementsBehind
-behind-over x [] e n = absurd (false≢true (sym (ap (λ (y : Outcome). y .found) e) ∙ n))
-behind-over x (q ∷ qs) e n = refl
+after-over : (x : Outcome) (qs : List (List Start)) → x ≡ outcomeOf qs → x .found ≡ true → placementsAfter 0 qs ≡ text ";..."
+unfolding placementsAfter
+after-over x [] e n = absurd (false≢true (sym (ap (λ (y : Outcome). y .found) e) ∙ n))
+after-over x (q ∷ qs) e n = refl
 
 -- ---- what "first" answers: a refusal that is due, none, or a placement
 
-pub first-not : (w : Due) (l : List (List ℕ)) (a : Answer) → a ≡ unless w (headOf l) → OneOf (1 ∷ 2 ∷ []) (tagOf found-type.the-type (a .found))
+pub first-not : (w : Due) (l : List (List Start)) (a : Answer) → a ≡ unless w (headOf l) → OneOf (1 ∷ 2 ∷ []) (tagOf found-type.the-type (a .found))
     → dueText w (listText l) ≡ answerText a
 first-not Fine [] a e n = sym (ap answerText e)
 first-not Fine (q ∷ l) a e n = absurd (miss (1 ∷ 2 ∷ []) 0 tt (subst (λ (x : Answer). OneOf (1 ∷ 2 ∷ []) (tagOf found-type.the-type (x .found))) e n))
 first-not (No r) l a e n = sym (ap answerText e)
 
-module _ (l : List (List ℕ)) (v : Ordered l) where
-  -- a placement, and k of those behind it
+module _ (l : List (List Start)) (v : Ordered l) where
+  -- a placement, and k of those after it
   abbrev fromOne : ℕ → Placement → List ℕ
-  fromOne k h = placementText (startsOf h) ++ placementsBehind k (keep (behind (h .starts)) l)
+  fromOne k h = placementText (startsOf h) ++ placementsAfter k (keep (lexLess (h .starts)) l)
 
-  pub first-one : (w : Due) (a : Answer) → a ≡ unless w (headOf l) → a .found ≡ Placed → dueText w (listText l) ≡ fromOne behindMost (a .placement)
+  pub first-one : (w : Due) (a : Answer) → a ≡ unless w (headOf l) → a .found ≡ Placed → dueText w (listText l) ≡ fromOne afterMost (a .placement)
   first-one w a e n = go w l refl e
     where
-      go : (w : Due) (k : List (List ℕ)) → l ≡ k → a ≡ unless w (headOf k) → dueText w (listText k) ≡ fromOne behindMost (a .placement)
+      go : (w : Due) (k : List (List Start)) → l ≡ k → a ≡ unless w (headOf k) → dueText w (listText k) ≡ fromOne afterMost (a .placement)
       go Fine [] le h = cc
-      go Fine (q ∷ qs) le h = sym (ap (λ (x : Answer). fromOne behindMost (x .placement)) h ∙ rw (starts-back q, first-rest l v q qs le))
+      go Fine (q ∷ qs) le h = sym (ap (λ (x : Answer). fromOne afterMost (x .placement)) h ∙ rw (starts-back q, first-rest l v q qs le))
       go (No r) k le h = cc
 
   -- ---- one placement more
 
-  behind-one : (b : List ℕ) (x : Outcome) → x ≡ outcomeOf (keep (behind b) l) → x .found ≡ true → (k : ℕ)
-      → placementsBehind (suc k) (keep (behind b) l) ≡ text ";" ++ fromOne k (x .placement)
-  unfolding placementsBehind
-  behind-one b x e n k = go (keep (behind b) l) refl e
+  after-one : (b : List Start) (x : Outcome) → x ≡ outcomeOf (keep (lexLess b) l) → x .found ≡ true → (k : ℕ)
+      → placementsAfter (suc k) (keep (lexLess b) l) ≡ text ";" ++ fromOne k (x .placement)
+  unfolding placementsAfter
+  after-one b x e n k = go (keep (lexLess b) l) refl e
     where
-      go : (j : List (List ℕ)) → keep (behind b) l ≡ j → x ≡ outcomeOf j → placementsBehind (suc k) j ≡ text ";" ++ fromOne k (x .placement)
+      go : (j : List (List Start)) → keep (lexLess b) l ≡ j → x ≡ outcomeOf j → placementsAfter (suc k) j ≡ text ";" ++ fromOne k (x .placement)
       go [] le h = cc
       go (q ∷ qs) le h = sym (ap (λ (y : Outcome). text ";" ++ fromOne k (y .placement)) h ∙ rw (starts-back q, list-rest l v b q qs le))
 
-  -- ---- the loop: of the bytes to write, those of the placements behind b are still to come, where k are written already; x is what the search found
+  -- ---- the loop: of the bytes to write, those of the placements after b are still to come, where k are written already; x is what the search found
 
-  module _ (all start : List ℕ) (at : ℕ) (b out : List ℕ) (next k : ℕ)
-      (left : puts start at all ≡ puts out next (placementsBehind (behindMost - k) (keep (behind b) l)))
-      (x : Outcome) (e : x ≡ outcomeOf (keep (behind b) l)) where
+  module _ (all start : List ℕ) (at : ℕ) (b : List Start) (out : List ℕ) (next k : ℕ)
+      (left : puts start at all ≡ puts out next (placementsAfter (afterMost - k) (keep (lexLess b) l)))
+      (x : Outcome) (e : x ≡ outcomeOf (keep (lexLess b) l)) where
     pub left-none : x .found ≡ false → Puts start at all out next
     unfolding puts
-    left-none n = record { is = sym (left ∙ ap (puts out next) (behind-none x (keep (behind b) l) (behindMost - k) e n)) }
+    left-none n = record { is = sym (left ∙ ap (puts out next) (after-none x (keep (lexLess b) l) (afterMost - k) e n)) }
 
-    pub left-on : k < behindMost → x .found ≡ true → {o o' : List ℕ} {i j : ℕ} → Puts out next (59 ∷ []) o i
+    pub left-on : k < afterMost → x .found ≡ true → {o o' : List ℕ} {i j : ℕ} → Puts out next (59 ∷ []) o i
         → Puts o i (placementText (startsOf (x .placement))) o' j
-        → puts start at all ≡ puts o' j (placementsBehind (behindMost - (k + 1)) (keep (behind (x .placement .starts)) l))
+        → puts start at all ≡ puts o' j (placementsAfter (afterMost - (k + 1)) (keep (lexLess (x .placement .starts)) l))
     left-on g n c d =
-        let less : behindMost - k ≡ suc (behindMost - (k + 1)) = omega arith in
+        let less : afterMost - k ≡ suc (afterMost - (k + 1)) = omega arith in
         left
-        ∙ ap (λ (y : ℕ). puts out next (placementsBehind y (keep (behind b) l))) less
-        ∙ ap (puts out next) (behind-one b x e n (behindMost - (k + 1)))
-        ∙ onward (placementsBehind (behindMost - (k + 1)) (keep (behind (x .placement .starts)) l)) (then c d)
+        ∙ ap (λ (y : ℕ). puts out next (placementsAfter y (keep (lexLess b) l))) less
+        ∙ ap (puts out next) (after-one b x e n (afterMost - (k + 1)))
+        ∙ onward (placementsAfter (afterMost - (k + 1)) (keep (lexLess (x .placement .starts)) l)) (then c d)
 
-    pub left-over : behindMost ≤ k → x .found ≡ true → {o : List ℕ} {i : ℕ} → Puts out next (text ";...") o i → Puts start at all o i
+    pub left-over : afterMost ≤ k → x .found ≡ true → {o : List ℕ} {i : ℕ} → Puts out next (text ";...") o i → Puts start at all o i
     left-over g n c =
-        let none : behindMost - k ≡ 0 = omega arith in
-        let rest = left ∙ ap (λ (y : ℕ). puts out next (placementsBehind y (keep (behind b) l))) none in
-        record { is = c .is ∙ sym (rest ∙ ap (puts out next) (behind-over x (keep (behind b) l) e n)) }
+        let none : afterMost - k ≡ 0 = omega arith in
+        let rest = left ∙ ap (λ (y : ℕ). puts out next (placementsAfter y (keep (lexLess b) l))) none in
+        record { is = c .is ∙ sym (rest ∙ ap (puts out next) (after-over x (keep (lexLess b) l) e n)) }

@@ -3,6 +3,7 @@
 use Prim.Native.Nat.{ℕ, zero, suc}
 use mathlib.Core.List.{List, [], _∷_, _++_}
 use Rattle.forms.specs.Bytes.{text}
+use Rattle.definitions.specs.declared.packet.Start.{Start}
 use Rattle.definitions.specs.declared.packet.Placement.{Placement}
 use Rattle.definitions.specs.declared.answers.Refusal.{Refusal}
 use Rattle.definitions.specs.declared.answers.Due.{Due}
@@ -13,34 +14,35 @@ use Rattle.definitions.specs.declared.answers.Answer.{Answer}
 use Rattle.definitions.specs.Refusals.{numberOf}
 use Rattle.definitions.specs.House.{decimal}
 use Rattle.definitions.specs.Answers.{startsOf}
+use Rattle.match_starts.specs.StartTexts.{startText}
 
 -- ---- one placement, such as `(2,3)` or `()`
 
-unfoldable pub startsBehind : List ℕ → List ℕ
-startsBehind [] = []
-startsBehind (s ∷ q) = text "," ++ (decimal s ++ startsBehind q)
+unfoldable pub startsAfter : List Start → List ℕ
+startsAfter [] = []
+startsAfter (s ∷ q) = text "," ++ (startText s ++ startsAfter q)
 
-abbrev pub startsText : List ℕ → List ℕ
+abbrev pub startsText : List Start → List ℕ
 startsText [] = []
-startsText (s ∷ q) = decimal s ++ startsBehind q
+startsText (s ∷ q) = startText s ++ startsAfter q
 
-abbrev pub placementText : List ℕ → List ℕ
+abbrev pub placementText : List Start → List ℕ
 placementText q = text "(" ++ (startsText q ++ text ")")
 
--- ---- a list of placements: at most 1,000 of them, and `;...` behind where there are more
+-- ---- a list of placements: at most 1,000 of them, and `;...` after them where there are more
 
--- those behind the first, of which k are written
-unfoldable pub placementsBehind : ℕ → List (List ℕ) → List ℕ
-placementsBehind k [] = []
-placementsBehind zero (q ∷ qs) = text ";..."
-placementsBehind (suc k) (q ∷ qs) = text ";" ++ (placementText q ++ placementsBehind k qs)
+-- those after the first, of which k are written
+unfoldable pub placementsAfter : ℕ → List (List Start) → List ℕ
+placementsAfter k [] = []
+placementsAfter zero (q ∷ qs) = text ";..."
+placementsAfter (suc k) (q ∷ qs) = text ";" ++ (placementText q ++ placementsAfter k qs)
 
-abbrev pub behindMost : ℕ
-behindMost = 999
+abbrev pub afterMost : ℕ
+afterMost = 999
 
-abbrev pub listText : List (List ℕ) → List ℕ
+abbrev pub listText : List (List Start) → List ℕ
 listText [] = text "none"
-listText (q ∷ qs) = placementText q ++ placementsBehind behindMost qs
+listText (q ∷ qs) = placementText q ++ placementsAfter afterMost qs
 
 -- ---- refusals, and the answer to one ask
 

@@ -9,6 +9,7 @@ use definitions::answers::Refusal;
 use output::put_decimal;
 use output::put_word;
 
+// A refusal by its number.
 pub fn put_refused(out: &mut [u8], at: usize, r: Refusal) -> usize
     ensures { λ n. ⌜ Puts (now (out .entry)) at (refusedText r) (now (out .exit)) n ⌝ }
 {
@@ -16,6 +17,7 @@ pub fn put_refused(out: &mut [u8], at: usize, r: Refusal) -> usize
     put_decimal(out, next, number_of(r))
 }
 
+// An answer: a placement, none, or a refusal.
 pub fn put_answer(out: &mut [u8], at: usize, a: Answer) -> usize
     ensures { λ r. ⌜ Puts (now (out .entry)) at (answerText a) (now (out .exit)) r ⌝ }
 {

@@ -1,12 +1,12 @@
-// The list of placements: what is due is tested once, and each search is for the least behind the placement written last.
+// The list of placements: what is due is tested once, and each search is for the least after the placement written last.
 ghost use Rattle.definitions.specs.Lists.{keep};
 ghost use Rattle.definitions.specs.Fields.{fieldsDue};
-ghost use Rattle.definitions.specs.Placements.{behind};
+ghost use Rattle.definitions.specs.Placements.{lexLess};
 ghost use Rattle.definitions.specs.Answers.{verdictDue, placementsOf};
 ghost use Rattle.output.specs.Puts.{Puts};
 ghost use Rattle.search.specs.Searching.{Searchable};
 ghost use Rattle.placement_list.specs.Listing.{listIn};
-ghost use Rattle.case_lists.specs.AnswerTexts.{placementsBehind, behindMost, listText, dueText};
+ghost use Rattle.case_lists.specs.AnswerTexts.{placementsAfter, afterMost, listText, dueText};
 use crate::answers::put_answer;
 use crate::answers::put_refused;
 use crate::placements::put_placement;
@@ -16,6 +16,7 @@ use definitions::limits::PATTERNS;
 use definitions::packet::Direction;
 use definitions::packet::Facts;
 use definitions::packet::FieldMap;
+use definitions::packet::Start;
 use definitions::table::Table;
 use output::put;
 use output::put_word;
@@ -24,11 +25,11 @@ use placement_list::first_in;
 use search::find;
 use verdict_due::cleared;
 
-// So many placements are written behind the first.
-const BEHIND: usize = 999;
+// So many placements are written after the first.
+const AFTER: usize = 999;
 
-// The placements of the list behind some starts.
-fn put_behind<'a>(
+// The placements of the list after some starts.
+fn put_after<'a>(
     out: &mut [u8],
     at: usize,
     t: Table,
@@ -37,21 +38,21 @@ fn put_behind<'a>(
     decoded: &'a [u8],
     dir: Direction,
     m: FieldMap,
-    starts: [usize; PATTERNS],
+    starts: [Start; PATTERNS],
 ) -> usize
     requires { ⌜ Searchable t (now payload) (now decoded) ⌝ }
-    ensures { λ r. ⌜ Puts (now (out .entry)) at (placementsBehind behindMost (keep (behind starts) (listIn t facts (now (payload .entry)) (now (decoded .entry)) dir m))) (now (out .exit)) r ⌝ }
+    ensures { λ r. ⌜ Puts (now (out .entry)) at (placementsAfter afterMost (keep (lexLess starts) (listIn t facts (now (payload .entry)) (now (decoded .entry)) dir m))) (now (out .exit)) r ⌝ }
 {
     let mut bound = starts;
     let mut next = at;
     let mut k = 0;
-    while k < BEHIND {
+    while k < AFTER {
         let x = find(t, facts, payload, decoded, dir, m, bound, true);
         if !x.found {
             return next;
         }
         let placement = x.placement;
-        next = put(out, next, 59);
+        next = put(out, next, b';');
         next = put_placement(out, next, placement);
         bound = placement.starts;
         k += 1;
@@ -85,7 +86,7 @@ fn put_seen<'a>(
     let placement = a.placement;
     let next = put_placement(out, at, placement);
     let starts = placement.starts;
-    put_behind(out, next, t, facts, payload, decoded, dir, m, starts)
+    put_after(out, next, t, facts, payload, decoded, dir, m, starts)
 }
 
 // The first refusal that is due, or the list.

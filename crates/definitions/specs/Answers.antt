@@ -7,6 +7,7 @@ use lib.Dec.{eqb}
 use Rattle.definitions.specs.declared.table.Table.{Table}
 use Rattle.definitions.specs.declared.packet.Direction.{Direction}
 use Rattle.definitions.specs.declared.packet.FieldMap.{FieldMap}
+use Rattle.definitions.specs.declared.packet.Start.{Start}
 use Rattle.definitions.specs.declared.packet.Placement.{Placement}
 use Rattle.definitions.specs.declared.answers.Refusal.{Refusal}
 use Rattle.definitions.specs.declared.answers.Refusal.the-variants as refusal
@@ -18,18 +19,19 @@ use Rattle.definitions.specs.declared.answers.Found.the-variants.{Placed
 use Rattle.definitions.specs.declared.answers.Answer.{Answer}
 use Rattle.definitions.specs.Limits.{patternsMost}
 use Rattle.definitions.specs.Lists.{keep, padded}
+use Rattle.definitions.specs.Starts.{startAt}
 use Rattle.definitions.specs.Refusals.{refuseIf, orElse}
 use Rattle.definitions.specs.WellFormed.{wellFormed}
 use Rattle.definitions.specs.Packet.{datagramOf, payloadOf, packetDue}
 use Rattle.definitions.specs.Fields.{viewOf, fieldsDue}
-use Rattle.definitions.specs.Placements.{Start, behind, itemsOf, positives, listed}
+use Rattle.definitions.specs.Placements.{lexLess, itemsOf, positives, listed}
 
 -- a placement's starts; and the placement with the starts q, unused room zero
 abbrev pub startsOf : Placement → List Start
 startsOf h = take (h .count) (h .starts)
 
 abbrev pub placementOf : List Start → Placement
-placementOf q = record { count = length q; starts = padded patternsMost 0 q }
+placementOf q = record { count = length q; starts = padded patternsMost (startAt 0) q }
 
 -- the placement of a refusal, and of none, has count 0
 abbrev pub foundAnswer : List Start → Answer
@@ -78,6 +80,6 @@ module _ (t : Table) (p decoded : List ℕ) (dir : Direction) (m : FieldMap) whe
   abbrev pub earlierDue : Placement → Due
   earlierDue h = refuseIf (not (eqb (h .count) (positives (itemsOf t)))) refusal.EarlierCount Fine
 
-  -- NEXT: the least of the list behind the earlier placement, or none
+  -- NEXT: the least of the list after the earlier placement, or none
   unfoldable pub nextAnswer : Placement → Answer
-  nextAnswer h = unless (orElse verdictDue (earlierDue h)) (headOf (keep (behind (startsOf h)) placementsOf))
+  nextAnswer h = unless (orElse verdictDue (earlierDue h)) (headOf (keep (lexLess (startsOf h)) placementsOf))

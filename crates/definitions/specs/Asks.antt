@@ -1,5 +1,5 @@
 -- The model of a list of asks. Section "Meaning", its last paragraph.
-use mathlib.Core.List.{List, [], _∷_}
+use mathlib.Core.List.{List, [], _∷_, map}
 use Prim.Native.Nat.{ℕ}
 use Rattle.definitions.specs.declared.table.Table.{Table}
 use Rattle.definitions.specs.declared.packet.Direction.{Direction}
@@ -8,12 +8,13 @@ use Rattle.definitions.specs.declared.packet.Placement.{Placement}
 use Rattle.definitions.specs.declared.answers.Answer.{Answer}
 use Rattle.definitions.specs.declared.answers.Ask.{Ask}
 use Rattle.definitions.specs.declared.answers.Ask.the-variants.{First, Next}
+use Rattle.definitions.specs.Starts.{startNumber}
 use Rattle.definitions.specs.Refusals.{foundNumber, foundOne}
 use Rattle.definitions.specs.Answers.{firstAnswer, nextAnswer}
 
 -- an answer's refusal number, found or none, count, starts and unused room, as numbers
 abbrev pub answerNumbers : Answer → List ℕ
-answerNumbers a = foundNumber (a .found) ∷ foundOne (a .found) ∷ a .placement .count ∷ a .placement .starts
+answerNumbers a = foundNumber (a .found) ∷ foundOne (a .found) ∷ a .placement .count ∷ map startNumber (a .placement .starts)
 
 module _ (t : Table) (p decoded : List ℕ) (dir : Direction) (m : FieldMap) where
   -- the model holds the placement h, at the start any numbers

@@ -16,6 +16,7 @@ use Rattle.definitions.specs.Limits.{limits01}
 use Rattle.forms.specs.Bytes.{text}
 use Rattle.definitions.specs.Lists.{sameBytes}
 use Rattle.definitions.specs.Numbers.{digitValue}
+use Rattle.definitions.specs.Starts.{startAt}
 use Rattle.definitions.specs.Refusals.{readNumber, readPlace}
 use Rattle.definitions.specs.Reading.{read}
 use Rattle.definitions.specs.Answers.{placementOf}
@@ -62,7 +63,7 @@ pub record Case : Type 0 where
   pub expected : List (List ℕ)
 
 unfoldable pub numbersOf : Case → Reading → List (List ℕ)
-numbersOf c r = map answerNumbers (answers (r .table) (packetWith (c .payload)) [] Client (uriOnly (c .uri)) (placementOf (c .held)) (c .asks))
+numbersOf c r = map answerNumbers (answers (r .table) (packetWith (c .payload)) [] Client (uriOnly (c .uri)) (placementOf (map startAt (c .held))) (c .asks))
 
 unfoldable pub rightBy : Case → Reading → Bool
 rightBy c r = eqb (readNumber (r .outcome)) (c .number) && (eqb (readPlace (r .outcome)) (c .place) && sameLists (numbersOf c r) (c .expected))

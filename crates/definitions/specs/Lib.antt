@@ -7,6 +7,7 @@ pub mod Forms
 pub mod Options
 pub mod Tables
 pub mod Items
+pub mod Starts
 pub mod References
 pub mod Refusals
 pub mod Standing

@@ -4,7 +4,7 @@ use Prim.Native.Nat.{ℕ, zero, suc, _+_}
 use mathlib.Core.Bool.{Bool, true, false, _&&_, _||_}
 use mathlib.Core.List.{List, [], _∷_, _++_, map}
 use lib.ListN.{length, take}
-use lib.Dec.{eqb, ltb}
+use lib.Dec.{eqb}
 use Rattle.forms.specs.Bytes.{if_then_else_}
 use Rattle.definitions.specs.declared.table.Pattern.{Pattern}
 use Rattle.definitions.specs.declared.table.Item.{Item}
@@ -14,30 +14,22 @@ use Rattle.definitions.specs.declared.table.Table.{Table}
 use Rattle.definitions.specs.declared.packet.Direction.{Direction}
 use Rattle.definitions.specs.declared.packet.Last.{Last}
 use Rattle.definitions.specs.declared.packet.Last.the-variants.{Nothing}
+use Rattle.definitions.specs.declared.packet.Start.{Start}
 use Rattle.definitions.specs.Lists.{none?, keep}
 use Rattle.definitions.specs.Items.{Kind, unused, addressed, patterned, plainTest, kindOf, slotsOf, behindItem}
+use Rattle.definitions.specs.Starts.{startAt, startBefore, sameStart}
 use Rattle.definitions.specs.References.{lastAfter}
 use Rattle.definitions.specs.Fields.{View}
 use Rattle.definitions.specs.Tests.{flowHolds, testHolds}
 use Rattle.definitions.specs.Windows.{lies}
 
--- ---- placements and their order
+-- ---- the order of placements
 
--- an entry of a placement: a start, counted from its field's start
-abbrev pub Start : Type 0
-Start = ℕ
-
-abbrev pub startBefore : Start → Start → Bool
-startBefore a b = ltb a b
-
-abbrev pub sameStart : Start → Start → Bool
-sameStart a b = eqb a b
-
--- by the first start that differs: q is behind p
-unfoldable pub behind : List Start → List Start → Bool
-behind p [] = false
-behind [] (s ∷ q) = true
-behind (a ∷ p) (s ∷ q) = startBefore a s || (sameStart a s && behind p q)
+-- document 01's order: the first start that differs decides whether q comes after p
+unfoldable pub lexLess : List Start → List Start → Bool
+lexLess p [] = false
+lexLess [] (s ∷ q) = true
+lexLess (a ∷ p) (s ∷ q) = startBefore a s || (sameStart a s && lexLess p q)
 
 -- ---- the items as the meaning takes them: a pattern to place with its bytes, a pattern that must lie nowhere, or a test
 
@@ -81,6 +73,10 @@ unfoldable pub upFrom : ℕ → ℕ → List ℕ
 upFrom a zero = []
 upFrom a (suc m) = a ∷ upFrom (suc a) m
 
+-- the starts in a field of n bytes, its end too
+abbrev pub startsTo : ℕ → List Start
+startsTo n = map startAt (upFrom 0 (suc n))
+
 -- s before each list of f s, for each s of a list
 unfoldable pub spread : (Start → List (List Start)) → List Start → List (List Start)
 spread f [] = []
@@ -94,11 +90,11 @@ onlyIf b l = if b then l else []
 module _ (v : View) where
   -- the pattern lies at a start of its field; on an absent field it lies nowhere
   unfoldable pub liesIn : Pattern → List ℕ → Last → Start → Bool
-  liesIn p b l at = v .present (p .context) && lies p b l (v .field (p .context)) at
+  liesIn p b l s = v .present (p .context) && lies p b l (v .field (p .context)) (s .at)
 
   -- each start at which it lies, in rising order
   unfoldable pub starts : Pattern → List ℕ → Last → List Start
-  starts p b l = keep (liesIn p b l) (upFrom 0 (suc (length (v .field (p .context)))))
+  starts p b l = keep (liesIn p b l) (startsTo (length (v .field (p .context))))
 
   -- a negated pattern holds if its field is present and it lies nowhere in its window
   unfoldable pub nowhereHolds : Pattern → List ℕ → Last → Bool
@@ -110,7 +106,7 @@ module _ (v : View) where
   Meets [] l (s ∷ q) = ⊥
   Meets (placed p b ∷ ws) l [] = ⊥
   Meets (placed p b ∷ ws) l (s ∷ q) = (liesIn p b l s ≡ true) × Meets ws (lastAfter l p s) q
-  Meets (nowhere p b ∷ ws) l q = (v .present (p .context) ≡ true) × ((at : Start) → liesIn p b l at ≡ false) × Meets ws l q
+  Meets (nowhere p b ∷ ws) l q = (v .present (p .context) ≡ true) × ((s : Start) → liesIn p b l s ≡ false) × Meets ws l q
   Meets (tested it al ∷ ws) l q = (testHolds v it al l ≡ true) × Meets ws l q
 
   -- the placements of the items

@@ -18,9 +18,11 @@ use Rattle.definitions.specs.declared.table.Within.the-variants as withi
 use Rattle.definitions.specs.declared.table.Pattern.{Pattern}
 use Rattle.definitions.specs.declared.packet.Last.{Last}
 use Rattle.definitions.specs.declared.packet.Last.the-variants.{Nothing, Was}
+use Rattle.definitions.specs.declared.packet.Start.{Start}
 use Rattle.definitions.specs.Entries.{Entry}
 use Rattle.definitions.specs.Tables.{slotsIn}
 use Rattle.definitions.specs.Items.{patternsOf}
+use Rattle.definitions.specs.Starts.{startAt}
 
 abbrev pub contextNumber : Context → ℕ
 contextNumber context.Packet = 0
@@ -42,9 +44,9 @@ referenceNumber reference.Context = 2
 abbrev pub sameReference : Reference → Reference → Bool
 sameReference a b = eqb (referenceNumber a) (referenceNumber b)
 
--- the last positive pattern, behind the pattern p that lies at a start; a negated one moves no reference
-abbrev pub lastAfter : Last → Pattern → ℕ → Last
-lastAfter last p start = if p .negated then last else Was (record { context = p .context; end = start + p .len })
+-- the last positive pattern, after the pattern p that lies at the start s; a negated one moves no reference
+abbrev pub lastAfter : Last → Pattern → Start → Last
+lastAfter last p s = if p .negated then last else Was (record { context = p .context; end = s .at + p .len })
 
 -- the last positive pattern before, if there is one, stands in the context
 abbrev pub lastIn : Last → Context → Bool
@@ -83,7 +85,7 @@ usable last p =
 -- how many patterns at the front are usable; where a pattern lies plays no part
 unfoldable pub usableRun : Last → List Pattern → ℕ
 usableRun last [] = 0
-usableRun last (p ∷ ps) = if usable last p then 1 + usableRun (lastAfter last p 0) ps else 0
+usableRun last (p ∷ ps) = if usable last p then 1 + usableRun (lastAfter last p (startAt 0)) ps else 0
 
 -- how many of the entries' patterns from the first on have usable references
 abbrev pub usableIn : List Entry → ℕ

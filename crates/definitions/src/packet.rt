@@ -56,8 +56,13 @@ pub enum Last {
     Was(Match),
 }
 
+// An entry of a placement: where a positive pattern lies, counted from its field's start.
+pub struct Start {
+    pub at: usize,
+}
+
 // A start for each positive pattern, in text order; starts not in use are zero.
 pub struct Placement {
     pub count: usize,
-    pub starts: [usize; PATTERNS],
+    pub starts: [Start; PATTERNS],
 }

@@ -16,6 +16,7 @@ use Rattle.definitions.specs.declared.table.Slot.{Slot}
 use Rattle.definitions.specs.Limits.{patternsMost, testsMost}
 use Rattle.definitions.specs.Lists.{all?}
 use Rattle.definitions.specs.Items.{Kind, unused, addressed, patterned, plainTest, kindOf, patternFirst, patternsOf}
+use Rattle.definitions.specs.Starts.{startAt}
 use Rattle.definitions.specs.References.{lastAfter, usable, usableRun}
 use Rattle.definitions.specs.WellFormed.{slotFits, bytesOf}
 use Rattle.references.proofs.Firsts.{first-here, first-out}
@@ -34,10 +35,10 @@ sum-less left n m h =
 
 -- one pattern more: the patterns from it on are usable where it is and those behind it are
 module _ (last : Last) (p : Pattern) (ps : List Pattern) where
-  run-on : usable last p ≡ true → eqb (usableRun last (p ∷ ps)) (length (p ∷ ps)) ≡ eqb (usableRun (lastAfter last p 0) ps) (length ps)
+  run-on : usable last p ≡ true → eqb (usableRun last (p ∷ ps)) (length (p ∷ ps)) ≡ eqb (usableRun (lastAfter last p (startAt 0)) ps) (length ps)
   unfolding usableRun
   run-on t =
-      let n = usableRun (lastAfter last p 0) ps in
+      let n = usableRun (lastAfter last p (startAt 0)) ps in
       let one : 1 + n ≡ suc n = omega arith in
       rw t (ap (λ (k : ℕ). eqb k (suc (length ps))) one ∙ eqb·suc-suc n (length ps))
 

@@ -11,6 +11,7 @@ use Rattle.definitions.specs.declared.table.Slot.{Slot}
 use Rattle.definitions.specs.Limits.{patternsMost, testsMost, itemsMost}
 use Rattle.definitions.specs.Lists.{all?}
 use Rattle.definitions.specs.Items.{Kind, unused, addressed, patterned, plainTest, kindOf, patternsOf}
+use Rattle.definitions.specs.Starts.{startAt}
 use Rattle.definitions.specs.References.{lastAfter, usable, usableRun}
 use Rattle.definitions.specs.WellFormed.{slotFits, slotUnused, bytesOf}
 use Rattle.formed.specs.declared.walking.Walk.{Walk}
@@ -36,7 +37,7 @@ mayPass w sl = slotFits sl && kindPasses w (kindOf (sl .item))
 abbrev pub pastKind : Walk → Kind → Walk
 pastKind w unused = w
 pastKind w (addressed a) = w
-pastKind w (patterned p) = record { patterns = w .patterns + 1; left = w .left - p .len; last = lastAfter (w .last) p 0 }
+pastKind w (patterned p) = record { patterns = w .patterns + 1; left = w .left - p .len; last = lastAfter (w .last) p (startAt 0) }
 pastKind w plainTest = w
 
 abbrev pub pastItem : Walk → Slot → Walk

@@ -6,7 +6,7 @@ use mathlib.Core.Path.{_≡_, refl, sym, ap, _∙_, subst, fun-ext}
 use mathlib.Core.Logic.{_⊎_, inl, inr, ⊎-elim}
 use mathlib.Core.Bool.{Bool, true, false, _&&_, true≢false, false≢true}
 use mathlib.Core.List.{List, [], _∷_, _++_, List·Memᴰ as Mem, List·Memᴰ·head as here, List·Memᴰ·tail as there, List·Memᴰ·not-nil as not-nil, List·Memᴰ·cases-cons as cases-cons}
-use Prim.Native.Nat.{ℕ, suc}
+use Prim.Native.Nat.{ℕ}
 use lib.ListN.{length}
 use Rattle.forms.specs.Bytes.{if_then_else_}
 use Rattle.forms.proofs.Bools.{by-cases}
@@ -20,19 +20,21 @@ use Rattle.definitions.specs.declared.table.Slot.{Slot}
 use Rattle.definitions.specs.declared.table.Table.{Table}
 use Rattle.definitions.specs.declared.packet.Direction.{Direction}
 use Rattle.definitions.specs.declared.packet.FieldMap.{FieldMap}
+use Rattle.definitions.specs.declared.packet.Start.{Start}
 use Rattle.definitions.specs.declared.packet.Last.{Last}
 use Rattle.definitions.specs.declared.packet.Last.the-variants.{Nothing}
 use Rattle.definitions.specs.declared.answers.Due.{Due}
 use Rattle.definitions.specs.declared.answers.Due.the-variants.{Fine, No}
 use Rattle.definitions.specs.declared.answers.Verdict.{Verdict}
 use Rattle.definitions.specs.declared.answers.Verdict.the-variants as verdict
-use Rattle.definitions.specs.Lists.{keep}
 use Rattle.definitions.specs.Items.{kindOf, slotsOf, behindItem}
+use Rattle.definitions.specs.Starts.{startAt}
 use Rattle.definitions.specs.References.{lastAfter}
 use Rattle.definitions.specs.Fields.{View, viewOf, present, sizeContext}
 use Rattle.definitions.specs.Tests.{atContext, sizeHolds, atHolds, testHolds}
-use Rattle.definitions.specs.Placements.{Start, upFrom, spread, onlyIf, Wanted, placed, nowhere, tested, wantedPattern, wantedBy, wanted, itemsOf, liesIn, starts, nowhereHolds, placements, headHolds, listed}
+use Rattle.definitions.specs.Placements.{startsTo, spread, onlyIf, Wanted, placed, nowhere, tested, wantedPattern, wantedBy, wanted, itemsOf, liesIn, starts, nowhereHolds, placements, headHolds, listed}
 use Rattle.definitions.specs.Answers.{verdictDue, placementsOf, verdictBy, verdictAnswer}
+use Rattle.laws.proofs.Keep.{keep-none}
 
 -- ---- what the statements say
 
@@ -64,7 +66,7 @@ itemHolds v (tested it al) l s = testHolds v it al l
 -- the last positive pattern behind some items; where it lies plays no part for the field
 unfoldable pub lastBehind : List Wanted → Last → Last
 lastBehind [] l = l
-lastBehind (placed p b ∷ ws) l = lastBehind ws (lastAfter l p 0)
+lastBehind (placed p b ∷ ws) l = lastBehind ws (lastAfter l p (startAt 0))
 lastBehind (nowhere p b ∷ ws) l = lastBehind ws l
 lastBehind (tested it al ∷ ws) l = lastBehind ws l
 
@@ -129,11 +131,6 @@ looks-only v v′ (tested (item.Pattern p) al) l s f h = refl
 
 -- ---- a list of items
 
-keep-none : (f : Start → Bool) (ss : List Start) → ((s : Start) → f s ≡ false) → keep f ss ≡ []
-unfolding keep
-keep-none f [] h = refl
-keep-none f (s ∷ ss) h = rw (h s) (keep-none f ss h)
-
 spread-none : (f : Start → List (List Start)) (ss : List Start) → ((s : Start) → f s ≡ []) → spread f ss ≡ []
 unfolding spread
 spread-none f [] h = refl
@@ -147,9 +144,9 @@ module _ (v : View) where
   -- an item that never holds has no placements, whatever stands behind it
   never-none : (w : Wanted) (ws : List Wanted) (l : Last) → ((s : Start) → itemHolds v w l s ≡ false) → placements v (w ∷ ws) l ≡ []
   unfolding placements starts spread
-  never-none (placed p b) ws l h = rw (keep-none (liesIn v p b l) (upFrom 0 (suc (length (v .field (p .context))))) h)
-  never-none (nowhere p b) ws l h = rw (h 0)
-  never-none (tested it al) ws l h = rw (h 0)
+  never-none (placed p b) ws l h = rw (keep-none (liesIn v p b l) (startsTo (length (v .field (p .context)))) h)
+  never-none (nowhere p b) ws l h = rw (h (startAt 0))
+  never-none (tested it al) ws l h = rw (h (startAt 0))
 
   module _ (w : Wanted) (ws : List Wanted) (c : Context) (e : v .present c ≡ false) where
     -- two last patterns in one field
@@ -173,13 +170,13 @@ module _ (v : View) where
     read-alike (tested (item.At t) al) k l h = ap (λ (x : Context). x ∷ []) (tested-alike (t .relative) k l h)
     read-alike (tested (item.Pattern p) al) k l h = refl
 
-    after-alike : (p : Pattern) (s : Start) (k l : Last) → Alike k l → Alike (lastAfter k p s) (lastAfter l p 0)
+    after-alike : (p : Pattern) (s : Start) (k l : Last) → Alike k l → Alike (lastAfter k p s) (lastAfter l p (startAt 0))
     after-alike p s k l h = by-cases (p .negated) (λ t. rw t h) (λ f. rw f)
 
     behind-none : (us : List Wanted) (k l : Last) → Alike k l → Mem c (fieldsRead w (lastBehind us l)) → placements v (us ++ (w ∷ ws)) k ≡ []
     unfolding placements lastBehind
     behind-none [] k l h m = never-none w ws k (λ s. absent-never v w k s c (subst (Mem c) (sym (read-alike w k l h)) m) e)
-    behind-none (placed p b ∷ us) k l h m = spread-none _ (starts v p b k) (λ s. behind-none us (lastAfter k p s) (lastAfter l p 0) (after-alike p s k l h) m)
+    behind-none (placed p b ∷ us) k l h m = spread-none _ (starts v p b k) (λ s. behind-none us (lastAfter k p s) (lastAfter l p (startAt 0)) (after-alike p s k l h) m)
     behind-none (nowhere p b ∷ us) k l h m = only-none (nowhereHolds v p b k) _ (behind-none us k l h m)
     behind-none (tested it al ∷ us) k l h m = only-none (testHolds v it al k) _ (behind-none us k l h m)
 
@@ -268,7 +265,7 @@ last-among (placed p b ∷ us) l =
     ⊎-elim
     (λ e. by-cases (p .negated) (λ t. inl (e ∙ rw t)) (λ f. inr (p, b, here refl, e ∙ rw f)))
     (λ q. inr (q .0, q .1, there (q .2), q .3))
-    (last-among us (lastAfter l p 0))
+    (last-among us (lastAfter l p (startAt 0)))
 last-among (nowhere p b ∷ us) l = ⊎-elim inl (λ q. inr (q .0, q .1, there (q .2), q .3)) (last-among us l)
 last-among (tested it al ∷ us) l = ⊎-elim inl (λ q. inr (q .0, q .1, there (q .2), q .3)) (last-among us l)
 

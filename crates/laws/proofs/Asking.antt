@@ -1,5 +1,5 @@
 -- Where none of 20 and 30 to 35 is due and the list has m placements, "first" and then m times "next" answer these m in their order, then
--- none (`all-listed`): of a rising list, those behind one of it are those after it. Where one is due, each ask of every list gets the first due
+-- none (`all-listed`): of a rising list, those after one of it are those that follow it. Where one is due, each ask of every list gets the first due
 -- (`all-refused`).
 use mathlib.Core.Path.{_≡_, refl, sym, ap, _∙_, subst}
 use mathlib.Core.Bool.{true, false≢true}
@@ -13,37 +13,39 @@ use borrow.Author.Tests.{eq-eqb}
 use Rattle.definitions.specs.declared.packet.Direction.{Direction}
 use Rattle.definitions.specs.declared.table.Table.{Table}
 use Rattle.definitions.specs.declared.packet.FieldMap.{FieldMap}
+use Rattle.definitions.specs.declared.packet.Start.{Start}
 use Rattle.definitions.specs.declared.packet.Placement.{Placement}
-use Rattle.definitions.specs.declared.packet.Last.the-variants.{Nothing}
 use Rattle.definitions.specs.declared.answers.Refusal.{Refusal}
 use Rattle.definitions.specs.declared.answers.Due.the-variants.{Fine, No}
 use Rattle.definitions.specs.declared.answers.Answer.{Answer}
 use Rattle.definitions.specs.declared.answers.Ask.{Ask}
 use Rattle.definitions.specs.declared.answers.Ask.the-variants.{First, Next}
 use Rattle.definitions.specs.Limits.{patternsMost}
+use Rattle.definitions.specs.Starts.{startAt}
 use Rattle.definitions.specs.Fields.{viewOf}
-use Rattle.definitions.specs.Placements.{behind, positives, itemsOf, MeetsTable}
+use Rattle.definitions.specs.Placements.{lexLess, positives, itemsOf}
 use Rattle.definitions.specs.Answers.{placementOf, foundAnswer, noneAnswer, refusedAnswer, headOf, verdictDue, placementsOf, firstAnswer, nextAnswer}
 use Rattle.definitions.specs.Asks.{answers}
-use Rattle.laws.proofs.Rising.{Rising, behind-not-self, keep-after}
-use Rattle.laws.proofs.Listing.{meets-length, listed-meets}
+use Rattle.laws.proofs.LexOrder.{lexLess-not-self}
+use Rattle.laws.proofs.Rising.{Rising, keep-after}
+use Rattle.laws.proofs.Listing.{listed-length}
 use Rattle.laws.proofs.Least.{placements-rise}
 
 module _ (t : Table) (p decoded : List ℕ) (dir : Direction) (m : FieldMap) where
-  -- each placement of the list has a start for each positive pattern
-  pub listed-length : (q : List ℕ) → Mem q (placementsOf t p decoded dir m) → length q ≡ positives (itemsOf t)
-  unfolding placementsOf MeetsTable
-  listed-length q n = meets-length (viewOf p decoded m) (itemsOf t) Nothing q (listed-meets t (viewOf p decoded m) dir q .0 n .1)
+  each-length : (q : List Start) → Mem q (placementsOf t p decoded dir m) → length q ≡ positives (itemsOf t)
+  unfolding placementsOf
+  each-length q n = listed-length t (viewOf p decoded m) dir q n
 
   module _ (due : verdictDue t p decoded dir m ≡ Fine) where
-    next-after : (pre : List (List ℕ)) (q : List ℕ) (rest : List (List ℕ)) → placementsOf t p decoded dir m ≡ pre ++ q ∷ rest → nextAnswer t p decoded dir m (placementOf q) ≡ headOf rest
+    next-after : (pre : List (List Start)) (q : List Start) (rest : List (List Start)) → placementsOf t p decoded dir m ≡ pre ++ q ∷ rest
+        → nextAnswer t p decoded dir m (placementOf q) ≡ headOf rest
     unfolding nextAnswer
     next-after pre q rest e =
-        let n : Mem q (placementsOf t p decoded dir m) = subst (λ (l : List (List ℕ)). Mem q l) (sym e) (append-right pre (here refl)) in
-        rw (due, eq-eqb (length q) (positives (itemsOf t)) (listed-length q n), take-append-seam q (replicate (patternsMost - length q) 0), e)
+        let n : Mem q (placementsOf t p decoded dir m) = subst (λ (l : List (List Start)). Mem q l) (sym e) (append-right pre (here refl)) in
+        rw (due, eq-eqb (length q) (positives (itemsOf t)) (each-length q n), take-append-seam q (replicate (patternsMost - length q) (startAt 0)), e)
         (ap headOf (keep-after pre q rest (subst Rising e (placements-rise t p decoded dir m))))
 
-    from-one : (pre : List (List ℕ)) (q : List ℕ) (rest : List (List ℕ)) → placementsOf t p decoded dir m ≡ pre ++ q ∷ rest
+    from-one : (pre : List (List Start)) (q : List Start) (rest : List (List Start)) → placementsOf t p decoded dir m ≡ pre ++ q ∷ rest
         → answers t p decoded dir m (placementOf q) (replicate (suc (length rest)) Next) ≡ map foundAnswer rest ++ (noneAnswer ∷ [])
     unfolding answers
     from-one pre q [] e = rw (next-after pre q [] e)
@@ -51,12 +53,15 @@ module _ (t : Table) (p decoded : List ℕ) (dir : Direction) (m : FieldMap) whe
         rw (next-after pre q (r ∷ rest) e)
         (ap (λ (l : List Answer). foundAnswer r ∷ l) (from-one (pre ++ (q ∷ [])) r rest (e ∙ sym (append-snoc pre q (r ∷ rest)))))
 
-    from-list : (l : List (List ℕ)) (h : Placement) → placementsOf t p decoded dir m ≡ l → answers t p decoded dir m h (First ∷ replicate (length l) Next) ≡ map foundAnswer l ++ (noneAnswer ∷ [])
+    from-list : (l : List (List Start)) (h : Placement) → placementsOf t p decoded dir m ≡ l
+        → answers t p decoded dir m h (First ∷ replicate (length l) Next) ≡ map foundAnswer l ++ (noneAnswer ∷ [])
     unfolding answers firstAnswer
     from-list [] h e = rw (due, e)
     from-list (q ∷ rest) h e = rw (due, e) (ap (λ (l : List Answer). foundAnswer q ∷ l) (from-one [] q rest e))
 
-    pub all-listed : (h : Placement) → answers t p decoded dir m h (First ∷ replicate (length (placementsOf t p decoded dir m)) Next) ≡ map foundAnswer (placementsOf t p decoded dir m) ++ (noneAnswer ∷ [])
+    pub all-listed : (h : Placement)
+        → answers t p decoded dir m h (First ∷ replicate (length (placementsOf t p decoded dir m)) Next)
+        ≡ map foundAnswer (placementsOf t p decoded dir m) ++ (noneAnswer ∷ [])
     all-listed h = from-list (placementsOf t p decoded dir m) h refl
 
   -- whatever is held
@@ -69,14 +74,15 @@ module _ (t : Table) (p decoded : List ℕ) (dir : Direction) (m : FieldMap) whe
 
   -- with no positive pattern there is one empty placement or none
   pub empty-or-none : positives (itemsOf t) ≡ 0 → (placementsOf t p decoded dir m ≡ []) ⊎ (placementsOf t p decoded dir m ≡ [] ∷ [])
-  empty-or-none e = go (placementsOf t p decoded dir m) (λ q n. no-start q (listed-length q n ∙ e)) (placements-rise t p decoded dir m)
+  empty-or-none e = go (placementsOf t p decoded dir m) (λ q n. no-start q (each-length q n ∙ e)) (placements-rise t p decoded dir m)
     where
-      no-start : (q : List ℕ) → length q ≡ 0 → q ≡ []
+      no-start : (q : List Start) → length q ≡ 0 → q ≡ []
       no-start [] h = refl
       no-start (s ∷ q) h = absurd (omega (arith, h))
 
-      go : (l : List (List ℕ)) → ((q : List ℕ) → Mem q l → q ≡ []) → Rising l → (l ≡ []) ⊎ (l ≡ [] ∷ [])
+      go : (l : List (List Start)) → ((q : List Start) → Mem q l → q ≡ []) → Rising l → (l ≡ []) ⊎ (l ≡ [] ∷ [])
       go [] f r = inl refl
-      go (q ∷ []) f r = inr (ap (λ (u : List ℕ). u ∷ []) (f q (here refl)))
+      go (q ∷ []) f r = inr (ap (λ (u : List Start). u ∷ []) (f q (here refl)))
       go (q ∷ (u ∷ l)) f r =
-          absurd (false≢true (sym (behind-not-self []) ∙ subst (λ (x : List ℕ). behind x [] ≡ true) (f q (here refl)) (subst (λ (x : List ℕ). behind q x ≡ true) (f u (there (here refl))) (r .0 u (here refl)))))
+          let after : lexLess q [] ≡ true = subst (λ (x : List Start). lexLess q x ≡ true) (f u (there (here refl))) (r .0 u (here refl)) in
+          absurd (false≢true (sym (lexLess-not-self []) ∙ subst (λ (x : List Start). lexLess x [] ≡ true) (f q (here refl)) after))

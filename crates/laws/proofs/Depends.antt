@@ -9,6 +9,7 @@ use Prim.Native.Nat.{ℕ, _+_, _*_, _/_, _%_, _≤_}
 use lib.ListN.{length, take, getD}
 use lib.Dec.{eqb, ltb}
 use borrow.Author.Tests.{ltb-false}
+use Rattle.definitions.specs.declared.packet.Start.{Start}
 use Rattle.definitions.specs.declared.packet.Direction.{Direction}
 use Rattle.definitions.specs.declared.table.Context.{Context}
 use Rattle.definitions.specs.declared.table.Context.the-variants as context
@@ -27,7 +28,7 @@ use Rattle.definitions.specs.Refusals.{refuseIf, orElse}
 use Rattle.definitions.specs.WellFormed.{wellFormed}
 use Rattle.definitions.specs.Packet.{wide, totalLength, datagramOf, factsOf, payloadOf, datagramDue, packetDue}
 use Rattle.definitions.specs.Fields.{View, viewOf, bufferOf, spanOf, isAt, passes, shown, cut, fieldOf, present, fieldsDue}
-use Rattle.definitions.specs.Placements.{listed, behind}
+use Rattle.definitions.specs.Placements.{listed, lexLess}
 use Rattle.definitions.specs.Answers.{startsOf, headOf, unless, verdictBy, verdictDue, placementsOf, verdictAnswer, firstAnswer, earlierDue, nextAnswer}
 use Rattle.laws.proofs.Dues.{refuse-same, refuse-fine, else-same, else-fine, neither}
 
@@ -123,7 +124,7 @@ due-by : (p decoded : List ℕ) → packetDue p decoded ≡ dueBy (length p) (le
 unfolding packetDue dueBy
 due-by p decoded = refl
 
-verdict-by-same : (d : Due) (l l′ : List (List ℕ)) → (d ≡ Fine → l ≡ l′) → verdictBy d l ≡ verdictBy d l′
+verdict-by-same : (d : Due) (l l′ : List (List Start)) → (d ≡ Fine → l ≡ l′) → verdictBy d l ≡ verdictBy d l′
 verdict-by-same Fine l l′ f = ap (verdictBy Fine) (f refl)
 verdict-by-same (No r) l l′ f = refl
 
@@ -208,7 +209,7 @@ module _ (p p′ decoded decoded′ : List ℕ) (m : FieldMap) (h : Alike p p′
     pub next-depends : (held : Placement) → nextAnswer t p decoded dir m held ≡ nextAnswer t p′ decoded′ dir m held
     unfolding nextAnswer
     next-depends held =
-        let least : List (List ℕ) → Answer = λ l. headOf (keep (behind (startsOf held)) l) in
+        let least : List (List Start) → Answer = λ l. headOf (keep (lexLess (startsOf held)) l) in
         let due : Due → Due = λ d. orElse d (earlierDue t p decoded dir m held) in
         unless-same (due (verdictDue t p decoded dir m)) (least (placementsOf t p decoded dir m)) (least (placementsOf t p′ decoded′ dir m))
         (λ e. ap least (list-same (else-fine (verdictDue t p decoded dir m) _ e .0)))

@@ -4,6 +4,7 @@ use mathlib.Core.Path.{_≡_, refl}
 use mathlib.Core.List.{List, [], _∷_}
 use Prim.Native.Nat.{ℕ}
 use lib.ListN.{length}
+use Rattle.definitions.specs.declared.packet.Start.{Start}
 use Rattle.definitions.specs.declared.packet.Direction.{Direction}
 use Rattle.definitions.specs.declared.table.Table.{Table}
 use Rattle.definitions.specs.declared.packet.FieldMap.{FieldMap}
@@ -16,7 +17,7 @@ use Rattle.definitions.specs.Refusals.{dueNumber, writeNumber, packetNumber, ve
 use Rattle.definitions.specs.House.{houseText}
 use Rattle.definitions.specs.Writing.{writingDue, writtenIf, writes}
 use Rattle.definitions.specs.Packet.{datagramOf, packetDue, packetBy, packetAnswer}
-use Rattle.definitions.specs.Placements.{behind}
+use Rattle.definitions.specs.Placements.{lexLess}
 use Rattle.definitions.specs.Answers.{startsOf, headOf, unless, verdictBy, verdictDue, placementsOf, verdictAnswer, firstAnswer, earlierDue, nextAnswer}
 
 -- ---- of anything due
@@ -29,12 +30,12 @@ packet-by-number : (d : Due) (g : List ℕ) → packetNumber (packetBy d g) ≡ 
 packet-by-number Fine g = refl
 packet-by-number (No r) g = refl
 
-verdict-by-number : (d : Due) (l : List (List ℕ)) → verdictNumber (verdictBy d l) ≡ dueNumber d
+verdict-by-number : (d : Due) (l : List (List Start)) → verdictNumber (verdictBy d l) ≡ dueNumber d
 verdict-by-number Fine [] = refl
 verdict-by-number Fine (q ∷ l) = refl
 verdict-by-number (No r) l = refl
 
-unless-number : (d : Due) (l : List (List ℕ)) → foundNumber (unless d (headOf l) .found) ≡ dueNumber d
+unless-number : (d : Due) (l : List (List Start)) → foundNumber (unless d (headOf l) .found) ≡ dueNumber d
 unless-number Fine [] = refl
 unless-number Fine (q ∷ l) = refl
 unless-number (No r) l = refl
@@ -61,4 +62,4 @@ module _ (t : Table) (p decoded : List ℕ) (dir : Direction) (m : FieldMap) whe
   pub next-number : (h : Placement) → foundNumber (nextAnswer t p decoded dir m h .found) ≡ dueNumber (orElse (verdictDue t p decoded dir m) (earlierDue t p decoded dir m h))
   unfolding nextAnswer
   next-number h =
-      unless-number (orElse (verdictDue t p decoded dir m) (earlierDue t p decoded dir m h)) (keep (behind (startsOf h)) (placementsOf t p decoded dir m))
+      unless-number (orElse (verdictDue t p decoded dir m) (earlierDue t p decoded dir m h)) (keep (lexLess (startsOf h)) (placementsOf t p decoded dir m))

@@ -1,71 +1,79 @@
--- A list of placements that rises strictly holds none twice (`rising-once`), and those of it that are behind one of it are those after it
--- (`keep-after`): no placement is behind itself, and of two at most one is behind the other.
+-- Lists that rise strictly: what is kept of one rises too. A list of placements that rises holds none twice (`rising-once`), and those of it that are after
+-- one of it are those that follow it (`keep-after`); those after the first of what is after some starts are the rest of that (`kept-rest`).
 use mathlib.Core.Path.{_≡_, refl, sym, ap, _∙_, subst}
 use mathlib.Core.Logic.{⊎-elim}
-use mathlib.Core.Bool.{Bool, true, false, _&&_, _||_, false≢true}
-use mathlib.Core.List.{List, [], _∷_, _++_, List·Memᴰ as Mem, List·Memᴰ·head as here, List·Memᴰ·tail as there, List·Memᴰ·not-nil as not-nil, List·Memᴰ·cases-cons as cases-cons, List·Memᴰ·append-cases as append-cases, Memᴰ·append-right as append-right}
-use Prim.Native.Nat.{ℕ, _<_}
-use native.Mathlib.Omega.{arith}
-use lib.Dec.{ltb, eqb}
-use borrow.Author.Tests.{ltb-true, eqb-true, lt-ltb, le-ltb, eq-eqb, ne-eqb}
-use Rattle.definitions.specs.Lists.{keep}
-use Rattle.definitions.specs.Placements.{behind}
+use mathlib.Core.Bool.{Bool, true, false, false≢true}
+use mathlib.Core.List.{List, [], _∷_, _++_, nil≢cons, head-eq-of-cons-eq, tail-eq-of-cons-eq, List·Memᴰ as Mem, List·Memᴰ·head as here, List·Memᴰ·tail as there, List·Memᴰ·not-nil as not-nil, List·Memᴰ·cases-cons as cases-cons, List·Memᴰ·append-cases as append-cases, Memᴰ·append-right as append-right}
+use Prim.Native.Nat.{ℕ, _≤_}
+use lib.ListN.{length, take}
+use Rattle.definitions.specs.declared.packet.Start.{Start}
+use Rattle.definitions.specs.Lists.{keep, keepOne}
+use Rattle.definitions.specs.Placements.{lexLess}
+use Rattle.laws.proofs.Keep.{keep-in, keep-all, keep-agree}
+use Rattle.laws.proofs.LexOrder.{lexLess-not-both, lexLess-not-self, lexLess-trans, lexLess-take}
 
--- ---- the order
+-- ---- of any elements
 
-pub behind-not-both : (p q : List ℕ) → behind p q ≡ true → behind q p ≡ false
-unfolding behind
-behind-not-both [] [] h = refl
-behind-not-both (a ∷ p) [] h = absurd (false≢true h)
-behind-not-both [] (s ∷ q) h = refl
-behind-not-both (a ∷ p) (s ∷ q) h = go (ltb a s) (eqb a s) refl refl (behind-not-both p q)
+-- the list rises strictly: each is followed only by those after it
+abbrev pub Rises : {A : Type 0} → (A → A → Bool) → List A → Type 0
+Rises less [] = Unit {0}
+Rises {A} less (x ∷ xs) = ((y : A) → Mem y xs → less x y ≡ true) × Rises less xs
+
+pub rises-append : {A : Type 0} (less : A → A → Bool) (xs ys : List A) → Rises less xs → Rises less ys → ((x y : A) → Mem x xs → Mem y ys → less x y ≡ true)
+    → Rises less (xs ++ ys)
+rises-append less [] ys hx hy h = hy
+rises-append less (x ∷ xs) ys hx hy h =
+    (λ q m. ⊎-elim (λ n. hx .0 q n) (λ n. h x q (here refl) n) (append-cases xs m), rises-append less xs ys (hx .1) hy (λ u v m n. h u v (there m) n))
+
+pub keep-rises : {A : Type 0} (less : A → A → Bool) (f : A → Bool) (l : List A) → Rises less l → Rises less (keep f l)
+unfolding keep
+keep-rises less f [] r = tt
+keep-rises {A} less f (x ∷ l) r = go (f x) (keep-rises less f l (r .1))
   where
-    go : (x y : Bool) → ltb a s ≡ x → eqb a s ≡ y → (behind p q ≡ true → behind q p ≡ false) → (ltb s a || (eqb s a && behind q p)) ≡ false
-    go true y e f ih = let l = ltb-true a s e in rw (le-ltb s a (omega arith), ne-eqb s a (λ z. omega arith))
-    go false true e f ih = let z = eqb-true a s f in rw (le-ltb s a (omega arith), eq-eqb s a (sym z)) (ih (rw (e, f) at h))
-    go false false e f ih = absurd (false≢true (rw (e, f) at h))
+    go : (t : Bool) → Rises less (keep f l) → Rises less (keepOne t x (keep f l))
+    go true ih = ((λ q n. r .0 q (keep-in f q l n .0)), ih)
+    go false ih = ih
 
-pub behind-not-self : (p : List ℕ) → behind p p ≡ false
-unfolding behind
-behind-not-self [] = refl
-behind-not-self (a ∷ p) = rw (le-ltb a a (omega arith), eq-eqb a a refl) (behind-not-self p)
+-- ---- of placements
 
-pub behind-same : (s : ℕ) (p q : List ℕ) → behind p q ≡ true → behind (s ∷ p) (s ∷ q) ≡ true
-unfolding behind
-behind-same s p q h = rw (le-ltb s s (omega arith), eq-eqb s s refl) h
-
-pub behind-head : (a s : ℕ) (p q : List ℕ) → a < s → behind (a ∷ p) (s ∷ q) ≡ true
-unfolding behind
-behind-head a s p q h = rw (lt-ltb a s h)
-
--- ---- rising lists
-
--- the list rises strictly: each is followed only by those behind it
-abbrev pub Rising : List (List ℕ) → Type 0
-Rising [] = Unit {0}
-Rising (p ∷ ps) = ((q : List ℕ) → Mem q ps → behind p q ≡ true) × Rising ps
+abbrev pub Rising : List (List Start) → Type 0
+Rising l = Rises lexLess l
 
 -- each once
-pub rising-once : (xs : List (List ℕ)) (q : List ℕ) (ys : List (List ℕ)) → Rising (xs ++ (q ∷ ys)) → (Mem q xs → ⊥) × (Mem q ys → ⊥)
-rising-once [] q ys r = ((λ n. not-nil n), (λ n. false≢true (sym (behind-not-self q) ∙ r .0 q n)))
+pub rising-once : (xs : List (List Start)) (q : List Start) (ys : List (List Start)) → Rising (xs ++ (q ∷ ys)) → (Mem q xs → ⊥) × (Mem q ys → ⊥)
+rising-once [] q ys r = ((λ n. not-nil n), (λ n. false≢true (sym (lexLess-not-self q) ∙ r .0 q n)))
 rising-once (x ∷ xs) q ys r =
     let ih = rising-once xs q ys (r .1) in
-    let after : behind x q ≡ true = r .0 q (append-right xs (here refl)) in
-    let other : q ≡ x → ⊥ = λ e. false≢true (sym (behind-not-self q) ∙ subst (λ (u : List ℕ). behind u q ≡ true) (sym e) after) in
+    let after : lexLess x q ≡ true = r .0 q (append-right xs (here refl)) in
+    let other : q ≡ x → ⊥ = λ e. false≢true (sym (lexLess-not-self q) ∙ subst (λ (u : List Start). lexLess u q ≡ true) (sym e) after) in
     ((λ n. ⊎-elim other (λ k. ih .0 k) (cases-cons n)), ih .1)
 
-pub rising-append : (xs ys : List (List ℕ)) → Rising xs → Rising ys → ((x y : List ℕ) → Mem x xs → Mem y ys → behind x y ≡ true) → Rising (xs ++ ys)
-rising-append [] ys hx hy h = hy
-rising-append (x ∷ xs) ys hx hy h =
-    (λ q m. ⊎-elim (λ n. hx .0 q n) (λ n. h x q (here refl) n) (append-cases xs m), rising-append xs ys (hx .1) hy (λ u v m n. h u v (there m) n))
-
-keep-all : (f : List ℕ → Bool) (l : List (List ℕ)) → ((x : List ℕ) → Mem x l → f x ≡ true) → keep f l ≡ l
+-- of a rising list, those after one of it are those that follow it
+pub keep-after : (pre : List (List Start)) (q : List Start) (rest : List (List Start)) → Rising (pre ++ q ∷ rest) → keep (lexLess q) (pre ++ q ∷ rest) ≡ rest
 unfolding keep
-keep-all f [] h = refl
-keep-all f (x ∷ l) h = rw (h x (here refl)) (ap (λ (k : List (List ℕ)). x ∷ k) (keep-all f l (λ y m. h y (there m))))
+keep-after [] q rest r = rw (lexLess-not-self q) (keep-all (lexLess q) rest (r .0))
+keep-after (x ∷ pre) q rest r = rw (lexLess-not-both x q (r .0 q (append-right pre (here refl)))) (keep-after pre q rest (r .1))
 
--- of a rising list, those behind one of it are those after it
-pub keep-after : (pre : List (List ℕ)) (q : List ℕ) (rest : List (List ℕ)) → Rising (pre ++ q ∷ rest) → keep (behind q) (pre ++ q ∷ rest) ≡ rest
-unfolding keep
-keep-after [] q rest r = rw (behind-not-self q) (keep-all (behind q) rest (r .0))
-keep-after (x ∷ pre) q rest r = rw (behind-not-both x q (r .0 q (append-right pre (here refl)))) (keep-after pre q rest (r .1))
+-- what is after the first of those after b is the rest of them
+module _ (b q : List Start) (qs : List (List Start)) where
+  pub kept-first : (l : List (List Start)) → keep (lexLess b) l ≡ q ∷ qs → Mem q l
+  kept-first l e = keep-in (lexLess b) q l (subst (λ (k : List (List Start)). Mem q k) (sym e) (here refl)) .0
+
+  pub kept-rest : (l : List (List Start)) → Rising l → keep (lexLess b) l ≡ q ∷ qs → keep (lexLess q) l ≡ qs
+  unfolding keep
+  kept-rest [] r e = absurd (nil≢cons e)
+  kept-rest (x ∷ l) r e = go (lexLess b x) refl (kept-rest l (r .1))
+    where
+      go : (k : Bool) → lexLess b x ≡ k → (keep (lexLess b) l ≡ q ∷ qs → keep (lexLess q) l ≡ qs) → keep (lexLess q) (x ∷ l) ≡ qs
+      go true h ih =
+          let e' : x ∷ keep (lexLess b) l ≡ q ∷ qs = rw h at e in
+          let all : keep (lexLess b) l ≡ l = keep-all (lexLess b) l (λ y n. lexLess-trans b x y h (r .0 y n)) in
+          subst (λ (u : List Start). keep (lexLess u) (x ∷ l) ≡ qs) (head-eq-of-cons-eq e') (keep-after [] x l r ∙ sym all ∙ tail-eq-of-cons-eq e')
+      go false h ih =
+          let e' : keep (lexLess b) l ≡ q ∷ qs = rw h at e in
+          rw (lexLess-not-both x q (r .0 q (kept-first l e'))) (ih e')
+
+-- of the starts ss only as many matter as each placement of the list has
+pub keep-take : (n : ℕ) (ss : List Start) (l : List (List Start)) → ((q : List Start) → Mem q l → length q ≤ n)
+    → keep (lexLess ss) l ≡ keep (lexLess (take n ss)) l
+keep-take n ss l h = keep-agree (lexLess ss) (lexLess (take n ss)) l (λ q m. lexLess-take n ss q (h q m))

@@ -5,6 +5,7 @@ use mathlib.Core.Logic.{_↔_}
 use mathlib.Core.Bool.{true, false, false≢true}
 use mathlib.Core.List.{List, [], _∷_, List·Memᴰ as Mem, List·Memᴰ·head as here, List·Memᴰ·not-nil as not-nil}
 use Prim.Native.Nat.{ℕ}
+use Rattle.definitions.specs.declared.packet.Start.{Start}
 use Rattle.definitions.specs.declared.packet.Direction.{Direction}
 use Rattle.definitions.specs.declared.table.Table.{Table}
 use Rattle.definitions.specs.declared.packet.FieldMap.{FieldMap}
@@ -17,29 +18,29 @@ use Rattle.definitions.specs.Answers.{verdictBy, verdictDue, placementsOf, verd
 use Rattle.laws.proofs.Listing.{listed-meets}
 
 -- of any list
-met-in : (d : Due) (l : List (List ℕ)) → verdictBy d l ≡ Met → (d ≡ Fine) × ((q : List ℕ) × Mem q l)
+met-in : (d : Due) (l : List (List Start)) → verdictBy d l ≡ Met → (d ≡ Fine) × ((q : List Start) × Mem q l)
 met-in Fine [] e = let z : false ≡ true = cc in absurd (false≢true z)
 met-in Fine (q ∷ l) e = (refl, (q, here refl))
 met-in (No r) l e = let z : false ≡ true = cc in absurd (false≢true z)
 
-met-of : (d : Due) (l : List (List ℕ)) (q : List ℕ) → d ≡ Fine → Mem q l → verdictBy d l ≡ Met
+met-of : (d : Due) (l : List (List Start)) (q : List Start) → d ≡ Fine → Mem q l → verdictBy d l ≡ Met
 met-of Fine [] q e n = absurd (not-nil n)
 met-of Fine (u ∷ l) q e n = refl
 met-of (No r) l q e n = cc
 
-missed-in : (d : Due) (l : List (List ℕ)) → verdictBy d l ≡ NotMet → (d ≡ Fine) × ((q : List ℕ) → Mem q l → ⊥)
+missed-in : (d : Due) (l : List (List Start)) → verdictBy d l ≡ NotMet → (d ≡ Fine) × ((q : List Start) → Mem q l → ⊥)
 missed-in Fine [] e = (refl, λ q n. not-nil n)
 missed-in Fine (q ∷ l) e = let z : false ≡ true = cc in absurd (false≢true z)
 missed-in (No r) l e = let z : false ≡ true = cc in absurd (false≢true z)
 
-missed-of : (d : Due) (l : List (List ℕ)) → d ≡ Fine → ((q : List ℕ) → Mem q l → ⊥) → verdictBy d l ≡ NotMet
+missed-of : (d : Due) (l : List (List Start)) → d ≡ Fine → ((q : List Start) → Mem q l → ⊥) → verdictBy d l ≡ NotMet
 missed-of Fine [] e f = refl
 missed-of Fine (q ∷ l) e f = absurd (f q (here refl))
 missed-of (No r) l e f = cc
 
 module _ (t : Table) (p decoded : List ℕ) (dir : Direction) (m : FieldMap) where
   pub verdict-meets : (verdictAnswer t p decoded dir m ≡ Met)
-      ↔ ((verdictDue t p decoded dir m ≡ Fine) × ((q : List ℕ) × MeetsTable t (viewOf p decoded m) dir q))
+      ↔ ((verdictDue t p decoded dir m ≡ Fine) × ((q : List Start) × MeetsTable t (viewOf p decoded m) dir q))
   unfolding verdictAnswer placementsOf
   verdict-meets = (
     (λ e. let w = met-in (verdictDue t p decoded dir m) (placementsOf t p decoded dir m) e in (w .0, (w .1 .0, listed-meets t (viewOf p decoded m) dir (w .1 .0) .0 (w .1 .1)))),
@@ -47,7 +48,7 @@ module _ (t : Table) (p decoded : List ℕ) (dir : Direction) (m : FieldMap) whe
   )
 
   pub verdict-misses : (verdictAnswer t p decoded dir m ≡ NotMet)
-      ↔ ((verdictDue t p decoded dir m ≡ Fine) × ((q : List ℕ) → MeetsTable t (viewOf p decoded m) dir q → ⊥))
+      ↔ ((verdictDue t p decoded dir m ≡ Fine) × ((q : List Start) → MeetsTable t (viewOf p decoded m) dir q → ⊥))
   unfolding verdictAnswer placementsOf
   verdict-misses = (
     (λ e. let w = missed-in (verdictDue t p decoded dir m) (placementsOf t p decoded dir m) e in (w .0, λ q h. w .1 q (listed-meets t (viewOf p decoded m) dir q .1 h))),

@@ -7,6 +7,7 @@ use Rattle.definitions.specs.declared.table.Table.{Table}
 use Rattle.definitions.specs.declared.packet.Direction.{Direction}
 use Rattle.definitions.specs.declared.packet.Facts.{Facts}
 use Rattle.definitions.specs.declared.packet.FieldMap.{FieldMap}
+use Rattle.definitions.specs.declared.packet.Start.{Start}
 use Rattle.definitions.specs.declared.packet.Placement.{Placement}
 use Rattle.definitions.specs.declared.answers.Refusal.{Refusal}
 use Rattle.definitions.specs.declared.answers.Due.{Due}
@@ -21,7 +22,7 @@ use Rattle.definitions.specs.Fields.{fieldsDue}
 use Rattle.definitions.specs.Answers.{refusedAnswer, verdictBy, verdictAnswer, firstAnswer, nextAnswer}
 use Rattle.search_outcomes.specs.declared.Outcome.{Outcome}
 use Rattle.search_outcomes.specs.Outcomes.{outcomeOf, metBy}
-use Rattle.search_chosen.specs.Choosing.{behindIf}
+use Rattle.search_chosen.specs.Choosing.{afterIf}
 use Rattle.verdict_due.specs.Clearing.{clearance}
 use Rattle.placement_list.specs.Listing.{listIn, firstIn, nextIn}
 use Rattle.placement_list.proofs.Cleared.{Cleared, refused-due, due-here, list-here}
@@ -29,7 +30,7 @@ use Rattle.placement_list.proofs.Answering.{keep-every}
 
 -- ---- the verdict by facts and payload; w is what the test of the fields says
 
-met-head : (l : List (List ℕ)) → metBy (outcomeOf l .found) ≡ verdictBy Fine l
+met-head : (l : List (List Start)) → metBy (outcomeOf l .found) ≡ verdictBy Fine l
 met-head [] = refl
 met-head (q ∷ l) = refl
 
@@ -37,7 +38,7 @@ module _ (t : Table) (f : Facts) (s d : List ℕ) (dir : Direction) (m : FieldMa
   pub fields-refused : {r : Refusal} → w ≡ No r → verdict.Refused r ≡ verdictBy (fieldsDue s d m) (listIn t f s d dir m)
   fields-refused k = rw (sym ew ∙ k)
 
-  pub verdict-found : w ≡ Fine → (b : List ℕ) {x : Outcome} → x ≡ outcomeOf (keep (behindIf false b) (listIn t f s d dir m))
+  pub verdict-found : w ≡ Fine → (b : List Start) {x : Outcome} → x ≡ outcomeOf (keep (afterIf false b) (listIn t f s d dir m))
       → {v : Verdict} → v ≡ metBy (x .found) → v ≡ verdictBy (fieldsDue s d m) (listIn t f s d dir m)
   verdict-found k b e g = g ∙ rw (sym ew ∙ k, e, keep-every b (listIn t f s d dir m)) (met-head (listIn t f s d dir m))
 

@@ -14,6 +14,7 @@ use definitions::packet::Direction;
 use definitions::packet::Facts;
 use definitions::packet::FieldMap;
 use definitions::packet::Placement;
+use definitions::packet::Start;
 use definitions::table::Table;
 use fields::fields_due;
 use packet::payload_of;
@@ -40,7 +41,16 @@ fn verdict_in<'a>(
     if let Due::No(r) = due {
         return Verdict::Refused(r);
     }
-    let x = find(t, facts, payload, decoded, dir, m, [0; PATTERNS], false);
+    let x = find(
+        t,
+        facts,
+        payload,
+        decoded,
+        dir,
+        m,
+        [Start { at: 0 }; PATTERNS],
+        false,
+    );
     met(x.found)
 }
 
@@ -72,7 +82,7 @@ pub fn first<'a>(t: Table, p: &'a [u8], decoded: &'a [u8], dir: Direction, m: Fi
     }
 }
 
-// NEXT: the least of the list behind an earlier placement, or none.
+// NEXT: the least of the list after an earlier placement, or none.
 pub fn next<'a>(
     t: Table,
     p: &'a [u8],

@@ -1,7 +1,7 @@
 -- A negated pattern, by whether its field is present; a field is no longer than its buffer.
-use mathlib.Core.Path.{_≡_, refl, ap}
+use mathlib.Core.Path.{_≡_, refl}
 use mathlib.Core.Bool.{Bool, true, false}
-use mathlib.Core.List.{List, [], _∷_}
+use mathlib.Core.List.{List, [], _∷_, map}
 use Prim.Native.Nat.{ℕ, suc, _≤_, _<_}
 use native.Mathlib.Omega.{arith}
 use lib.ListN.{length, drop, length-take, length-drop}
@@ -12,7 +12,9 @@ use Rattle.definitions.specs.declared.packet.Facts.{Facts}
 use Rattle.definitions.specs.declared.packet.FieldMap.{FieldMap}
 use Rattle.definitions.specs.declared.packet.Last.{Last}
 use Rattle.definitions.specs.declared.packet.Span.{Span}
+use Rattle.definitions.specs.declared.packet.Start.{Start}
 use Rattle.definitions.specs.Lists.{keep, keepOne, none?}
+use Rattle.definitions.specs.Starts.{startAt}
 use Rattle.definitions.specs.Fields.{present, bufferOf, fieldSpan, fieldOf, cut}
 use Rattle.definitions.specs.Windows.{lies}
 use Rattle.definitions.specs.Placements.{upFrom, liesIn, starts, nowhereHolds}
@@ -49,10 +51,19 @@ measured s d m p b l f h e =
 
 -- ---- negated patterns
 
-keep-alike : (f g : ℕ → Bool) (l : List ℕ) → ((x : ℕ) → f x ≡ g x) → keep f l ≡ keep g l
+-- a test of starts that goes by their numbers keeps the starts of the numbers that are kept
+keep-numbers : (f : Start → Bool) (g : ℕ → Bool) (l : List ℕ) → ((x : ℕ) → f (startAt x) ≡ g x) → keep f (map startAt l) ≡ map startAt (keep g l)
 unfolding keep
-keep-alike f g [] h = refl
-keep-alike f g (x ∷ l) h = rw (h x) (ap (keepOne (g x) x) (keep-alike f g l h))
+keep-numbers f g [] h = refl
+keep-numbers f g (x ∷ l) h = rw (h x, keep-numbers f g l h) (one (g x))
+  where
+    one : (t : Bool) → keepOne t (startAt x) (map startAt (keep g l)) ≡ map startAt (keepOne t x (keep g l))
+    one true = refl
+    one false = refl
+
+none-numbers : (l : List ℕ) → none? (map startAt l) ≡ none? l
+none-numbers [] = refl
+none-numbers (x ∷ l) = refl
 
 module _ (v : Facts) (s d : List ℕ) (m : FieldMap) (p : Pattern) (b : List ℕ) (l : Last) where
   pub nowhere-absent : present m (p .context) ≡ false → false ≡ nowhereHolds (seen v s d m) p b l
@@ -60,12 +71,13 @@ module _ (v : Facts) (s d : List ℕ) (m : FieldMap) (p : Pattern) (b : List ℕ
   nowhere-absent e = rw e
 
   -- the starts of a pattern on a present field
-  pub starts-present : present m (p .context) ≡ true → starts (seen v s d m) p b l ≡ placesOf p b l (fieldOf s d m (p .context))
+  pub starts-present : present m (p .context) ≡ true → starts (seen v s d m) p b l ≡ map startAt (placesOf p b l (fieldOf s d m (p .context)))
   unfolding starts liesIn
   starts-present e =
-      keep-alike (liesIn (seen v s d m) p b l) (lies p b l (fieldOf s d m (p .context))) (upFrom 0 (suc (length (fieldOf s d m (p .context)))))
+      keep-numbers (liesIn (seen v s d m) p b l) (lies p b l (fieldOf s d m (p .context))) (upFrom 0 (suc (length (fieldOf s d m (p .context)))))
       (λ x. rw e)
 
-  pub nowhere-present : present m (p .context) ≡ true → (f : List ℕ) (r : Bool) → f ≡ fieldOf s d m (p .context) → r ≡ none? (placesOf p b l f) → r ≡ nowhereHolds (seen v s d m) p b l
+  pub nowhere-present : present m (p .context) ≡ true → (f : List ℕ) (r : Bool) → f ≡ fieldOf s d m (p .context) → r ≡ none? (placesOf p b l f)
+      → r ≡ nowhereHolds (seen v s d m) p b l
   unfolding nowhereHolds
-  nowhere-present e f r q h = rw (e, starts-present e, ← q) h
+  nowhere-present e f r q h = rw (e, starts-present e, none-numbers (placesOf p b l (fieldOf s d m (p .context))), ← q) h

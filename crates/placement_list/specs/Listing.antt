@@ -6,12 +6,13 @@ use Rattle.definitions.specs.declared.table.Table.{Table}
 use Rattle.definitions.specs.declared.packet.Direction.{Direction}
 use Rattle.definitions.specs.declared.packet.Facts.{Facts}
 use Rattle.definitions.specs.declared.packet.FieldMap.{FieldMap}
+use Rattle.definitions.specs.declared.packet.Start.{Start}
 use Rattle.definitions.specs.declared.packet.Placement.{Placement}
 use Rattle.definitions.specs.declared.answers.Answer.{Answer}
 use Rattle.definitions.specs.Lists.{keep}
 use Rattle.definitions.specs.Refusals.{orElse}
 use Rattle.definitions.specs.Fields.{fieldsDue}
-use Rattle.definitions.specs.Placements.{Start, behind, listed}
+use Rattle.definitions.specs.Placements.{lexLess, listed}
 use Rattle.definitions.specs.Answers.{startsOf, headOf, unless, earlierDue}
 use Rattle.fields.specs.Seen.{seen}
 
@@ -23,6 +24,6 @@ module _ (t : Table) (f : Facts) (s d : List ℕ) (dir : Direction) (m : FieldMa
   unfoldable pub firstIn : Answer
   firstIn = unless (fieldsDue s d m) (headOf listIn)
 
-  -- 35, then 36, which looks at the table alone; or the least of the list behind the placement held, or none
+  -- 35, then 36, which looks at the table alone; or the least of the list after the placement held, or none
   unfoldable pub nextIn : Placement → Answer
-  nextIn h = unless (orElse (fieldsDue s d m) (earlierDue t s d dir m h)) (headOf (keep (behind (startsOf h)) listIn))
+  nextIn h = unless (orElse (fieldsDue s d m) (earlierDue t s d dir m h)) (headOf (keep (lexLess (startsOf h)) listIn))

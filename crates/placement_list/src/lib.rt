@@ -1,4 +1,4 @@
-// The list of placements by a datagram's facts and payload: its first, and the least behind a placement held. Refusals 35 and 36 come first, in this
+// The list of placements by a datagram's facts and payload: its first, and the least after a placement held. Refusals 35 and 36 come first, in this
 // order; those before them the caller has tested.
 ghost use mathlib.Core.Path.{_≡_};
 ghost use Rattle.search.specs.Searching.{Searchable};
@@ -11,6 +11,7 @@ use definitions::packet::Direction;
 use definitions::packet::Facts;
 use definitions::packet::FieldMap;
 use definitions::packet::Placement;
+use definitions::packet::Start;
 use definitions::table::Table;
 use fields::fields_due;
 use positive_counts::positive_count;
@@ -34,11 +35,20 @@ pub fn first_in<'a>(
     if let Due::No(r) = due {
         return refused(r);
     }
-    let x = find(t, facts, payload, decoded, dir, m, [0; PATTERNS], false);
+    let x = find(
+        t,
+        facts,
+        payload,
+        decoded,
+        dir,
+        m,
+        [Start { at: 0 }; PATTERNS],
+        false,
+    );
     answered(x)
 }
 
-// Refusal 35 or 36, or the least of the list behind the placement held, or none.
+// Refusal 35 or 36, or the least of the list after the placement held, or none.
 pub fn next_in<'a>(
     t: Table,
     facts: Facts,

@@ -6,13 +6,14 @@ use Rattle.forms.specs.Bytes.{if_then_else_}
 use Rattle.definitions.specs.declared.table.Pattern.{Pattern}
 use Rattle.definitions.specs.declared.table.Slot.{Slot}
 use Rattle.definitions.specs.Items.{Kind, unused, addressed, patterned, plainTest, patternsOf}
+use Rattle.definitions.specs.Starts.{startAt}
 use Rattle.definitions.specs.References.{lastAfter, usable, usableRun}
 use Rattle.references.specs.declared.counting.Run.{Run}
 
 -- a pattern more, and an item of any kind more
 unfoldable pub onward : Run → Pattern → Run
 onward run p =
-    if usable (run .last) p then record { count = run .count + 1; last = lastAfter (run .last) p 0; ended = false }
+    if usable (run .last) p then record { count = run .count + 1; last = lastAfter (run .last) p (startAt 0); ended = false }
     else record { count = run .count; last = run .last; ended = true }
 
 abbrev pub pastOpen : Kind → Run → Run

@@ -2,6 +2,7 @@
 ghost use mathlib.Core.Path.{_≡_};
 ghost use lib.IntN.{pos};
 ghost use lib.Signed.{leZ};
+ghost use Rattle.definitions.specs.Starts.{startAt};
 ghost use Rattle.definitions.specs.References.{contextNumber, referenceNumber, lastAfter, lastIn, referenceUsable, reverseUsable, distanceUsable, withinUsable, referencesAlike, usable};
 use definitions::packet::Last;
 use definitions::packet::Match;
@@ -38,7 +39,7 @@ fn reference_number(r: Reference) -> u8
 
 // The last positive pattern, behind `p`.
 pub fn last_after(last: Last, p: Pattern) -> Last
-    ensures { λ r. ⌜ r ≡ lastAfter last p 0 ⌝ }
+    ensures { λ r. ⌜ r ≡ lastAfter last p (startAt 0) ⌝ }
 {
     if p.negated {
         return last;

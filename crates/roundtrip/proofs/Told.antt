@@ -32,6 +32,7 @@ use Rattle.definitions.specs.Lists.{all?}
 use Rattle.definitions.specs.Entries.{Context, Distance, Entry, Name, Protocol, Flow, Test, Pattern}
 use Rattle.definitions.specs.Forms.{test}
 use Rattle.definitions.specs.Items.{Kind, unused, addressed, patterned, plainTest, kindOf, slotsOf, patternFirst, patternsOf, behindItem}
+use Rattle.definitions.specs.Starts.{startAt}
 use Rattle.definitions.specs.References.{lastAfter, sameReference, referenceUsable, reverseUsable, distanceUsable, withinUsable, referencesAlike, usable, usableRun}
 use Rattle.definitions.specs.House.{flowEntry, itemEntries, slotEntries, houseEntries}
 use Rattle.definitions.specs.WellFormed.{Shaped, isZero, addressFits, addressUnused, distanceFits, withinFits, itemFits, addressesFit, slotFits, wellFormed}
@@ -77,8 +78,8 @@ usable-told last [] e = all-none patternTold
 usable-told last (p ∷ ps) e =
     by-cases (usable last p)
     (λ t.
-    let q : 1 + usableRun (lastAfter last p 0) ps ≡ suc (length ps) = rw t at e in
-    all-more patternTold p ps (usable-one last p t) (usable-told (lastAfter last p 0) ps (omega (arith, q))))
+    let q : 1 + usableRun (lastAfter last p (startAt 0)) ps ≡ suc (length ps) = rw t at e in
+    all-more patternTold p ps (usable-one last p t) (usable-told (lastAfter last p (startAt 0)) ps (omega (arith, q))))
     (λ t. let q : 0 ≡ suc (length ps) = rw t at e in absurd (omega (arith, q)))
 
 abbrev kindTold : Kind → Bool

@@ -16,6 +16,7 @@ use Rattle.definitions.specs.declared.table.Slot.{Slot}
 use Rattle.definitions.specs.declared.table.Table.{Table}
 use Rattle.definitions.specs.declared.packet.Direction.{Direction}
 use Rattle.definitions.specs.declared.packet.Last.the-variants.{Nothing}
+use Rattle.definitions.specs.declared.packet.Start.{Start}
 use Rattle.definitions.specs.Limits.{itemsMost, patternsMost, byteMost}
 use Rattle.definitions.specs.Lists.{keep, all?}
 use Rattle.definitions.specs.Items.{Kind, unused, addressed, patterned, plainTest, kindOf, slotsOf, patternFirst, patternsOf, behindItem}
@@ -23,12 +24,13 @@ use Rattle.definitions.specs.WellFormed.{nameFits, slotFits, slotUnused, patter
 use Rattle.definitions.specs.Fields.{View}
 use Rattle.definitions.specs.Placements.{wantedBy, wanted, itemsOf, positiveIn, positives, placements, headHolds, listed}
 use Rattle.definitions.specs.Answers.{placementOf}
-use Rattle.laws.proofs.Listing.{keep-in, placements-meet, meets-length}
+use Rattle.laws.proofs.Keep.{keep-in}
+use Rattle.laws.proofs.Listing.{placements-meet, meets-length}
 use Rattle.formed.proofs.Forming as forming
 use Rattle.window_spans.specs.Spans.{sizeBound}
 use Rattle.search_outcomes.specs.declared.Outcome.{Outcome}
 use Rattle.search_outcomes.specs.Outcomes.{nothing, outcomeOf}
-use Rattle.search_chosen.specs.Choosing.{answer, behindIf}
+use Rattle.search_chosen.specs.Choosing.{answer, afterIf}
 use Rattle.search_chosen.proofs.Extending.{first-outcome}
 use Rattle.search_items.specs.Items.{Ready}
 
@@ -92,18 +94,18 @@ module _ (t : Table) (formed : wellFormed t ≡ true) where
   -- ---- what it lists
 
   module _ (v : View) where
-    short : (q : List ℕ) → Mem q (placements v (itemsOf t) Nothing) → length q ≤ patternsMost
+    short : (q : List Start) → Mem q (placements v (itemsOf t) Nothing) → length q ≤ patternsMost
     short q m = let e = meets-length v (itemsOf t) Nothing q (placements-meet v (itemsOf t) Nothing q m) in omega (arith, few-positives)
 
-    module _ (dir : Direction) (tight : Bool) (p : List ℕ) where
+    module _ (dir : Direction) (tight : Bool) (p : List Start) where
       pub found-first : (h : Bool) → h ≡ headHolds t v dir → not h ≡ false → (x : Outcome) → x ≡ answer (placementOf []) tight p (placements v (wanted (slotsOf t) (t .bytes)) Nothing)
-          → x ≡ outcomeOf (keep (behindIf tight p) (listed t v dir))
+          → x ≡ outcomeOf (keep (afterIf tight p) (listed t v dir))
       unfolding answer listed itemsOf
       found-first b e n x h =
-          h ∙ first-outcome (keep (behindIf tight p) (placements v (itemsOf t) Nothing)) (λ q m. short q (keep-in (behindIf tight p) q (placements v (itemsOf t) Nothing) m .0))
+          h ∙ first-outcome (keep (afterIf tight p) (placements v (itemsOf t) Nothing)) (λ q m. short q (keep-in (afterIf tight p) q (placements v (itemsOf t) Nothing) m .0))
           ∙ rw (sym e ∙ not-false b n)
 
-pub found-none : (t : Table) (v : View) (dir : Direction) (tight : Bool) (p : List ℕ) (h : Bool) → h ≡ headHolds t v dir → not h ≡ true → (x : Outcome) → x ≡ nothing
-    → x ≡ outcomeOf (keep (behindIf tight p) (listed t v dir))
+pub found-none : (t : Table) (v : View) (dir : Direction) (tight : Bool) (p : List Start) (h : Bool) → h ≡ headHolds t v dir → not h ≡ true → (x : Outcome) → x ≡ nothing
+    → x ≡ outcomeOf (keep (afterIf tight p) (listed t v dir))
 unfolding listed keep
 found-none t v dir tight p h e n x i = rw (sym e ∙ not-true h n) i

@@ -1,16 +1,17 @@
-// The search for placements: the first that meets a table, or the first behind another one.
+// The search for placements: the first that meets a table, or the first after another one.
 ghost use mathlib.Core.Path.{_≡_};
 ghost use Rattle.definitions.specs.Lists.{keep};
 ghost use Rattle.definitions.specs.Placements.{listed};
 ghost use Rattle.fields.specs.Seen.{seen};
 ghost use Rattle.search_outcomes.specs.Outcomes.{outcomeOf};
-ghost use Rattle.search_chosen.specs.Choosing.{behindIf};
+ghost use Rattle.search_chosen.specs.Choosing.{afterIf};
 ghost use Rattle.search.specs.Searching.{Searchable};
 use definitions::limits::PATTERNS;
 use definitions::packet::Direction;
 use definitions::packet::Facts;
 use definitions::packet::FieldMap;
 use definitions::packet::Last;
+use definitions::packet::Start;
 use definitions::table::Table;
 use meaning::heads::head_holds;
 use search_items::from_item;
@@ -19,7 +20,7 @@ use search_outcomes::empty;
 use search_outcomes::no_match;
 use search_question::Question;
 
-// THE SEARCH: the first of the list of placements; where `tight`, the first behind the one with the starts in `bound`.
+// THE SEARCH: the first of the list of placements; where `tight`, the first after the one with the starts in `bound`.
 pub fn find<'a>(
     t: Table,
     facts: Facts,
@@ -27,11 +28,11 @@ pub fn find<'a>(
     decoded: &'a [u8],
     dir: Direction,
     m: FieldMap,
-    bound: [usize; PATTERNS],
+    bound: [Start; PATTERNS],
     tight: bool,
 ) -> Outcome
     requires { ⌜ Searchable t (now payload) (now decoded) ⌝ }
-    ensures { λ r. ⌜ r ≡ outcomeOf (keep (behindIf tight bound) (listed t (seen facts (now (payload .entry)) (now (decoded .entry)) m) dir)) ⌝ }
+    ensures { λ r. ⌜ r ≡ outcomeOf (keep (afterIf tight bound) (listed t (seen facts (now (payload .entry)) (now (decoded .entry)) m) dir)) ⌝ }
 {
     let flow = t.flow;
     if !head_holds(t.protocol, flow, facts, dir) {

@@ -1,16 +1,17 @@
 -- The starts chosen so far, and the first of the placements of the items left. Document 01, section "Meaning", its last paragraphs.
-use Prim.Native.Nat.{_+_, max}
+use Prim.Native.Nat.{ℕ, _+_, max}
 use mathlib.Core.Bool.{Bool, true, false}
 use mathlib.Core.List.{List, [], _∷_}
 use lib.ListN.{set}
 use Rattle.forms.specs.Bytes.{if_then_else_}
+use Rattle.definitions.specs.declared.packet.Start.{Start}
 use Rattle.definitions.specs.declared.packet.Placement.{Placement}
 use Rattle.definitions.specs.Lists.{keep}
-use Rattle.definitions.specs.Placements.{Start, behind}
+use Rattle.definitions.specs.Placements.{lexLess}
 use Rattle.search_outcomes.specs.declared.Outcome.{Outcome}
 use Rattle.search_outcomes.specs.Outcomes.{nothing}
 
--- a placement with a start more, and with the starts q behind its own
+-- a placement with a start more, and with the starts q after its own
 abbrev pub push : Placement → Start → Placement
 push acc s = record { count = acc .count + 1; starts = set (acc .starts) (acc .count) s }
 
@@ -18,25 +19,25 @@ unfoldable pub extend : Placement → List Start → Placement
 extend acc [] = acc
 extend acc (s ∷ q) = extend (push acc s) q
 
--- the first of a list, its starts behind those in acc
+-- the first of a list, its starts after those in acc
 abbrev pub firstOf : Placement → List (List Start) → Outcome
 firstOf acc [] = nothing
 firstOf acc (q ∷ qs) = record { found = true; placement = extend acc q }
 
--- q is behind p, where that is asked: "next" asks it, "first" and the verdict don't
-abbrev pub behindIf : Bool → List Start → List Start → Bool
-behindIf true p q = behind p q
-behindIf false p q = true
+-- q is after p, where that is asked: "next" asks it, "first" and the verdict don't
+abbrev pub afterIf : Bool → List Start → List Start → Bool
+afterIf true p q = lexLess p q
+afterIf false p q = true
 
--- the first of the list ps, behind p where tight: the starts in acc are then those of the placement to pass
+-- the first of the list ps, after p where tight: the starts in acc are then those of the placement to pass
 unfoldable pub answer : Placement → Bool → List Start → List (List Start) → Outcome
-answer acc tight p ps = firstOf acc (keep (behindIf tight p) ps)
+answer acc tight p ps = firstOf acc (keep (afterIf tight p) ps)
 
 -- the first outcome, or the second where the first is nothing
 abbrev pub foundOr : Outcome → Outcome → Outcome
 foundOr f g = if f .found then f else g
 
--- the first start worth a try, where the placement to pass has a here
-abbrev pub startFrom : Bool → Start → Start → Start
-startFrom true a from = max a from
+-- where the first start worth a try is, where the placement to pass has a here
+abbrev pub startFrom : Bool → Start → ℕ → ℕ
+startFrom true a from = max (a .at) from
 startFrom false a from = from

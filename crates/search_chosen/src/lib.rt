@@ -2,8 +2,9 @@
 ghost use mathlib.Core.Path.{_≡_};
 ghost use mathlib.Core.Bool.{_&&_};
 ghost use mathlib.Core.List.{List, [], _∷_};
-ghost use Prim.Native.Nat.{ℕ, _+_, _<_};
-ghost use lib.Dec.{eqb};
+ghost use Prim.Native.Nat.{_+_, _<_};
+ghost use Rattle.definitions.specs.declared.packet.Start.{Start};
+ghost use Rattle.definitions.specs.Starts.{sameStart};
 ghost use Rattle.definitions.specs.Limits.{patternsMost};
 ghost use Rattle.definitions.specs.References.{lastAfter};
 ghost use Rattle.window_spans.specs.Spans.{sizeBound};
@@ -11,13 +12,17 @@ ghost use Rattle.search_chosen.specs.Choosing.{push, answer, startFrom};
 use definitions::packet::Last;
 use definitions::packet::Match;
 use definitions::packet::Placement;
+use definitions::packet::Start;
 use definitions::table::Pattern;
+use match_starts::same_start;
+use match_starts::start_at;
+use match_starts::start_before;
 use search_outcomes::Outcome;
 use search_outcomes::no_match;
 
-// Behind the last item: the starts chosen are a placement, but for the one to pass itself.
+// After the last item: the starts chosen are a placement, but for the one to pass itself.
 pub fn at_end(acc: Placement, tight: bool) -> Outcome
-    ensures { λ r. ⌜ ((p : List ℕ) → r ≡ answer acc tight p ([] ∷ [])) ⌝ }
+    ensures { λ r. ⌜ ((p : List Start) → r ≡ answer acc tight p ([] ∷ [])) ⌝ }
 {
     if tight {
         return no_match();
@@ -29,7 +34,7 @@ pub fn at_end(acc: Placement, tight: bool) -> Outcome
 }
 
 // The starts chosen, with one more.
-pub fn with_start(acc: Placement, s: usize) -> Placement
+pub fn with_start(acc: Placement, s: Start) -> Placement
     requires { ⌜ acc .count < patternsMost ⌝ }
     ensures { λ r. ⌜ r ≡ push acc s ⌝ }
 {
@@ -41,29 +46,33 @@ pub fn with_start(acc: Placement, s: usize) -> Placement
 }
 
 // The first start worth a try, where the placement to pass has `b` here.
-pub fn start_from(tight: bool, b: usize, from: usize) -> usize
+pub fn start_from(tight: bool, b: Start, from: usize) -> usize
     ensures { λ r. ⌜ r ≡ startFrom tight b from ⌝ }
 {
     if !tight {
         return from;
     }
-    if b < from { from } else { b }
+    if start_before(start_at(from), b) {
+        b.at
+    } else {
+        from
+    }
 }
 
-// Whether the starts chosen, with `at`, are still those of the placement to pass.
-pub fn stays(tight: bool, at: usize, b: usize) -> bool
-    ensures { λ r. ⌜ r ≡ (tight && eqb b at) ⌝ }
+// Whether the starts chosen, with `s`, are still those of the placement to pass.
+pub fn stays(tight: bool, s: Start, b: Start) -> bool
+    ensures { λ r. ⌜ r ≡ (tight && sameStart b s) ⌝ }
 {
     if !tight {
         return false;
     }
-    b == at
+    same_start(b, s)
 }
 
-// The last positive pattern, behind `p` that lies at a start.
-pub fn last_at(last: Last, p: Pattern, at: usize) -> Last
-    requires { ⌜ at + p .len < sizeBound ⌝ }
-    ensures { λ r. ⌜ r ≡ lastAfter last p at ⌝ }
+// The last positive pattern, after `p` that lies at the start `s`.
+pub fn last_at(last: Last, p: Pattern, s: Start) -> Last
+    requires { ⌜ s .at + p .len < sizeBound ⌝ }
+    ensures { λ r. ⌜ r ≡ lastAfter last p s ⌝ }
 {
     if p.negated {
         return last;
@@ -71,6 +80,6 @@ pub fn last_at(last: Last, p: Pattern, at: usize) -> Last
     let context = p.context;
     Last::Was(Match {
         context,
-        end: at + p.len,
+        end: s.at + p.len,
     })
 }

@@ -11,6 +11,7 @@ use Rattle.definitions.specs.declared.table.Pattern.{Pattern}
 use Rattle.definitions.specs.declared.table.Item.the-variants as item
 use Rattle.definitions.specs.declared.table.Slot.{Slot}
 use Rattle.definitions.specs.declared.packet.Last.{Last}
+use Rattle.definitions.specs.declared.packet.Start.{Start}
 use Rattle.definitions.specs.declared.packet.Placement.{Placement}
 use Rattle.definitions.specs.Fields.{View}
 use Rattle.definitions.specs.Tests.{testHolds}
@@ -60,7 +61,7 @@ module _ {q : Question} {k : ℕ} {b s d : List ℕ} {l : Last} {acc : Placement
   abbrev view : View
   view = seen (q .facts) s d (q .map)
 
-  abbrev passed : List ℕ
+  abbrev passed : List Start
   passed = drop (acc .count) (q .bound)
 
   abbrev all : List Slot
@@ -73,7 +74,7 @@ module _ {q : Question} {k : ℕ} {b s d : List ℕ} {l : Last} {acc : Placement
   pub gone-out : q .count ≤ i → (r : Outcome) → r ≡ answer acc tight passed ([] ∷ []) → r ≡ found q s d l acc tight (wanted (itemsLeft q k) b)
   gone-out h r e =
       let none = ap (λ (sls : List Slot). found q s d l acc tight (wanted sls left)) (stepping.left-out q i h) in
-      e ∙ sym (g .same ∙ none ∙ stepping.behind-last view l acc tight passed left)
+      e ∙ sym (g .same ∙ none ∙ stepping.after-last view l acc tight passed left)
 
   -- the i-th item, and those behind it
   module _ (more : i < q .count) where

@@ -14,6 +14,7 @@ use Rattle.definitions.specs.declared.table.Item.the-variants as item
 use Rattle.definitions.specs.declared.table.Address.{Address}
 use Rattle.definitions.specs.declared.table.Slot.{Slot}
 use Rattle.definitions.specs.declared.packet.Last.{Last}
+use Rattle.definitions.specs.declared.packet.Start.{Start}
 use Rattle.definitions.specs.declared.packet.Placement.{Placement}
 use Rattle.definitions.specs.References.{lastAfter}
 use Rattle.definitions.specs.Windows.{lastEnd}
@@ -147,10 +148,10 @@ module _ (sls : List Slot) (b : List ℕ) (p : Pattern) (own s d : List ℕ) (l 
   pub trying-bounded : Bounded s d p own l
   trying-bounded = record { payload = tr .small .payload; decoded = tr .small .decoded; last = tr .small .last; pattern = tr .len; own = tr .own }
 
-  last-small : (at : ℕ) → at + p .len < sizeBound → lastEnd (lastAfter l p at) < sizeBound
+  last-small : (at : Start) → at .at + p .len < sizeBound → lastEnd (lastAfter l p at) < sizeBound
   last-small at h = by-cases (p .negated) (λ t. rw t (tr .small .last)) (λ t. rw t h)
 
-  pub ready-next : (at : ℕ) (next : Last) (ws : Placement) → at + p .len < sizeBound → next ≡ lastAfter l p at → ws ≡ push acc at → Ready sls b s d next ws
+  pub ready-next : (at : Start) (next : Last) (ws : Placement) → at .at + p .len < sizeBound → next ≡ lastAfter l p at → ws ≡ push acc at → Ready sls b s d next ws
   ready-next at next ws h en ew =
       record {
         small = record { bytes = tr .small .bytes; payload = tr .small .payload; decoded = tr .small .decoded; last = rw en (last-small at h) };
@@ -160,7 +161,7 @@ module _ (sls : List Slot) (b : List ℕ) (p : Pattern) (own s d : List ℕ) (l 
 
 -- ---- what it answers: an item that holds leaves the answer to those behind it
 
-module _ (v : View) (l : Last) (acc : Placement) (tight : Bool) (q : List ℕ) (ws : List Wanted) where
+module _ (v : View) (l : Last) (acc : Placement) (tight : Bool) (q : List Start) (ws : List Wanted) where
   module _ (it : Item) (al : List Address) where
     pub test-yes : testHolds v it al l ≡ true → answer acc tight q (placements v (tested it al ∷ ws) l) ≡ answer acc tight q (placements v ws l)
     unfolding placements
@@ -179,7 +180,7 @@ module _ (v : View) (l : Last) (acc : Placement) (tight : Bool) (q : List ℕ) (
     unfolding placements
     nowhere-no h = rw h (answer-nothing acc tight q)
 
-pub behind-last : (v : View) (l : Last) (acc : Placement) (tight : Bool) (q : List ℕ) (b : List ℕ)
+pub after-last : (v : View) (l : Last) (acc : Placement) (tight : Bool) (q : List Start) (b : List ℕ)
     → answer acc tight q (placements v (wanted [] b) l) ≡ answer acc tight q ([] ∷ [])
 unfolding placements wanted
-behind-last v l acc tight q b = refl
+after-last v l acc tight q b = refl

@@ -1,100 +1,99 @@
 -- The trial of a pattern's starts: from its window's first start worth a try on, each with the items left.
 use mathlib.Core.Path.{_≡_, refl, sym, ap, _∙_}
 use mathlib.Core.Bool.{Bool, true, false, not, _&&_}
-use mathlib.Core.List.{List, [], _∷_}
-use Prim.Native.Nat.{ℕ, suc, _+_, _≤_, _<_, max}
+use mathlib.Core.List.{List, [], _∷_, map}
+use Prim.Native.Nat.{ℕ, _+_, _≤_, _<_, max}
 use native.Mathlib.Omega.{arith}
 use lib.ListN.{length, drop, getD}
-use lib.Dec.{eqb}
 use borrow.Author.Tests.{not-true, not-false}
 use Rattle.definitions.specs.declared.table.Pattern.{Pattern}
 use Rattle.definitions.specs.declared.packet.Facts.{Facts}
 use Rattle.definitions.specs.declared.packet.FieldMap.{FieldMap}
 use Rattle.definitions.specs.declared.packet.Last.{Last}
+use Rattle.definitions.specs.declared.packet.Start.{Start}
 use Rattle.definitions.specs.declared.packet.Placement.{Placement}
-use Rattle.definitions.specs.Lists.{keep}
+use Rattle.definitions.specs.Starts.{startAt, sameStart}
 use Rattle.definitions.specs.References.{lastAfter}
 use Rattle.definitions.specs.Fields.{present, fieldOf}
-use Rattle.definitions.specs.Placements.{Wanted, placed, upFrom, spread, liesIn, starts, placements}
+use Rattle.definitions.specs.Placements.{Wanted, placed, startsTo, spread, liesIn, starts, placements}
+use Rattle.laws.proofs.StartOrder.{number-not-before}
+use Rattle.laws.proofs.Keep.{keep-none}
 use Rattle.list_walks.proofs.Passing.{drop-here}
 use Rattle.window_spans.specs.declared.Window.{Window}
 use Rattle.window_spans.specs.Spans.{Spans, placesOf}
-use Rattle.windows.proofs.Listing.{from, standing, passed, places-window}
+use Rattle.windows.proofs.Listing.{standing, places-window}
 use Rattle.fields.specs.Seen.{seen}
 use Rattle.meaning.proofs.Placing.{starts-present}
 use Rattle.search_outcomes.specs.declared.Outcome.{Outcome}
 use Rattle.search_outcomes.specs.Outcomes.{nothing}
 use Rattle.search_chosen.specs.Choosing.{push, answer, foundOr, startFrom}
 use Rattle.search_question.specs.declared.Question.{Question}
-use Rattle.search_chosen.proofs.Answering.{kept, none-left, answer-cons, answer-from, answer-nothing}
+use Rattle.search_chosen.proofs.Answering.{startsFrom, starts-met, starts-past, starts-out, answer-cons, answer-from, answer-nothing}
 use Rattle.search_items.proofs.Going.{found}
 
 -- ---- before the loop
 
-keep-never : (f : ℕ → Bool) (l : List ℕ) → ((x : ℕ) → f x ≡ false) → keep f l ≡ []
-unfolding keep
-keep-never f [] h = refl
-keep-never f (x ∷ l) h = rw (h x) (keep-never f l h)
-
 module _ (facts : Facts) (s d : List ℕ) (m : FieldMap) (p : Pattern) (own : List ℕ) (l : Last) (ws : List Wanted) (acc : Placement) (tight : Bool) where
   starts-absent : present m (p .context) ≡ false → starts (seen facts s d m) p own l ≡ []
   unfolding starts liesIn
-  starts-absent e = keep-never (liesIn (seen facts s d m) p own l) (upFrom 0 (suc (length (fieldOf s d m (p .context))))) (λ x. rw e)
+  starts-absent e = keep-none (liesIn (seen facts s d m) p own l) (startsTo (length (fieldOf s d m (p .context)))) (λ x. rw e)
 
-  pub try-absent : (q : List ℕ) (t : Bool) → t ≡ present m (p .context) → not t ≡ true → (r : Outcome) → r ≡ nothing
+  pub try-absent : (q : List Start) (t : Bool) → t ≡ present m (p .context) → not t ≡ true → (r : Outcome) → r ≡ nothing
       → r ≡ answer acc tight q (placements (seen facts s d m) (placed p own ∷ ws) l)
   unfolding placements spread
   try-absent q t e n r h = rw (starts-absent (sym e ∙ not-true t n)) (h ∙ sym (answer-nothing acc tight q))
 
   module _ (f : List ℕ) (w : Window) (sp : Spans p l (length f) w) (q : f ≡ fieldOf s d m (p .context)) (t : Bool) (g : t ≡ present m (p .context))
       (n : not t ≡ false) where
-    starts-are : starts (seen facts s d m) p own l ≡ keep (standing (p .nocase) own f) (from (w .from) (w .to))
-    starts-are = starts-present facts s d m p own l (sym g ∙ not-false t n) ∙ ap (placesOf p own l) (sym q) ∙ places-window p own l f w sp
+    starts-are : starts (seen facts s d m) p own l ≡ startsFrom (standing (p .nocase) own f) (w .from) (w .to)
+    starts-are = starts-present facts s d m p own l (sym g ∙ not-false t n) ∙ ap (map startAt) (ap (placesOf p own l) (sym q) ∙ places-window p own l f w sp)
 
-    try-begin : (ss : List ℕ) (at : ℕ) → acc .count < length ss → at ≡ startFrom tight (getD ss (acc .count) 0) (w .from)
+    try-begin : (ss : List Start) (at : ℕ) → acc .count < length ss → at ≡ startFrom tight (getD ss (acc .count) (startAt 0)) (w .from)
         → answer acc tight (drop (acc .count) ss) (placements (seen facts s d m) (placed p own ∷ ws) l)
         ≡ answer acc tight (drop (acc .count) ss)
-        (spread (λ (x : ℕ). placements (seen facts s d m) ws (lastAfter l p x)) (keep (standing (p .nocase) own f) (from at (w .to))))
+        (spread (λ (x : Start). placements (seen facts s d m) ws (lastAfter l p x)) (startsFrom (standing (p .nocase) own f) at (w .to)))
     unfolding placements
     try-begin ss at h e =
-        rw (starts-are, e, drop-here ss (acc .count) 0 h)
-        (answer-from (λ (x : ℕ). placements (seen facts s d m) ws (lastAfter l p x)) (getD ss (acc .count) 0) (drop (acc .count + 1) ss)
+        rw (starts-are, e, drop-here ss (acc .count) (startAt 0) h)
+        (answer-from (λ (x : Start). placements (seen facts s d m) ws (lastAfter l p x)) (getD ss (acc .count) (startAt 0)) (drop (acc .count + 1) ss)
         (standing (p .nocase) own f) (w .to) acc tight (w .from))
 
-ahead : (tight : Bool) (b x at : ℕ) → at ≡ startFrom tight b x → tight ≡ true → b ≤ at
-ahead tight b x at e t = let z : at ≡ max b x = e ∙ ap (λ (y : Bool). startFrom y b x) t in omega arith
+from-ahead : (tight : Bool) (b : Start) (x at : ℕ) → at ≡ startFrom tight b x → tight ≡ true → b .at ≤ at
+from-ahead tight b x at e t = let z : at ≡ max (b .at) x = e ∙ ap (λ (y : Bool). startFrom y b x) t in omega arith
 
 -- ---- one turn, and the end
 
-module _ (acc : Placement) (tight : Bool) (ss : List ℕ) (f : ℕ → List (List ℕ)) (h : ℕ → Bool) (at to : ℕ) where
-  try-done : (q : List ℕ) → to ≤ at → (r z : Outcome) → r ≡ nothing → z ≡ answer acc tight q (spread f (keep h (from at to))) → r ≡ z
+module _ (acc : Placement) (tight : Bool) (ss : List Start) (f : Start → List (List Start)) (h : ℕ → Bool) (at to : ℕ) where
+  try-done : (q : List Start) → to ≤ at → (r z : Outcome) → r ≡ nothing → z ≡ answer acc tight q (spread f (startsFrom h at to)) → r ≡ z
   unfolding spread
   try-done q l r z e i =
-      let none : answer acc tight q (spread f (keep h (from at to))) ≡ nothing = rw (none-left h at to l) (answer-nothing acc tight q) in
+      let none : answer acc tight q (spread f (startsFrom h at to)) ≡ nothing = rw (starts-out h at to l) (answer-nothing acc tight q) in
       e ∙ sym (i ∙ none)
 
-  try-no : (q : List ℕ) → h at ≡ false → answer acc tight q (spread f (keep h (from at to))) ≡ answer acc tight q (spread f (keep h (from (at + 1) to)))
-  try-no q e = ap (λ (k : List ℕ). answer acc tight q (spread f k)) (passed h to at e)
+  try-no : (q : List Start) → h at ≡ false → answer acc tight q (spread f (startsFrom h at to)) ≡ answer acc tight q (spread f (startsFrom h (at + 1) to))
+  try-no q e = ap (λ (k : List Start). answer acc tight q (spread f k)) (starts-past h at to e)
 
-  try-yes : at < to → h at ≡ true → acc .count < length ss → (tight ≡ true → getD ss (acc .count) 0 ≤ at)
-      → answer acc tight (drop (acc .count) ss) (spread f (keep h (from at to)))
-      ≡ foundOr (answer (push acc at) (tight && eqb (getD ss (acc .count) 0) at) (drop (acc .count + 1) ss) (f at))
-      (answer acc tight (drop (acc .count) ss) (spread f (keep h (from (at + 1) to))))
+  try-yes : at < to → h at ≡ true → acc .count < length ss → (tight ≡ true → getD ss (acc .count) (startAt 0) .at ≤ at)
+      → answer acc tight (drop (acc .count) ss) (spread f (startsFrom h at to))
+      ≡ foundOr (answer (push acc (startAt at)) (tight && sameStart (getD ss (acc .count) (startAt 0)) (startAt at)) (drop (acc .count + 1) ss) (f (startAt at)))
+      (answer acc tight (drop (acc .count) ss) (spread f (startsFrom h (at + 1) to)))
   try-yes l e g a =
-      rw (kept h at to l e, drop-here ss (acc .count) 0 g)
-      (answer-cons f (getD ss (acc .count) 0) (drop (acc .count + 1) ss) acc tight at (keep h (from (at + 1) to)) a)
+      let b = getD ss (acc .count) (startAt 0) in
+      rw (starts-met h at to l e, drop-here ss (acc .count) (startAt 0) g)
+      (answer-cons f b (drop (acc .count + 1) ss) acc tight (startAt at) (startsFrom h (at + 1) to) (λ y. number-not-before at b (a y)))
 
--- a start that lies was tried with the items left, whose placements behind a last positive pattern are those of g
-tried : (acc : Placement) (tight : Bool) (ss : List ℕ) (g : Last → List (List ℕ)) (la : ℕ → Last) (h : ℕ → Bool) (at to : ℕ)
-    (next : Last) (ws : Placement) (st : Bool) (x : Outcome)
-    → at < to → h at ≡ true → acc .count < length ss → (tight ≡ true → getD ss (acc .count) 0 ≤ at)
-    → next ≡ la at → ws ≡ push acc at → st ≡ (tight && eqb (getD ss (acc .count) 0) at) → x ≡ answer ws st (drop (ws .count) ss) (g next)
-    → answer acc tight (drop (acc .count) ss) (spread (λ (s : ℕ). g (la s)) (keep h (from at to)))
-    ≡ foundOr x (answer acc tight (drop (acc .count) ss) (spread (λ (s : ℕ). g (la s)) (keep h (from (at + 1) to))))
-tried acc tight ss g la h at to next ws st x l e k a en ew es ex =
-    let y : x ≡ answer (push acc at) (tight && eqb (getD ss (acc .count) 0) at) (drop (acc .count + 1) ss) (g (la at)) = ex ∙ rw (ew, es, en) in
-    try-yes acc tight ss (λ (s : ℕ). g (la s)) h at to l e k a
-    ∙ ap (λ (z : Outcome). foundOr z (answer acc tight (drop (acc .count) ss) (spread (λ (s : ℕ). g (la s)) (keep h (from (at + 1) to))))) (sym y)
+-- a start that lies was tried with the items left, whose placements after a last positive pattern are those of g
+tried : (acc : Placement) (tight : Bool) (ss : List Start) (g : Last → List (List Start)) (la : Start → Last) (h : ℕ → Bool) (at to : ℕ)
+    (s : Start) (next : Last) (ws : Placement) (st : Bool) (x : Outcome)
+    → at < to → h at ≡ true → acc .count < length ss → (tight ≡ true → getD ss (acc .count) (startAt 0) .at ≤ at) → s ≡ startAt at
+    → next ≡ la s → ws ≡ push acc s → st ≡ (tight && sameStart (getD ss (acc .count) (startAt 0)) s) → x ≡ answer ws st (drop (ws .count) ss) (g next)
+    → answer acc tight (drop (acc .count) ss) (spread (λ (y : Start). g (la y)) (startsFrom h at to))
+    ≡ foundOr x (answer acc tight (drop (acc .count) ss) (spread (λ (y : Start). g (la y)) (startsFrom h (at + 1) to)))
+tried acc tight ss g la h at to s next ws st x l e k a is en ew es ex =
+    let b = getD ss (acc .count) (startAt 0) in
+    let y : x ≡ answer (push acc (startAt at)) (tight && sameStart b (startAt at)) (drop (acc .count + 1) ss) (g (la (startAt at))) = ex ∙ rw (ew, es, en, is) in
+    try-yes acc tight ss (λ (z : Start). g (la z)) h at to l e k a
+    ∙ ap (λ (z : Outcome). foundOr z (answer acc tight (drop (acc .count) ss) (spread (λ (u : Start). g (la u)) (startsFrom h (at + 1) to)))) (sym y)
 
 -- a first answer that is there, and one that is not
 or-found : (x y z : Outcome) → z ≡ foundOr x y → x .found ≡ true → x ≡ z
@@ -108,23 +107,23 @@ or-missing x y z e t = e ∙ rw t
 -- what the search answers over the starts from `at` on that pass a test, each with the items left, which want ws
 abbrev over : Question → List ℕ → List ℕ → Last → Placement → Bool → List Wanted → Pattern → (ℕ → Bool) → ℕ → ℕ → Outcome
 over q s d l acc tight ws p h to at =
-    answer acc tight (drop (acc .count) (q .bound)) (spread (λ (x : ℕ). placements (seen (q .facts) s d (q .map)) ws (lastAfter l p x)) (keep h (from at to)))
+    answer acc tight (drop (acc .count) (q .bound)) (spread (λ (x : Start). placements (seen (q .facts) s d (q .map)) ws (lastAfter l p x)) (startsFrom h at to))
 
 -- no start before `at` leads to a placement: those from `at` up to `to` decide, in the field f for the pattern p with the bytes own
 pub record Tried (q : Question) (s d : List ℕ) (l : Last) (acc : Placement) (tight : Bool) (ws : List Wanted) (p : Pattern) (own f : List ℕ)
     (to at : ℕ) : Type 0 where
   pub room : acc .count < length (q .bound)
-  pub behind : tight ≡ true → getD (q .bound) (acc .count) 0 ≤ at
+  pub ahead : tight ≡ true → getD (q .bound) (acc .count) (startAt 0) .at ≤ at
   pub same : found q s d l acc tight (placed p own ∷ ws) ≡ over q s d l acc tight ws p (standing (p .nocase) own f) to at
 
 pub tried-none : {q : Question} {s d : List ℕ} {l : Last} {acc : Placement} {tight : Bool} {ws : List Wanted} {p : Pattern} {own f : List ℕ}
     {w : Window} {t : Bool} {at : ℕ}
     → acc .count < length (q .bound) → Spans p l (length f) w → f ≡ fieldOf s d (q .map) (p .context) → t ≡ present (q .map) (p .context) → not t ≡ false
-    → at ≡ startFrom tight (getD (q .bound) (acc .count) 0) (w .from) → Tried q s d l acc tight ws p own f (w .to) at
+    → at ≡ startFrom tight (getD (q .bound) (acc .count) (startAt 0)) (w .from) → Tried q s d l acc tight ws p own f (w .to) at
 tried-none {q} {s} {d} {l} {acc} {tight} {ws} {p} {own} {f} {w} {t} {at} room sp e g n a =
     record {
       room = room;
-      behind = ahead tight (getD (q .bound) (acc .count) 0) (w .from) at a;
+      ahead = from-ahead tight (getD (q .bound) (acc .count) (startAt 0)) (w .from) at a;
       same = try-begin (q .facts) s d (q .map) p own l ws acc tight f w sp e t g n (q .bound) at room a;
     }
 
@@ -133,32 +132,32 @@ module _ {q : Question} {s d : List ℕ} {l : Last} {acc : Placement} {tight : B
   abbrev stands : ℕ → Bool
   stands = standing (p .nocase) own f
 
-  abbrev behind-last : Last → List (List ℕ)
-  behind-last = placements (seen (q .facts) s d (q .map)) ws
+  abbrev left-after : Last → List (List Start)
+  left-after = placements (seen (q .facts) s d (q .map)) ws
 
-  abbrev passed-by : List ℕ
+  abbrev passed-by : List Start
   passed-by = drop (acc .count) (q .bound)
 
   pub tried-out : to ≤ at → (r : Outcome) → r ≡ nothing → r ≡ found q s d l acc tight (placed p own ∷ ws)
-  tried-out h r e = try-done acc tight (q .bound) (λ (x : ℕ). behind-last (lastAfter l p x)) stands at to passed-by h r _ e (o .same)
+  tried-out h r e = try-done acc tight (q .bound) (λ (x : Start). left-after (lastAfter l p x)) stands at to passed-by h r _ e (o .same)
 
   pub tried-past : stands at ≡ false → Tried q s d l acc tight ws p own f to (at + 1)
   tried-past e =
       record {
         room = o .room;
-        behind = λ y. omega (arith, o .behind y);
-        same = o .same ∙ try-no acc tight (q .bound) (λ (x : ℕ). behind-last (lastAfter l p x)) stands at to passed-by e;
+        ahead = λ y. omega (arith, o .ahead y);
+        same = o .same ∙ try-no acc tight (q .bound) (λ (x : Start). left-after (lastAfter l p x)) stands at to passed-by e;
       }
 
-  -- a start that lies, with the answer r of the items left behind it
-  module _ (more : at < to) (lies : stands at ≡ true) {next : Last} {ac : Placement} {st : Bool} {r : Outcome}
-      (en : next ≡ lastAfter l p at) (ea : ac ≡ push acc at)
-      (es : st ≡ (tight && eqb (getD (q .bound) (acc .count) 0) at)) (er : r ≡ found q s d next ac st ws) where
+  -- a start that lies, with the answer r of the items left after it
+  module _ (more : at < to) (lies : stands at ≡ true) {x : Start} {next : Last} {ac : Placement} {st : Bool} {r : Outcome}
+      (is : x ≡ startAt at) (en : next ≡ lastAfter l p x) (ea : ac ≡ push acc x)
+      (es : st ≡ (tight && sameStart (getD (q .bound) (acc .count) (startAt 0)) x)) (er : r ≡ found q s d next ac st ws) where
     this-or : found q s d l acc tight (placed p own ∷ ws) ≡ foundOr r (over q s d l acc tight ws p stands to (at + 1))
-    this-or = o .same ∙ tried acc tight (q .bound) behind-last (lastAfter l p) stands at to next ac st r more lies (o .room) (o .behind) en ea es er
+    this-or = o .same ∙ tried acc tight (q .bound) left-after (lastAfter l p) stands at to x next ac st r more lies (o .room) (o .ahead) is en ea es er
 
     pub tried-found : r .found ≡ true → r ≡ found q s d l acc tight (placed p own ∷ ws)
     tried-found e = or-found r _ _ this-or e
 
     pub tried-vain : r .found ≡ false → Tried q s d l acc tight ws p own f to (at + 1)
-    tried-vain e = record { room = o .room; behind = λ y. omega (arith, o .behind y); same = or-missing r _ _ this-or e }
+    tried-vain e = record { room = o .room; ahead = λ y. omega (arith, o .ahead y); same = or-missing r _ _ this-or e }

@@ -15,6 +15,7 @@ use definitions::table::Item;
 use definitions::table::Pattern;
 use fields::field_of;
 use fields::is_present;
+use match_starts::start_at;
 use meaning::negated::negated_holds;
 use meaning::test_holds;
 use search_chosen::at_end;
@@ -28,7 +29,7 @@ use search_question::Question;
 use window_spans::starts::window;
 use windows::bytes::stands_at;
 
-// The first placement of the items from k on, behind the starts in acc; where `tight`, the first behind those to pass. `bytes` are the pattern
+// The first placement of the items from k on, after the starts in acc; where `tight`, the first after those to pass. `bytes` are the pattern
 // bytes from item k's on, `last` is the last positive pattern before it.
 pub fn from_item<'a>(
     q: Question,
@@ -108,9 +109,10 @@ fn try_starts<'a>(
     let mut at = start_from(tight, b, w.from);
     while at < to {
         if stands_at(nocase, own, f, at) {
-            let next = last_at(last, p, at);
-            let more = with_start(acc, at);
-            let still = stays(tight, at, b);
+            let s = start_at(at);
+            let next = last_at(last, p, s);
+            let more = with_start(acc, s);
+            let still = stays(tight, s, b);
             let x = from_item(q, k + 1, rest, payload, decoded, next, more, still);
             if x.found {
                 return x;

@@ -6,7 +6,7 @@ use Rattle.definitions.specs.declared.answers.Verdict.{Verdict}
 use Rattle.definitions.specs.declared.answers.Verdict.the-variants as verdict
 use Rattle.definitions.specs.declared.answers.Found.the-variants.{Placed, Nothing}
 use Rattle.definitions.specs.declared.answers.Answer.{Answer}
-use Rattle.definitions.specs.Placements.{Start}
+use Rattle.definitions.specs.declared.packet.Start.{Start}
 use Rattle.definitions.specs.Answers.{placementOf}
 use Rattle.search_outcomes.specs.declared.Outcome.{Outcome}
 

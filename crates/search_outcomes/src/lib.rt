@@ -9,6 +9,7 @@ use definitions::answers::Refusal;
 use definitions::answers::Verdict;
 use definitions::limits::PATTERNS;
 use definitions::packet::Placement;
+use definitions::packet::Start;
 
 // A placement is found, or none; the placement of none is empty.
 pub struct Outcome {
@@ -22,7 +23,7 @@ pub fn empty() -> Placement
 {
     Placement {
         count: 0,
-        starts: [0; PATTERNS],
+        starts: [Start { at: 0 }; PATTERNS],
     }
 }
 

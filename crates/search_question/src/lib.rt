@@ -3,6 +3,7 @@ use definitions::limits::ITEMS;
 use definitions::limits::PATTERNS;
 use definitions::packet::Facts;
 use definitions::packet::FieldMap;
+use definitions::packet::Start;
 use definitions::table::Slot;
 
 pub struct Question {
@@ -10,5 +11,5 @@ pub struct Question {
     pub count: usize,
     pub facts: Facts,
     pub map: FieldMap,
-    pub bound: [usize; PATTERNS],
+    pub bound: [Start; PATTERNS],
 }

@@ -21,6 +21,7 @@ use Rattle.definitions.specs.Forms.{valued, closed}
 use Rattle.definitions.specs.Options.{Option, optionTable}
 use Rattle.definitions.specs.Tables.{slotsIn}
 use Rattle.definitions.specs.Items.{Kind, unused, addressed, patterned, plainTest, kindOf, patternFirst, patternsOf}
+use Rattle.definitions.specs.Starts.{startAt}
 use Rattle.definitions.specs.References.{lastAfter, usable, usableRun, usableIn}
 use Rattle.definitions.specs.Standing.{isPattern}
 use Rattle.definitions.specs.Grammar.{OptionText, option, OptionsText, close, space}
@@ -136,7 +137,7 @@ patterns-counted (Modified m ∷ es) t = patterns-counted es t
 usable-run-le : (last : Last) (ps : List table.Pattern) → usableRun last ps ≤ length ps
 unfolding usableRun
 usable-run-le last [] = omega arith
-usable-run-le last (p ∷ ps) = by-cases (usable last p) (λ t. rw t (omega (arith, usable-run-le (lastAfter last p 0) ps))) (λ t. rw t (omega arith))
+usable-run-le last (p ∷ ps) = by-cases (usable last p) (λ t. rw t (omega (arith, usable-run-le (lastAfter last p (startAt 0)) ps))) (λ t. rw t (omega arith))
 
 pub usable-le : (es : List Entry) → all? testOnly es ≡ true → usableIn es ≤ count isPattern es
 usable-le es t = let e = patterns-counted es t in omega (arith, e, usable-run-le Nothing (patternsOf (slotsIn es)))

@@ -4,13 +4,14 @@ use Prim.Native.Nat.{ℕ, _+_, _-_}
 use native.Mathlib.Omega.{arith}
 use lib.ListN.{length}
 use borrow.Author.Needs.{needs}
+use Rattle.definitions.specs.declared.packet.Start.{Start}
 use Rattle.line_parts.proofs.PartsFrom.{part-in}
 use Rattle.case_columns.proofs.Starts.{Starting, no-starts, starting, starting-halt, starting-full, starting-on, starting-out}
 use Rattle.case_columns.proofs.parse_starts.Statement.{statement}
 use Rattle.case_columns.proofs.parse_starts.Tie as tie
 
 abbrev Inv-loop : tie.InvT-loop
-Inv-loop s starts₀ count₀ at₀ starts count at = (held : List ℕ) × Starting s held starts count at
+Inv-loop s starts₀ count₀ at₀ starts count at = (held : List Start) × Starting s held starts count at
 
 abbrev μ-loop : tie.MeasureT-loop
 μ-loop s starts₀ count₀ at₀ starts count at = length s + 1 - at
@@ -63,14 +64,14 @@ returns-3 c =
     let test = number .before .before .before in
     starting-full _ _ _ _ _ (test .before .loop .inv .1) (test .loop-test .taken) _ (number .before .part-before .ensures) _ (number .parse-decimal .ensures) (c .before .if2 .taken) _ (c .plain-ask3 .ensures)
 
-start-at-requires : tie.Need-start-at-requires Inv-loop μ-loop
-start-at-requires c κs = tt
+start-of-requires : tie.Need-start-of-requires Inv-loop μ-loop
+start-of-requires c κs = tt
 
 mul-starts : tie.Need-mul-starts Inv-loop μ-loop
 mul-starts c = omega arith
 
-array-write-starts : tie.Need-array-write-starts Inv-loop μ-loop
-array-write-starts c = omega arith
+array-set-from-starts : tie.Need-array-set-from-starts Inv-loop μ-loop
+array-set-from-starts c = omega arith
 
 add-count : tie.Need-add-count Inv-loop μ-loop
 add-count c = omega arith
@@ -96,7 +97,7 @@ loop-again : tie.Need-loop-again Inv-loop μ-loop
 loop-again c =
     let number = c .before .before .before .before .before in
     let test = number .before .before .before in
-    (_, starting-on _ _ _ _ _ (test .before .loop .inv .1) (test .loop-test .taken) _ (number .before .part-before .ensures) _ (number .parse-decimal .ensures) _ (c .before .before .before .n .given .1) (c .before .if2 .left) _ (c .start-at .ensures))
+    (_, starting-on _ _ _ _ _ (test .before .loop .inv .1) (test .loop-test .taken) _ (number .before .part-before .ensures) _ (number .parse-decimal .ensures) _ (c .before .before .before .n .given .1) (c .before .if2 .left) _ (c .start-of .ensures))
 
 returns-4 : tie.Need-returns-4 Inv-loop μ-loop
 returns-4 c = starting-out _ _ _ _ _ (c .before .loop .inv .1) (omega arith)
@@ -121,9 +122,9 @@ parse-starts-spec =
     returns-2
     plain-ask-requires-3
     returns-3
-    start-at-requires
+    start-of-requires
     mul-starts
-    array-write-starts
+    array-set-from-starts
     add-count
     add-at
     add-at-2

@@ -1,6 +1,7 @@
 -- Refusal 35 where the test of the fields says so; else the table is met exactly if the search finds a placement.
 use lib.ListN.{replicate}
 use Rattle.definitions.specs.Limits.{patternsMost}
+use Rattle.definitions.specs.Starts.{startAt}
 use Rattle.matcher.proofs.Answering.{fields-refused, verdict-found}
 use Rattle.matcher.proofs.verdict_in.Statement.{statement}
 use Rattle.matcher.proofs.verdict_in.Tie as tie
@@ -31,7 +32,7 @@ returns-2 c =
     let w = c .before .before .before .before in
     let x = w .before .before .before .args in
     verdict-found (x .t) (x .facts) (x .payload .now) (x .decoded .now) (x .dir) (x .m) (w .fields-due .ensures) (c .before .before .enum-told .given .1)
-    (replicate patternsMost 0) (c .before .find .ensures) (c .met .ensures)
+    (replicate patternsMost (startAt 0)) (c .before .find .ensures) (c .met .ensures)
 
 pub verdict-in-spec : {M : Type 1} → statement M
 verdict-in-spec =

@@ -1,6 +1,7 @@
 -- Refusal 35 where the test of the fields says so; else the search has the first of the list.
 use lib.ListN.{replicate}
 use Rattle.definitions.specs.Limits.{patternsMost}
+use Rattle.definitions.specs.Starts.{startAt}
 use Rattle.placement_list.proofs.Answering.{first-refused, first-found}
 use Rattle.placement_list.proofs.first_in.Statement.{statement}
 use Rattle.placement_list.proofs.first_in.Tie as tie
@@ -35,7 +36,7 @@ returns-2 c =
     let w = c .before .before .before .before in
     let x = w .before .before .before .args in
     first-found (x .t) (x .facts) (x .payload .now) (x .decoded .now) (x .dir) (x .m) (w .fields-due .ensures) (c .before .before .enum-told .given .1)
-    (replicate patternsMost 0) (c .before .find .ensures) (c .answered .ensures)
+    (replicate patternsMost (startAt 0)) (c .before .find .ensures) (c .answered .ensures)
 
 pub first-in-spec : {M : Type 1} → statement M
 first-in-spec =

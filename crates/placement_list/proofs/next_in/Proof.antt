@@ -1,5 +1,5 @@
 -- Refusal 35 where the test of the fields says so; then the count held is compared with the number of positive patterns; then the search has the
--- first of the list behind the starts held.
+-- first of the list after the starts held.
 use Rattle.definitions.specs.Placements.{itemsOf}
 use Rattle.search.proofs.Formed.{few-items}
 use Rattle.placement_list.proofs.Answering.{next-refused, next-found, next-uncounted}

@@ -1,7 +1,7 @@
--- No placement is behind itself; any other start chosen last has passed the one to pass.
+-- No placement is after itself; any other start chosen last has passed the one to pass.
 use mathlib.Core.Path.{_∙_}
 use Rattle.definitions.specs.Lists.{keep}
-use Rattle.definitions.specs.Placements.{behind}
+use Rattle.definitions.specs.Placements.{lexLess}
 use Rattle.search_chosen.specs.Choosing.{answer, extend}
 use Rattle.search_chosen.proofs.at_end.Statement.{statement}
 use Rattle.search_chosen.proofs.at_end.Tie as tie
@@ -10,7 +10,7 @@ no-match-requires : tie.Need-no-match-requires
 no-match-requires c κs = tt
 
 returns : tie.Need-returns
-unfolding answer keep behind
+unfolding answer keep lexLess
 returns c = λ p. c .no-match .ensures ∙ rw (c .before .if1 .taken)
 
 returns-2 : tie.Need-returns-2

@@ -10,7 +10,7 @@ add-t6 : tie.Need-add-t6
 add-t6 c = search needs
 
 returns-2 : tie.Need-returns-2
-returns-2 c = simp (c .before .if1 .left)
+returns-2 c = simp (c .before .before .if1 .left)
 
 pub last-at-spec : {M : Type 1} → statement M
 last-at-spec = tie.close (tie.spec returns add-t6 returns-2)

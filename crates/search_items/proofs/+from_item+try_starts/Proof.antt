@@ -4,7 +4,6 @@ use mathlib.Core.Path.{_≡_, sym, _∙_}
 use mathlib.Core.Logic.{⊎-elim}
 use native.Mathlib.Omega.{arith}
 use lib.ListN.{length}
-use borrow.Author.Needs.{length-unmapped}
 use borrow.Author.Tests.{not-true, not-false}
 use Rattle.definitions.specs.Limits.{itemsMost, patternsMost}
 use Rattle.definitions.specs.Placements.{wanted}
@@ -34,6 +33,7 @@ use Rattle.search_outcomes.proofs.no_match.Reads as no-match-reads
 use Rattle.search_chosen.proofs.start_from.Reads as start-from-reads
 use Rattle.search_chosen.proofs.stays.Reads as stays-reads
 use Rattle.search_chosen.proofs.with_start.Reads as with-start-reads
+use Rattle.match_starts.proofs.start_at.Reads as start-at-reads
 use Rattle.windows.proofs.bytes.stands_at.Reads as stands-at-reads
 use Rattle.window_spans.proofs.starts.window.Reads as window-reads
 use Rattle.search_items.proofs.+from_item+try_starts.{statement}
@@ -89,6 +89,8 @@ try-starts-claims t = (
   start-from-reads.Learnt,
   stands-at-reads.Asked,
   stands-at-reads.Learnt,
+  start-at-reads.Asked,
+  start-at-reads.Learnt,
   last-at-reads.Asked,
   last-at-reads.Learnt,
   with-start-reads.Asked,
@@ -268,12 +270,13 @@ field-sizes t c =
 
 -- at a start of the window the pattern ends inside the field, far below what a number holds
 end-inside : (t : ℕ) (c : try-starts-lts.In-loop (try-starts-claims t) (try-starts-at t) try-starts.Post try-starts-Inv-loop try-starts-μ-loop)
-    → let f = c .before .before .before .before .before in
+    → let f = c .before .before .before .before .before .before in
     let end = c .before .loop .at + f .before .before .before .before .before .before .before .before .args .p .len in
     (end ≤ length (f .field-of .result .now)) × (end < sizeBound)
 end-inside t c =
-    let inside = c .before .before .before .before .window .ensures .inside (c .before .loop .at) (c .loop-test .taken) in
-    (inside, omega (arith, inside, (field-sizes t (c .before .before .before .before .before)) .field))
+    let w = c .before .before .before .before .before in
+    let inside = w .window .ensures .inside (c .before .loop .at) (c .loop-test .taken) in
+    (inside, omega (arith, inside, (field-sizes t (w .before)) .field))
 
 try-starts-is-present-requires : (t : ℕ)
     → try-starts-lts.Need-is-present-requires (try-starts-claims t) (try-starts-at t) try-starts.Post try-starts-Inv-loop try-starts-μ-loop
@@ -302,9 +305,9 @@ try-starts-window-requires t c κs = field-sizes t c
 try-starts-mul-b : (t : ℕ) → try-starts-lts.Need-mul-b (try-starts-claims t) (try-starts-at t) try-starts.Post try-starts-Inv-loop try-starts-μ-loop
 try-starts-mul-b t c = omega (arith, c .before .before .before .before .before .before .before .before .before .before .pre .1 .2 .room)
 
-try-starts-array-read-b : (t : ℕ)
-    → try-starts-lts.Need-array-read-b (try-starts-claims t) (try-starts-at t) try-starts.Post try-starts-Inv-loop try-starts-μ-loop
-try-starts-array-read-b t c = omega (arith, c .before .before .before .before .before .before .before .before .before .before .pre .1 .2 .room)
+try-starts-array-copy-out-b : (t : ℕ)
+    → try-starts-lts.Need-array-copy-out-b (try-starts-claims t) (try-starts-at t) try-starts.Post try-starts-Inv-loop try-starts-μ-loop
+try-starts-array-copy-out-b t c = omega (arith, c .before .before .before .before .before .before .before .before .before .before .pre .1 .2 .room)
 
 try-starts-start-from-requires : (t : ℕ)
     → try-starts-lts.Need-start-from-requires (try-starts-claims t) (try-starts-at t) try-starts.Post try-starts-Inv-loop try-starts-μ-loop
@@ -312,26 +315,32 @@ try-starts-start-from-requires t c κs = tt
 
 try-starts-loop-holds : (t : ℕ) → try-starts-lts.Need-loop-holds (try-starts-claims t) (try-starts-at t) try-starts.Post try-starts-Inv-loop try-starts-μ-loop
 try-starts-loop-holds t c =
-    let a = c .before .before .before .before .before .before .before .before .before .before .before in
+    let w = c .before .before .before in
+    let p = w .before .before in
+    let a = p .before .before .before .before .before .before .before in
     let bound = a .args .q .bound in
-    let long : length bound ≡ patternsMost = length-unmapped _ bound patternsMost (a .good .0 .1 .1 .1 .1 .1 .1 .0 .1 .0 .1) in
-    tried-none (omega (arith, a .pre .1 .2 .room, long)) (c .before .before .window .ensures) (c .before .before .before .field-of .ensures .0)
-    (c .before .before .before .before .before .is-present .ensures) (c .before .before .before .before .if1 .left) (c .start-from .ensures)
+    let long : length bound ≡ patternsMost = length-mapped _ bound patternsMost (a .good .0 .1 .1 .1 .1 .1 .1 .0 .1 .0 .1) in
+    tried-none (omega (arith, a .pre .1 .2 .room, long)) (w .window .ensures) (w .before .field-of .ensures .0) (p .before .is-present .ensures) (p .if1 .left)
+    (c .start-from .ensures)
 
 try-starts-stands-at-requires : (t : ℕ)
     → try-starts-lts.Need-stands-at-requires (try-starts-claims t) (try-starts-at t) try-starts.Post try-starts-Inv-loop try-starts-μ-loop
 try-starts-stands-at-requires t c κs =
-    let f = c .before .before .before .before .before in
+    let f = c .before .before .before .before .before .before in
     omega (arith, f .before .before .before .before .before .before .before .before .pre .1 .2 .own, end-inside t c .0)
+
+try-starts-start-at-requires : (t : ℕ)
+    → try-starts-lts.Need-start-at-requires (try-starts-claims t) (try-starts-at t) try-starts.Post try-starts-Inv-loop try-starts-μ-loop
+try-starts-start-at-requires t c κs = tt
 
 try-starts-last-at-requires : (t : ℕ)
     → try-starts-lts.Need-last-at-requires (try-starts-claims t) (try-starts-at t) try-starts.Post try-starts-Inv-loop try-starts-μ-loop
-try-starts-last-at-requires t c κs = end-inside t (c .before .before) .1
+try-starts-last-at-requires t c κs = rw (c .start-at .ensures) (end-inside t (c .before .before .before) .1)
 
 try-starts-with-start-requires : (t : ℕ)
     → try-starts-lts.Need-with-start-requires (try-starts-claims t) (try-starts-at t) try-starts.Post try-starts-Inv-loop try-starts-μ-loop
 try-starts-with-start-requires t c κs =
-    let f = c .before .before .before .before .before .before .before .before in
+    let f = c .before .before .before .before .before .before .before .before .before .before in
     omega (arith, f .before .before .before .before .before .before .before .before .pre .1 .2 .room)
 
 try-starts-stays-requires : (t : ℕ)
@@ -341,29 +350,32 @@ try-starts-stays-requires t c κs = tt
 try-starts-add-from-item : (t : ℕ)
     → try-starts-lts.Need-add-from-item (try-starts-claims t) (try-starts-at t) try-starts.Post try-starts-Inv-loop try-starts-μ-loop
 try-starts-add-from-item t c =
-    let f = c .before .before .before .before .before .before .before .before .before .before in
+    let f = c .before .before .before .before .before .before .before .before .before .before .before .before in
     let a = f .before .before .before .before .before .before .before .before in
     omega (arith, a .pre .1 .0, a .pre .1 .1)
 
 try-starts-from-item-requires : (t : ℕ)
     → try-starts-lts.Need-from-item-requires (try-starts-claims t) (try-starts-at t) try-starts.Post try-starts-Inv-loop try-starts-μ-loop
 try-starts-from-item-requires t c κs =
-    let s = c .before .before .before .before .before in
-    let f = s .before .before .before .before .before in
+    let start = c .before .before .before .start-at in
+    let s = c .before .before .before .before .before .before in
+    let f = s .before .before .before .before .before .before in
     let a = f .before .before .before .before .before .before .before .before in
     let x = a .args in
     let next = c .before .before .last-at in
     let more = c .before .with-start in
     let sls = itemsLeft (x .q) (x .k + 1) in
-    let ready = ready-next sls (x .rest .now) (x .p) (x .own .now) (x .payload .now) (x .decoded .now) (x .last) (x .acc) (a .pre .1 .2) (s .before .loop .at) in
-    (omega (arith, a .pre .0, a .pre .1 .0), (a .pre .1 .1, ready (next .result) (more .result) (end-inside t s .1) (next .ensures) (more .ensures)))
+    let ready = ready-next sls (x .rest .now) (x .p) (x .own .now) (x .payload .now) (x .decoded .now) (x .last) (x .acc) (a .pre .1 .2) (start .result) in
+    (omega (arith, a .pre .0, a .pre .1 .0), (a .pre .1 .1, ready (next .result) (more .result) (rw (start .ensures) (end-inside t s .1)) (next .ensures) (more .ensures)))
 
 try-starts-returns-2 : (t : ℕ) → try-starts-lts.Need-returns-2 (try-starts-claims t) (try-starts-at t) try-starts.Post try-starts-Inv-loop try-starts-μ-loop
 try-starts-returns-2 t c =
-    let s = c .before .before .before .before .before .before .before in
-    let lies = sym (c .before .before .before .before .before .before .stands-at .ensures) ∙ c .before .before .before .before .before .if2 .taken in
+    let w = c .before .before .before .before .before .before in
+    let s = w .before .before in
+    let lies = sym (w .before .stands-at .ensures) ∙ w .if2 .taken in
+    let start = c .before .before .before .before .before .start-at .ensures in
     let chosen = c .before .before .before .before .last-at .ensures in
-    tried-found (s .before .loop .inv) (s .loop-test .taken) lies chosen (c .before .before .before .with-start .ensures) (c .before .before .stays .ensures)
+    tried-found (s .before .loop .inv) (s .loop-test .taken) lies start chosen (c .before .before .before .with-start .ensures) (c .before .before .stays .ensures)
     (c .before .from-item .ensures) (c .if3 .taken)
 
 try-starts-add-at : (t : ℕ) → try-starts-lts.Need-add-at (try-starts-claims t) (try-starts-at t) try-starts.Post try-starts-Inv-loop try-starts-μ-loop
@@ -378,7 +390,7 @@ try-starts-loop-again t c =
     let o = s .before .loop .inv in
     let stands = sym (c .before .stands-at .ensures) in
     ⊎-elim
-    (λ w. tried-vain o (s .loop-test .taken) (stands ∙ w .0 .taken) (w .1 .ensures) (w .2 .ensures) (w .3 .ensures) (w .4 .ensures) (w .5 .left))
+    (λ w. tried-vain o (s .loop-test .taken) (stands ∙ w .0 .taken) (w .1 .ensures) (w .2 .ensures) (w .3 .ensures) (w .4 .ensures) (w .5 .ensures) (w .6 .left))
     (λ w. tried-past o (stands ∙ w .left))
     (c .if2 .came)
 
@@ -433,10 +445,11 @@ pub +from-item+try-starts-spec : {M : Type 1} → statement M
     (try-starts-field-of-requires t)
     (try-starts-window-requires t)
     (try-starts-mul-b t)
-    (try-starts-array-read-b t)
+    (try-starts-array-copy-out-b t)
     (try-starts-start-from-requires t)
     (try-starts-loop-holds t)
     (try-starts-stands-at-requires t)
+    (try-starts-start-at-requires t)
     (try-starts-last-at-requires t)
     (try-starts-with-start-requires t)
     (try-starts-stays-requires t)

@@ -1,11 +1,12 @@
 -- Three stores, and the starts behind them.
-use mathlib.Core.Path.{_≡_, ap, _∙_}
+use mathlib.Core.Path.{_≡_, sym, ap, _∙_}
 use native.Mathlib.Omega.{arith}
-use mathlib.Core.List.{_∷_, _++_}
+use mathlib.Core.List.{List, _∷_, _++_, map}
 use Prim.Native.Nat.{ℕ, _+_}
-use lib.ListN.{length, take, drop, length-set}
+use lib.ListN.{length, take, drop, length-set, length-map}
 use borrow.Author.Needs.{needs}
 use Rattle.definitions.specs.Limits.{patternsMost}
+use Rattle.definitions.specs.Starts.{startNumber}
 use Rattle.definitions.specs.Refusals.{foundNumber}
 use Rattle.asks.specs.Runs.{numbersOfOne}
 use Rattle.asks.proofs.Storing.{three-and-more}
@@ -53,12 +54,21 @@ same-length c = c .before .before .put-starts .kept .0 ∙ simp length-set
 
 returns : tie.Need-returns
 returns c =
-    let x = c .before .before .before .before .before .before .before .before .before .args in
-    let n : length (x .a .placement .starts) ≡ patternsMost = search needs in
-    c .before .before .put-starts .ensures
-    ∙ three-and-more (x .out .now) (x .at) (c .before .before .before .before .before .found-number .result) (c .before .before .before .before .found-one .result) (x .a .placement .count) numbersOfOne (x .a .placement .starts) (omega arith) (c .before .before .before .before .before .before .before .before .before .pre)
-    ∙ ap (λ (u : ℕ). take (x .at) (x .out .now) ++ (u ∷ c .before .before .before .before .found-one .result ∷ x .a .placement .count ∷ x .a .placement .starts) ++ drop (x .at + numbersOfOne) (x .out .now)) (c .before .before .before .before .before .found-number .ensures)
-    ∙ ap (λ (u : ℕ). take (x .at) (x .out .now) ++ (foundNumber (x .a .found) ∷ u ∷ x .a .placement .count ∷ x .a .placement .starts) ++ drop (x .at + numbersOfOne) (x .out .now)) (c .before .before .before .before .found-one .ensures)
+    let p = c .before .before in
+    let one = p .before .before .found-one in
+    let number = p .before .before .before .found-number in
+    let a = p .before .before .before .before .before .before .before in
+    let x = a .args in
+    let h = x .a .placement in
+    let starts = map startNumber (h .starts) in
+    let g = a .good .1 .1 .0 in
+    let long : length (h .starts) ≡ patternsMost = sym (length-map (h .starts) _) ∙ g .1 .1 .1 .0 .1 .1 .1 .0 .1 .0 .1 in
+    let n : 3 + length starts ≡ numbersOfOne = omega (arith, length-map (h .starts) startNumber, long) in
+    let written : ℕ → ℕ → List ℕ = λ u v. take (x .at) (x .out .now) ++ (u ∷ v ∷ h .count ∷ starts) ++ drop (x .at + numbersOfOne) (x .out .now) in
+    p .put-starts .ensures
+    ∙ three-and-more (x .out .now) (x .at) (number .result) (one .result) (h .count) numbersOfOne starts n (a .pre)
+    ∙ ap (λ (u : ℕ). written u (one .result)) (number .ensures)
+    ∙ ap (λ (u : ℕ). written (foundNumber (x .a .found)) u) (one .ensures)
 
 pub put-answer-spec : {M : Type 1} → statement M
 put-answer-spec =

@@ -1,4 +1,4 @@
--- The answer to "first" is written where it is no placement; else the placement, and those behind it.
+-- The answer to "first" is written where it is no placement; else the placement, and those after it.
 use Rattle.definitions.specs.Fields.{fieldsDue}
 use Rattle.output.proofs.Putting.{then, told, same-length as same}
 use Rattle.placement_list.specs.Listing.{listIn, firstIn}
@@ -28,8 +28,8 @@ returns c =
 put-placement-requires : tie.Need-put-placement-requires
 put-placement-requires c κs = tt
 
-put-behind-requires : tie.Need-put-behind-requires
-put-behind-requires c κs = c .before .before .before .before .before .before .before .before .before .before .before .before .before .pre
+put-after-requires : tie.Need-put-after-requires
+put-after-requires c κs = c .before .before .before .before .before .before .before .before .before .before .before .before .before .pre
 
 returns-2 : tie.Need-returns-2
 unfolding firstIn
@@ -40,7 +40,7 @@ returns-2 c =
     let w = fieldsDue (x .payload .now) (x .decoded .now) (x .m) in
     let v = list-ordered (x .t) (x .facts) (x .payload .now) (x .decoded .now) (x .dir) (x .m) in
     told (first-one _ v w (a .first-in .result) (a .first-in .ensures) (p .before .before .before .enum-told .given .1))
-    (then (p .put-placement .ensures) (c .before .before .put-behind .ensures))
+    (then (p .put-placement .ensures) (c .before .before .put-after .ensures))
 
 same-length : tie.Need-same-length
 same-length c = same (returns c)
@@ -58,6 +58,6 @@ put-seen-spec =
     same-length
     returns
     put-placement-requires
-    put-behind-requires
+    put-after-requires
     same-length-2
     returns-2)

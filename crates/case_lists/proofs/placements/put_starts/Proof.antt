@@ -14,19 +14,33 @@ at-most-requires : tie.Need-at-most-requires
 at-most-requires c κs = tt
 
 returns : tie.Need-returns
-returns c = let l = c .before .before .before .args .t3 in let long : length l ≡ patternsMost = omega arith in told (ap startsText (taken-most (c .before .before .before .args .count) l long (c .before .at-most .ensures)) ∙ starts-none _ _ (c .if1 .taken)) none-put
+returns c =
+    let a = c .before .before .before in
+    let long : length (a .args .t3) ≡ patternsMost = omega arith in
+    told (ap startsText (taken-most (a .args .count) (a .args .t3) long (c .before .at-most .ensures)) ∙ starts-none _ _ (c .if1 .taken)) none-put
 
-array-read-put-decimal : tie.Need-array-read-put-decimal
-array-read-put-decimal c = omega arith
+array-copy-out-put-start : tie.Need-array-copy-out-put-start
+array-copy-out-put-start c = omega arith
 
-put-decimal-requires : tie.Need-put-decimal-requires
-put-decimal-requires c κs = tt
+put-start-requires : tie.Need-put-start-requires
+put-start-requires c κs = tt
 
-put-starts-behind-requires : tie.Need-put-starts-behind-requires
-put-starts-behind-requires c κs = omega (arith, c .before .before .before .before .before .before .at-most .ensures, at-most-le (c .before .before .before .before .before .before .before .before .args .count) patternsMost)
+put-starts-after-requires : tie.Need-put-starts-after-requires
+put-starts-after-requires c κs =
+    let n = c .before .before .before .before .before .before .before in
+    omega (arith, n .at-most .ensures, at-most-le (n .before .before .args .count) patternsMost)
 
 returns-2 : tie.Need-returns-2
-returns-2 c = let l = c .before .before .before .before .before .before .before .before .before .before .before .args .t3 in let n = c .before .before .before .before .before .before .before .before .before .at-most .result in let long : length l ≡ patternsMost = omega arith in let some : 0 < n = omega (arith, c .before .before .before .before .before .before .before .before .if1 .left) in let room : n ≤ length l = omega (arith, long, c .before .before .before .before .before .before .before .before .before .at-most .ensures, at-most-le (c .before .before .before .before .before .before .before .before .before .before .before .args .count) patternsMost) in told (ap startsText (taken-most (c .before .before .before .before .before .before .before .before .before .before .before .args .count) l long (c .before .before .before .before .before .before .before .before .before .at-most .ensures)) ∙ starts-first l n some room) (then (c .before .before .before .before .before .before .put-decimal .ensures) (c .before .before .put-starts-behind .ensures))
+returns-2 c =
+    let p = c .before .before .before .before .before .before in
+    let n = p .before .before .before .before in
+    let x = n .before .before .args in
+    let most = n .at-most .result in
+    let long : length (x .t3) ≡ patternsMost = omega arith in
+    let some : 0 < most = omega (arith, p .before .before .before .if1 .left) in
+    let room : most ≤ length (x .t3) = omega (arith, long, n .at-most .ensures, at-most-le (x .count) patternsMost) in
+    told (ap startsText (taken-most (x .count) (x .t3) long (n .at-most .ensures)) ∙ starts-first (x .t3) most some room)
+    (then (p .put-start .ensures) (c .before .before .put-starts-after .ensures))
 
 same-length : tie.Need-same-length
 same-length c = same (returns-2 c)
@@ -37,8 +51,8 @@ put-starts-spec =
     (tie.spec
     at-most-requires
     returns
-    array-read-put-decimal
-    put-decimal-requires
-    put-starts-behind-requires
+    array-copy-out-put-start
+    put-start-requires
+    put-starts-after-requires
     same-length
     returns-2)

@@ -1,26 +1,26 @@
--- What is behind the placement written last is what is still to be written.
+-- What is after the placement written last is what is still to be written.
 use mathlib.Core.Path.{_≡_, refl}
 use Prim.Native.Nat.{_-_}
 use native.Mathlib.Omega.{arith}
 use borrow.Author.Tests.{not-true, not-false}
 use Rattle.definitions.specs.Lists.{keep}
-use Rattle.definitions.specs.Placements.{behind}
+use Rattle.definitions.specs.Placements.{lexLess}
 use Rattle.output.specs.Puts.{puts}
 use Rattle.output.proofs.Putting.{same-length as same}
 use Rattle.placement_list.specs.Listing.{listIn}
-use Rattle.case_lists.specs.AnswerTexts.{placementsBehind, behindMost}
+use Rattle.case_lists.specs.AnswerTexts.{placementsAfter, afterMost}
 use Rattle.case_lists.proofs.Rest.{list-ordered}
 use Rattle.case_lists.proofs.Listing.{left-none, left-on, left-over}
-use Rattle.case_lists.proofs.lists.put_behind.Statement.{statement}
-use Rattle.case_lists.proofs.lists.put_behind.Tie as tie
+use Rattle.case_lists.proofs.lists.put_after.Statement.{statement}
+use Rattle.case_lists.proofs.lists.put_after.Tie as tie
 
 abbrev Inv-loop : tie.InvT-loop
 Inv-loop out₀ at t facts payload decoded dir m bound₀ next₀ k₀ dots out bound next k =
-    puts out₀ next₀ (placementsBehind behindMost (keep (behind bound₀) (listIn t facts payload decoded dir m)))
-    ≡ puts out next (placementsBehind (behindMost - k) (keep (behind bound) (listIn t facts payload decoded dir m)))
+    puts out₀ next₀ (placementsAfter afterMost (keep (lexLess bound₀) (listIn t facts payload decoded dir m)))
+    ≡ puts out next (placementsAfter (afterMost - k) (keep (lexLess bound) (listIn t facts payload decoded dir m)))
 
 abbrev μ-loop : tie.MeasureT-loop
-μ-loop out₀ at t facts payload decoded dir m bound₀ next₀ k₀ dots out bound next k = behindMost - k
+μ-loop out₀ at t facts payload decoded dir m bound₀ next₀ k₀ dots out bound next k = afterMost - k
 
 loop-holds : tie.Need-loop-holds Inv-loop μ-loop
 loop-holds c = refl
@@ -89,8 +89,8 @@ same-length-2 c = same (returns-2 c)
 same-length-3 : tie.Need-same-length-3 Inv-loop μ-loop
 same-length-3 c = same (returns-3 c)
 
-pub put-behind-spec : {M : Type 1} → statement M
-put-behind-spec =
+pub put-after-spec : {M : Type 1} → statement M
+put-after-spec =
     tie.close
     (tie.spec
     Inv-loop

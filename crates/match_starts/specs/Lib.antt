@@ -1,0 +1,2 @@
+-- What the contracts of `match_starts` cite besides the definitions.
+pub mod StartTexts
