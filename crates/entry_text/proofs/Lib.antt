@@ -1,2 +1,2 @@
 -- How the parts of an item's text go together.
-pub mod Gathering
+pub mod Items

@@ -15,6 +15,7 @@ use definitions::table::Table;
 use output::limits::at_most;
 use output::put;
 use output::put_decimal;
+use output::put_front;
 use output::put_word;
 use pattern_text::put_pattern;
 use test_text::put_address_test;
@@ -24,23 +25,23 @@ use test_text::put_number_test;
 use test_text::put_size_test;
 use test_text::put_ttl_test;
 
+// The option name: the first `len` bytes of the name, between quotes.
 pub fn put_name(out: &mut [u8], at: usize, name: [u8; NAME_BYTES], len: usize) -> usize
     ensures { λ r. ⌜ Puts (now (out .entry)) at (entryText (Name (take len name))) (now (out .exit)) r ⌝ }
 {
-    let all = &name[..];
-    let n = at_most(len, NAME_BYTES);
     let a1 = put_word(out, at, b" --name \"");
-    let a2 = put_word(out, a1, &all[0..n]);
-    let a3 = put(out, a2, 34);
-    put(out, a3, 59)
+    let a2 = put_front(out, a1, &name[..], len);
+    let a3 = put(out, a2, b'"');
+    put(out, a3, b';')
 }
 
+// The option protocol, as a number.
 pub fn put_protocol(out: &mut [u8], at: usize, p: u8) -> usize
     ensures { λ r. ⌜ Puts (now (out .entry)) at (entryText (Protocol p)) (now (out .exit)) r ⌝ }
 {
     let a1 = put_word(out, at, b" --protocol ");
     let a2 = put_decimal(out, a1, p as u64);
-    put(out, a2, 59)
+    put(out, a2, b';')
 }
 
 // An item's options; `b` are the pattern bytes from its own on.
@@ -74,6 +75,7 @@ fn place_behind(slot: Slot, from: usize, len: usize) -> usize
     from + at_most(p.len, len - from)
 }
 
+// The options of the first `count` items, whose pattern bytes stand one behind the other.
 fn put_items(out: &mut [u8], at: usize, items: [Slot; ITEMS], count: usize, bytes: &[u8]) -> usize
     ensures { λ r. ⌜ Puts (now (out .entry)) at (entriesText (slotEntries (take count items) (now (bytes .entry)))) (now (out .exit)) r ⌝ }
 {
@@ -90,6 +92,7 @@ fn put_items(out: &mut [u8], at: usize, items: [Slot; ITEMS], count: usize, byte
     next
 }
 
+// The options of a table's items.
 pub fn put_table_items(out: &mut [u8], at: usize, t: Table) -> usize
     ensures { λ r. ⌜ Puts (now (out .entry)) at (entriesText (slotEntries (slotsOf t) (t .bytes))) (now (out .exit)) r ⌝ }
 {

@@ -1,2 +1,2 @@
 -- How the parts of house text go together.
-pub mod Gathering
+pub mod Canonical

@@ -5,7 +5,8 @@ use definitions::table::Table;
 use entry_text::put_name;
 use entry_text::put_protocol;
 use entry_text::put_table_items;
-use keywords::put_flow;
+use keywords::flow_keyword;
+use keywords::put_keyword;
 use output::put_word;
 
 // The house text at the front of the buffer; the answer is its length.
@@ -17,7 +18,7 @@ pub fn put_house(out: &mut [u8], t: Table) -> usize
     let a1 = put_word(out, 0, b"F-SBID(");
     let a2 = put_name(out, a1, name, t.len);
     let a3 = put_protocol(out, a2, t.protocol);
-    let a4 = put_flow(out, a3, flow);
+    let a4 = put_keyword(out, a3, flow_keyword(flow));
     let a5 = put_table_items(out, a4, t);
     put_word(out, a5, b" )")
 }

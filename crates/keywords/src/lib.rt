@@ -1,5 +1,7 @@
-// Keywords, as house text has them; what it leaves out is empty.
-ghost use Rattle.definitions.specs.House.{flowEntry, sideName, numberName, orderText, fieldName, operatorText, sizeFieldText, referenceText, contextEntry, entriesText, textIf};
+// Keywords, as house text has them; what it leaves out is empty. They stand in one table, and one function puts any of them.
+ghost use mathlib.Core.Path.{_≡_};
+ghost use Rattle.definitions.specs.House.{sideName, numberName, orderText, fieldName, operatorText, sizeFieldText, referenceText};
+ghost use Rattle.keywords.specs.Keywords.{Listed, spelled, Spells, flowOption, contextOption};
 ghost use Rattle.output.specs.Puts.{Puts};
 use definitions::table::Context;
 use definitions::table::Flow;
@@ -12,113 +14,130 @@ use definitions::table::Side;
 use definitions::table::SizeField;
 use output::put_word;
 
-// A word, if it is wanted.
-pub fn put_if(out: &mut [u8], at: usize, wanted: bool, w: &[u8]) -> usize
-    ensures { λ r. ⌜ Puts (now (out .entry)) at (textIf wanted (now (w .entry))) (now (out .exit)) r ⌝ }
+// A keyword: where its bytes start in the table, and the place behind them.
+pub struct Keyword(pub usize, pub usize);
+
+// Any keyword.
+pub fn put_keyword(out: &mut [u8], at: usize, k: Keyword) -> usize
+    requires { ⌜ Listed k ⌝ }
+    ensures { λ r. ⌜ Puts (now (out .entry)) at (spelled k) (now (out .exit)) r ⌝ }
 {
-    if wanted {
-        return put_word(out, at, w);
-    }
-    at
+    let table: &[u8] = b"src_addrdst_addrip_idsrc_portdst_portip_tos\
+        ip.total_lengthip.idip.checksumip.ttl\
+        !=<=>=\
+        ,uri,header,body,packet,context\
+        \x20--flow from_client; --flow from_server;\
+        \x20--context uri; --context header; --context body;\
+        \x20--context banner; --context host; --context file;";
+    let from = k.0;
+    let to = k.1;
+    put_word(out, at, &table[from..to])
 }
 
-// The option flow, if given.
-pub fn put_flow(out: &mut [u8], at: usize, f: Flow) -> usize
-    ensures { λ r. ⌜ Puts (now (out .entry)) at (entriesText (flowEntry f)) (now (out .exit)) r ⌝ }
+// The option flow, empty where none is given.
+pub fn flow_keyword(f: Flow) -> Keyword
+    ensures { λ k. ⌜ Spells k (flowOption f) ⌝ }
 {
     match f {
-        Flow::Any => at,
-        Flow::FromClient => put_word(out, at, b" --flow from_client;"),
-        Flow::FromServer => put_word(out, at, b" --flow from_server;"),
+        Flow::Any => Keyword(0, 0),
+        Flow::FromClient => Keyword(117, 137),
+        Flow::FromServer => Keyword(137, 157),
     }
 }
 
-pub fn put_side(out: &mut [u8], at: usize, s: Side) -> usize
-    ensures { λ r. ⌜ Puts (now (out .entry)) at (sideName s) (now (out .exit)) r ⌝ }
+// The name of the option that tests a side's address.
+pub fn side_keyword(s: Side) -> Keyword
+    ensures { λ k. ⌜ Spells k (sideName s) ⌝ }
 {
     match s {
-        Side::Source => put_word(out, at, b"src_addr"),
-        Side::Destination => put_word(out, at, b"dst_addr"),
+        Side::Source => Keyword(0, 8),
+        Side::Destination => Keyword(8, 16),
     }
 }
 
-pub fn put_number_field(out: &mut [u8], at: usize, f: NumberField) -> usize
-    ensures { λ r. ⌜ Puts (now (out .entry)) at (numberName f) (now (out .exit)) r ⌝ }
+// The name of the option that tests a number.
+pub fn number_field_keyword(f: NumberField) -> Keyword
+    ensures { λ k. ⌜ Spells k (numberName f) ⌝ }
 {
     match f {
-        NumberField::IpId => put_word(out, at, b"ip_id"),
-        NumberField::SourcePort => put_word(out, at, b"src_port"),
-        NumberField::DestinationPort => put_word(out, at, b"dst_port"),
-        NumberField::Tos => put_word(out, at, b"ip_tos"),
+        NumberField::IpId => Keyword(16, 21),
+        NumberField::SourcePort => Keyword(21, 29),
+        NumberField::DestinationPort => Keyword(29, 37),
+        NumberField::Tos => Keyword(37, 43),
     }
 }
 
-pub fn put_order(out: &mut [u8], at: usize, o: Order) -> usize
-    ensures { λ r. ⌜ Puts (now (out .entry)) at (orderText o) (now (out .exit)) r ⌝ }
+// The sign before a number; equal is left out.
+pub fn order_keyword(o: Order) -> Keyword
+    ensures { λ k. ⌜ Spells k (orderText o) ⌝ }
 {
     match o {
-        Order::Equal => at,
-        Order::Less => put_word(out, at, b"<"),
-        Order::Greater => put_word(out, at, b">"),
+        Order::Equal => Keyword(0, 0),
+        Order::Less => Keyword(82, 83),
+        Order::Greater => Keyword(84, 85),
     }
 }
 
-pub fn put_header_field(out: &mut [u8], at: usize, f: HeaderField) -> usize
-    ensures { λ r. ⌜ Puts (now (out .entry)) at (fieldName f) (now (out .exit)) r ⌝ }
+// The name of the option that tests a field of the header.
+pub fn header_field_keyword(f: HeaderField) -> Keyword
+    ensures { λ k. ⌜ Spells k (fieldName f) ⌝ }
 {
     match f {
-        HeaderField::TotalLength => put_word(out, at, b"ip.total_length"),
-        HeaderField::Id => put_word(out, at, b"ip.id"),
-        HeaderField::Checksum => put_word(out, at, b"ip.checksum"),
-        HeaderField::Ttl => put_word(out, at, b"ip.ttl"),
+        HeaderField::TotalLength => Keyword(43, 58),
+        HeaderField::Id => Keyword(58, 63),
+        HeaderField::Checksum => Keyword(63, 74),
+        HeaderField::Ttl => Keyword(74, 80),
     }
 }
 
-pub fn put_operator(out: &mut [u8], at: usize, o: Operator) -> usize
-    ensures { λ r. ⌜ Puts (now (out .entry)) at (operatorText o) (now (out .exit)) r ⌝ }
+// The operator of a field test.
+pub fn operator_keyword(o: Operator) -> Keyword
+    ensures { λ k. ⌜ Spells k (operatorText o) ⌝ }
 {
     match o {
-        Operator::Equal => put_word(out, at, b"="),
-        Operator::Unequal => put_word(out, at, b"!="),
-        Operator::Less => put_word(out, at, b"<"),
-        Operator::Greater => put_word(out, at, b">"),
-        Operator::AtMost => put_word(out, at, b"<="),
-        Operator::AtLeast => put_word(out, at, b">="),
+        Operator::Equal => Keyword(81, 82),
+        Operator::Unequal => Keyword(80, 82),
+        Operator::Less => Keyword(82, 83),
+        Operator::Greater => Keyword(84, 85),
+        Operator::AtMost => Keyword(82, 84),
+        Operator::AtLeast => Keyword(84, 86),
     }
 }
 
-pub fn put_size_field(out: &mut [u8], at: usize, f: SizeField) -> usize
-    ensures { λ r. ⌜ Puts (now (out .entry)) at (sizeFieldText f) (now (out .exit)) r ⌝ }
+// The part whose size is tested, behind a comma; the payload is left out.
+pub fn size_field_keyword(f: SizeField) -> Keyword
+    ensures { λ k. ⌜ Spells k (sizeFieldText f) ⌝ }
 {
     match f {
-        SizeField::Payload => at,
-        SizeField::Uri => put_word(out, at, b",uri"),
-        SizeField::Header => put_word(out, at, b",header"),
-        SizeField::Body => put_word(out, at, b",body"),
+        SizeField::Payload => Keyword(0, 0),
+        SizeField::Uri => Keyword(86, 90),
+        SizeField::Header => Keyword(90, 97),
+        SizeField::Body => Keyword(97, 102),
     }
 }
 
-pub fn put_reference(out: &mut [u8], at: usize, f: Reference) -> usize
-    ensures { λ r. ⌜ Puts (now (out .entry)) at (referenceText f) (now (out .exit)) r ⌝ }
+// What a place is counted from, behind a comma; the last match is left out.
+pub fn reference_keyword(r: Reference) -> Keyword
+    ensures { λ k. ⌜ Spells k (referenceText r) ⌝ }
 {
-    match f {
-        Reference::Match => at,
-        Reference::Packet => put_word(out, at, b",packet"),
-        Reference::Context => put_word(out, at, b",context"),
+    match r {
+        Reference::Match => Keyword(0, 0),
+        Reference::Packet => Keyword(102, 109),
+        Reference::Context => Keyword(109, 117),
     }
 }
 
 // The option context; packet is left out.
-pub fn put_context(out: &mut [u8], at: usize, c: Context) -> usize
-    ensures { λ r. ⌜ Puts (now (out .entry)) at (entriesText (contextEntry c)) (now (out .exit)) r ⌝ }
+pub fn context_keyword(c: Context) -> Keyword
+    ensures { λ k. ⌜ Spells k (contextOption c) ⌝ }
 {
     match c {
-        Context::Packet => at,
-        Context::Uri => put_word(out, at, b" --context uri;"),
-        Context::Header => put_word(out, at, b" --context header;"),
-        Context::Body => put_word(out, at, b" --context body;"),
-        Context::Banner => put_word(out, at, b" --context banner;"),
-        Context::Host => put_word(out, at, b" --context host;"),
-        Context::File => put_word(out, at, b" --context file;"),
+        Context::Packet => Keyword(0, 0),
+        Context::Uri => Keyword(157, 172),
+        Context::Header => Keyword(172, 190),
+        Context::Body => Keyword(190, 206),
+        Context::Banner => Keyword(206, 224),
+        Context::Host => Keyword(224, 240),
+        Context::File => Keyword(240, 256),
     }
 }

@@ -18,7 +18,9 @@ digits-enough (suc k) zero n g h = rw (lt-ltb n 10 (omega (arith, h)))
 digits-enough (suc k) (suc j) n g h =
     by-cases (ltb n 10)
     (λ t. rw t)
-    (λ t. rw t (ap (λ (l : List ℕ). l ++ ((48 + n % 10) ∷ [])) (digits-enough k j (n / 10) (omega (arith, g, ltb-false n 10 t)) (omega (arith, h, ltb-false n 10 t)))))
+    (λ t.
+    let ten : 10 ≤ n = ltb-false n 10 t in
+    rw t (ap (λ (l : List ℕ). l ++ ((48 + n % 10) ∷ [])) (digits-enough k j (n / 10) (omega (arith, g, ten)) (omega (arith, h, ten)))))
 
 pub decimal-one : (n : ℕ) → n < 10 → decimal n ≡ (48 + n % 10) ∷ []
 unfolding digitsOf
@@ -27,4 +29,6 @@ decimal-one n h = rw (lt-ltb n 10 h) (ap (λ (d : ℕ). (48 + d) ∷ []) (omega 
 pub decimal-more : (n : ℕ) → 10 ≤ n → decimal n ≡ decimal (n / 10) ++ ((48 + n % 10) ∷ [])
 unfolding digitsOf
 decimal-more zero h = absurd (let z : ⊥ = omega (arith, h) in z)
-decimal-more (suc n) h = rw (le-ltb (suc n) 10 h) (ap (λ (l : List ℕ). l ++ ((48 + suc n % 10) ∷ [])) (digits-enough n (suc n / 10) (suc n / 10) (omega (arith, h)) (omega arith)))
+decimal-more (suc n) h =
+    rw (le-ltb (suc n) 10 h)
+    (ap (λ (l : List ℕ). l ++ ((48 + suc n % 10) ∷ [])) (digits-enough n (suc n / 10) (suc n / 10) (omega (arith, h)) (omega arith)))

@@ -1,11 +1,10 @@
 -- What is put in parts is put as a whole.
 use mathlib.Core.Path.{_≡_, refl, sym, ap, subst, _∙_}
 use mathlib.Core.List.{List, [], _∷_, _++_}
-use Prim.Native.Nat.{ℕ, zero, suc, _+_, _≤_, _<_}
+use Prim.Native.Nat.{ℕ, suc, _+_, _≤_, _<_}
 use native.Mathlib.Numerals.{add-one}
-use native.Mathlib.Nat.{not-suc-le-zero, le-of-suc-le-suc}
 use lib.ListN.{length, set, getD, drop, length-set, drop-of-length-le}
-use lib.Seq.{drop-cons}
+use lib.Seq.{drop-cons, set-out}
 use native.Mathlib.Omega.{arith}
 use borrow.Author.Tests.{lt-ltb}
 use Rattle.output.specs.Puts.{countedMost, counted, puts, Puts}
@@ -17,14 +16,10 @@ unfolding puts
 one-put {out = out} {at = at} {b = b} e = record { is = ap (λ (n : ℕ). (set out at b, n)) e }
 
 -- past the end nothing is kept
-pub set-past : (out : List ℕ) (at b : ℕ) → length out ≤ at → set out at b ≡ out
-set-past [] at b h = refl
-set-past (x ∷ out) zero b h = absurd (not-suc-le-zero h)
-set-past (x ∷ out) (suc at) b h = ap (λ (l : List ℕ). x ∷ l) (set-past out at b (le-of-suc-le-suc h))
-
 pub one-past : {out : List ℕ} {at b next : ℕ} → length out ≤ at → next ≡ counted at → Puts out at (b ∷ []) out next
 unfolding puts
-one-past {out = out} {at = at} {b = b} {next = next} h e = record { is = ap (λ (l : List ℕ). (l, next)) (sym (set-past out at b h)) ∙ ap (λ (n : ℕ). (set out at b, n)) e }
+one-past {out = out} {at = at} {b = b} {next = next} h e =
+    record { is = ap (λ (l : List ℕ). (l, next)) (sym (set-out out at b h)) ∙ ap (λ (n : ℕ). (set out at b, n)) e }
 
 pub counted-one : (at : ℕ) → at < countedMost → counted at ≡ suc at
 unfolding counted
@@ -44,7 +39,7 @@ all-past out at (b ∷ l) h g =
       is =
           ap (λ (n : ℕ). (out, n)) (sym e)
           ∙ all-past out (suc at) l (omega (arith, h)) (omega (arith, g)) .is
-          ∙ sym (rw (set-past out at b h, counted-one at (omega (arith, g))));
+          ∙ sym (rw (set-out out at b h, counted-one at (omega (arith, g))));
     }
 
 -- ---- parts
@@ -81,7 +76,8 @@ same-length {out = out} {at = at} {l = l} e = ap (λ (p : List ℕ × ℕ). leng
 
 -- ---- a list, byte by byte
 
-pub put-on : (out : List ℕ) (at : ℕ) (w : List ℕ) (i : ℕ) {o : List ℕ} {n : ℕ} → i < length w → Puts out at (getD w i 0 ∷ []) o n → puts out at (drop i w) ≡ puts o n (drop (i + 1) w)
+pub put-on : (out : List ℕ) (at : ℕ) (w : List ℕ) (i : ℕ) {o : List ℕ} {n : ℕ} → i < length w → Puts out at (getD w i 0 ∷ []) o n
+    → puts out at (drop i w) ≡ puts o n (drop (i + 1) w)
 unfolding puts
 put-on out at w i h e = rw (drop-cons w i 0 h, add-one i) (ap (λ (p : List ℕ × ℕ). puts (p .0) (p .1) (drop (suc i) w)) (sym (e .is)))
 

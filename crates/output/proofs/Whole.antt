@@ -45,10 +45,12 @@ puts-count out at (b ∷ l) h =
 puts-sets : (out : List ℕ) (at : ℕ) (l : List ℕ) → at + length l ≤ countedMost → puts out at l .0 ≡ sets out at l
 unfolding puts
 puts-sets out at [] h = refl
-puts-sets out at (b ∷ l) h = ap (λ (k : ℕ). puts (set out at b) k l .0) (counted-one at (omega (arith, h))) ∙ puts-sets (set out at b) (suc at) l (omega (arith, h))
+puts-sets out at (b ∷ l) h =
+    ap (λ (k : ℕ). puts (set out at b) k l .0) (counted-one at (omega (arith, h))) ∙ puts-sets (set out at b) (suc at) l (omega (arith, h))
 
 -- bytes that have room in the buffer stand there, and nothing else is touched
-pub puts-buffer : (out : List ℕ) (at : ℕ) (l : List ℕ) → at + length l ≤ length out → at + length l ≤ countedMost → puts out at l .0 ≡ (take at out ++ l) ++ drop (at + length l) out
+pub puts-buffer : (out : List ℕ) (at : ℕ) (l : List ℕ) → at + length l ≤ length out → at + length l ≤ countedMost
+    → puts out at l .0 ≡ (take at out ++ l) ++ drop (at + length l) out
 puts-buffer out at l h g = puts-sets out at l g ∙ sets-eq l out at h
 
 -- ---- from any place on
@@ -72,14 +74,16 @@ onward-at out at [] = le-refl at
 onward-at out at (b ∷ l) = le-trans (later at) (onward-at (set out at b) (counted at) l)
 
 -- what was counted and has room stands behind it
-pub placed-whole : (out : List ℕ) (at : ℕ) {l after : List ℕ} {n : ℕ} → Puts out at l after n → n < countedMost → n ≤ length out → take n after ≡ take at out ++ l
+pub placed-whole : (out : List ℕ) (at : ℕ) {l after : List ℕ} {n : ℕ} → Puts out at l after n → n < countedMost → n ≤ length out
+    → take n after ≡ take at out ++ l
 placed-whole out at {l = l} {after = after} {n = n} p few room =
     let last : n ≡ puts out at l .1 = ap (λ (q : List ℕ × ℕ). q .1) (p .is) in
     let starts : at ≤ n = subst (λ (k : ℕ). at ≤ k) (sym last) (onward-at out at l) in
     let counts : n ≡ atMost (at + length l) countedMost = last ∙ puts-count out at l (omega (arith, starts, few)) in
     let fits : at + length l ≤ countedMost = within (at + length l) counts in
     let is : n ≡ at + length l = counts ∙ most-of (at + length l) countedMost fits in
-    let long : length (take at out ++ l) ≡ n = length-append (take at out) l ∙ ap (λ (k : ℕ). k + length l) (length-take-le at out (omega (arith, starts, room))) ∙ sym is in
+    let before : length (take at out) ≡ at = length-take-le at out (omega (arith, starts, room)) in
+    let long : length (take at out ++ l) ≡ n = length-append (take at out) l ∙ ap (λ (k : ℕ). k + length l) before ∙ sym is in
     ap (λ (q : List ℕ × ℕ). take n (q .0)) (p .is)
     ∙ ap (take n) (puts-buffer out at l (omega (arith, is, room)) fits)
     ∙ take-at (take at out ++ l) (drop (at + length l) out) n long

@@ -3,14 +3,16 @@ pub mod limits;
 
 ghost use mathlib.Core.List.{[], _∷_};
 ghost use Prim.Native.Nat.{_+_, _≤_};
-ghost use lib.ListN.{length};
-ghost use Rattle.definitions.specs.House.{decimal};
+ghost use lib.ListN.{length, take};
+ghost use Rattle.definitions.specs.House.{decimal, textIf};
 ghost use mathlib.Core.Path.{_≡_};
 ghost use Rattle.output.specs.Puts.{countedMost, counted, Puts};
+use crate::limits::at_most;
 
 // So many bytes are counted: no sum wraps, whatever is put.
 pub const COUNTED: usize = 4294967295;
 
+// The place behind one byte more.
 fn next_place(at: usize) -> usize
     ensures { λ r. ⌜ r ≡ counted at ⌝ }
 {
@@ -73,11 +75,29 @@ pub fn put_word(out: &mut [u8], at: usize, w: &[u8]) -> usize
     put_each(out, at, w)
 }
 
+// The first `n` bytes of a word, or all of it if it has fewer.
+pub fn put_front(out: &mut [u8], at: usize, w: &[u8], n: usize) -> usize
+    ensures { λ r. ⌜ Puts (now (out .entry)) at (take n (now (w .entry))) (now (out .exit)) r ⌝ }
+{
+    let k = at_most(n, w.len());
+    put_word(out, at, &w[0..k])
+}
+
+// A word, if it is wanted.
+pub fn put_if(out: &mut [u8], at: usize, wanted: bool, w: &[u8]) -> usize
+    ensures { λ r. ⌜ Puts (now (out .entry)) at (textIf wanted (now (w .entry))) (now (out .exit)) r ⌝ }
+{
+    if wanted {
+        return put_word(out, at, w);
+    }
+    at
+}
+
 // A number in decimal, without leading zeros.
 pub fn put_decimal(out: &mut [u8], at: usize, n: u64) -> usize
     ensures { λ r. ⌜ Puts (now (out .entry)) at (decimal n) (now (out .exit)) r ⌝ }
 {
-    let last = 48 + (n % 10) as u8;
+    let last = b'0' + (n % 10) as u8;
     if n < 10 {
         return put(out, at, last);
     }

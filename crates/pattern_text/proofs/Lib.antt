@@ -1,4 +1,3 @@
 -- How the parts of a pattern's text go together.
 pub mod Signs
-pub mod Texts
-pub mod Gathering
+pub mod Entries

@@ -1,2 +1,2 @@
 -- What the parts of a test's text are made of.
-pub mod Texts
+pub mod AddressLists

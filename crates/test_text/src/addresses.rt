@@ -6,11 +6,12 @@ ghost use Rattle.definitions.specs.House.{addressesText, bracketed};
 ghost use Rattle.output.specs.Puts.{Puts};
 use definitions::limits::ADDRESSES;
 use definitions::table::Address;
-use keywords::put_if;
 use output::limits::at_most;
 use output::put;
+use output::put_if;
 use value_text::put_address;
 
+// The first `n` addresses, a comma between two.
 fn put_list(out: &mut [u8], at: usize, list: [Address; ADDRESSES], n: usize) -> usize
     requires { ⌜ n ≤ addressesMost ⌝ }
     ensures { λ r. ⌜ Puts (now (out .entry)) at (addressesText (take n list)) (now (out .exit)) r ⌝ }
@@ -26,14 +27,15 @@ fn put_list(out: &mut [u8], at: usize, list: [Address; ADDRESSES], n: usize) -> 
     next
 }
 
+// The first `count` addresses of a list, in brackets if they are two or more.
 pub fn put_bracketed(out: &mut [u8], at: usize, list: [Address; ADDRESSES], count: usize) -> usize
     ensures { λ r. ⌜ Puts (now (out .entry)) at (bracketed (take count list)) (now (out .exit)) r ⌝ }
 {
     let n = at_most(count, ADDRESSES);
     if 1 < n {
-        let a1 = put(out, at, 91);
+        let a1 = put(out, at, b'[');
         let a2 = put_list(out, a1, list, n);
-        return put(out, a2, 93);
+        return put(out, a2, b']');
     }
     put_list(out, at, list, n)
 }

@@ -15,18 +15,20 @@ use definitions::table::FieldTest;
 use definitions::table::NumberTest;
 use definitions::table::SizeTest;
 use definitions::table::TtlTest;
-use keywords::put_header_field;
-use keywords::put_if;
-use keywords::put_number_field;
-use keywords::put_operator;
-use keywords::put_order;
-use keywords::put_side;
-use keywords::put_size_field;
+use keywords::header_field_keyword;
+use keywords::number_field_keyword;
+use keywords::operator_keyword;
+use keywords::order_keyword;
+use keywords::put_keyword;
+use keywords::side_keyword;
+use keywords::size_field_keyword;
 use output::put;
 use output::put_decimal;
+use output::put_if;
 use output::put_word;
 use value_text::put_mask;
 
+// The option that tests a side's address against a list, negated or not.
 pub fn put_address_test(
     out: &mut [u8],
     at: usize,
@@ -37,66 +39,71 @@ pub fn put_address_test(
 {
     let side = t.side;
     let a1 = put_word(out, at, b" --");
-    let a2 = put_side(out, a1, side);
-    let a3 = put(out, a2, 32);
+    let a2 = put_keyword(out, a1, side_keyword(side));
+    let a3 = put(out, a2, b' ');
     let a4 = put_if(out, a3, t.negated, b"!");
     let a5 = put_bracketed(out, a4, list, t.count);
-    put(out, a5, 59)
+    put(out, a5, b';')
 }
 
+// The option that tests a number for equality.
 pub fn put_number_test(out: &mut [u8], at: usize, t: NumberTest) -> usize
     ensures { λ r. ⌜ Puts (now (out .entry)) at (testText (item.Number t) []) (now (out .exit)) r ⌝ }
 {
     let field = t.field;
     let a1 = put_word(out, at, b" --");
-    let a2 = put_number_field(out, a1, field);
-    let a3 = put(out, a2, 32);
+    let a2 = put_keyword(out, a1, number_field_keyword(field));
+    let a3 = put(out, a2, b' ');
     let a4 = put_decimal(out, a3, t.number as u64);
-    put(out, a4, 59)
+    put(out, a4, b';')
 }
 
+// The option that compares the time to live.
 pub fn put_ttl_test(out: &mut [u8], at: usize, t: TtlTest) -> usize
     ensures { λ r. ⌜ Puts (now (out .entry)) at (testText (item.Ttl t) []) (now (out .exit)) r ⌝ }
 {
     let order = t.order;
     let a1 = put_word(out, at, b" --ip_ttl ");
-    let a2 = put_order(out, a1, order);
+    let a2 = put_keyword(out, a1, order_keyword(order));
     let a3 = put_decimal(out, a2, t.number as u64);
-    put(out, a3, 59)
+    put(out, a3, b';')
 }
 
+// The option that compares a field of the header, masked or not.
 pub fn put_field_test(out: &mut [u8], at: usize, t: FieldTest) -> usize
     ensures { λ r. ⌜ Puts (now (out .entry)) at (testText (item.Field t) []) (now (out .exit)) r ⌝ }
 {
     let field = t.field;
     let operator = t.operator;
     let a1 = put_word(out, at, b" --");
-    let a2 = put_header_field(out, a1, field);
-    let a3 = put(out, a2, 32);
+    let a2 = put_keyword(out, a1, header_field_keyword(field));
+    let a3 = put(out, a2, b' ');
     let a4 = put_mask(out, a3, t);
-    let a5 = put_operator(out, a4, operator);
-    let a6 = put(out, a5, 32);
+    let a5 = put_keyword(out, a4, operator_keyword(operator));
+    let a6 = put(out, a5, b' ');
     let a7 = put_decimal(out, a6, t.number as u64);
-    put(out, a7, 59)
+    put(out, a7, b';')
 }
 
+// The option that compares the size of a part of the packet.
 pub fn put_size_test(out: &mut [u8], at: usize, t: SizeTest) -> usize
     ensures { λ r. ⌜ Puts (now (out .entry)) at (testText (item.Size t) []) (now (out .exit)) r ⌝ }
 {
     let order = t.order;
     let field = t.field;
     let a1 = put_word(out, at, b" --data_size ");
-    let a2 = put_order(out, a1, order);
+    let a2 = put_keyword(out, a1, order_keyword(order));
     let a3 = put_decimal(out, a2, t.number as u64);
-    let a4 = put_size_field(out, a3, field);
-    put(out, a4, 59)
+    let a4 = put_keyword(out, a3, size_field_keyword(field));
+    put(out, a4, b';')
 }
 
+// The option that asks for a byte at a place, counted from the last match if relative.
 pub fn put_at_test(out: &mut [u8], at: usize, t: AtTest) -> usize
     ensures { λ r. ⌜ Puts (now (out .entry)) at (testText (item.At t) []) (now (out .exit)) r ⌝ }
 {
     let a1 = put_word(out, at, b" --data_at ");
     let a2 = put_decimal(out, a1, t.number as u64);
     let a3 = put_if(out, a2, t.relative, b",relative");
-    put(out, a3, 59)
+    put(out, a3, b';')
 }

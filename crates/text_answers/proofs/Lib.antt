@@ -1,2 +1,2 @@
 -- How the answer to a text follows.
-pub mod Answering
+pub mod Answers

@@ -12,9 +12,9 @@ use definitions::answers::Refusal;
 use definitions::answers::Writing;
 use definitions::limits::HOUSE_BYTES;
 use definitions::table::Table;
-use output::limits::at_most;
 use output::put;
 use output::put_decimal;
+use output::put_front;
 use output::put_word;
 use reader::read;
 use writer::write;
@@ -24,7 +24,7 @@ fn put_refused(out: &mut [u8], at: usize, r: Refusal, place: usize) -> usize
     ensures { λ n. ⌜ Puts (now (out .entry)) at (refusedLine r place) (now (out .exit)) n ⌝ }
 {
     let a1 = put_decimal(out, at, number_of(r));
-    let a2 = put(out, a1, 9);
+    let a2 = put(out, a1, b'\t');
     put_decimal(out, a2, place as u64)
 }
 
@@ -32,10 +32,8 @@ fn put_refused(out: &mut [u8], at: usize, r: Refusal, place: usize) -> usize
 fn put_ok(out: &mut [u8], at: usize, house: [u8; HOUSE_BYTES], n: usize) -> usize
     ensures { λ r. ⌜ Puts (now (out .entry)) at (text "ok\t" ++ take n house) (now (out .exit)) r ⌝ }
 {
-    let all = &house[..];
-    let k = at_most(n, HOUSE_BYTES);
     let a1 = put_word(out, at, b"ok\t");
-    put_word(out, a1, &all[0..k])
+    put_front(out, a1, &house[..], n)
 }
 
 // The house text, or the writer's refusal.

@@ -6,7 +6,7 @@ use lib.ListN.{take}
 use Rattle.definitions.specs.declared.answers.Refusal.the-variants.{TextLength}
 use Rattle.definitions.specs.Limits.{limits01}
 use Rattle.definitions.specs.Lines.{refusedLine, lineOf}
-use Rattle.text_answers.proofs.Answering.{too-long}
+use Rattle.text_answers.proofs.Answers.{too-long}
 use Rattle.line_stream.proofs.Keeping.{kept-beyond}
 
 pub kept-line : (m : ℕ) (s : List ℕ) → limits01 .text < m → lineOf limits01 (take m s) ≡ lineOf limits01 s

@@ -1,3 +1,3 @@
 -- How the answer of a writing follows, and that what is written reads back.
-pub mod Dues
+pub mod Measured
 pub mod Reread

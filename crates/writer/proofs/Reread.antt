@@ -39,7 +39,9 @@ held-whole : (sls : List Slot) (us : List Val) → Held sls us → all? wholeSlo
 held-whole [] us h = all-none wholeSlot
 held-whole (sl ∷ sls) [] h = absurd h
 held-whole (sl ∷ sls) (u ∷ us) h =
-    all-more wholeSlot sl sls (eq-eqb (length (sl .addresses)) addressesMost (sym (length-map (sl .addresses) _) ∙ h .0 .1 .1 .1 .0 .1 .0 .1)) (held-whole sls us (h .1))
+    all-more wholeSlot sl sls
+    (eq-eqb (length (sl .addresses)) addressesMost (sym (length-map (sl .addresses) _) ∙ h .0 .1 .1 .1 .0 .1 .0 .1))
+    (held-whole sls us (h .1))
 
 -- a value of the type has the type's shape
 pub typed-shaped : (t : Table) (vs : List Val) → Is table-type.the-row t vs → Shaped (limits01 .room) t

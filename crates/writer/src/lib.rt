@@ -8,7 +8,7 @@ use definitions::limits::HOUSE_BYTES;
 use definitions::table::Table;
 use formed::well_formed;
 use house::put_house;
-use output::put_word;
+use output::put_front;
 
 // The text is put into room of its own, of the length that it may have, which also measures it; where nothing is due, it is copied into the buffer that is
 // lent.
@@ -26,8 +26,7 @@ fn write_measured(t: Table, room: &mut [u8; HOUSE_BYTES], out: &mut [u8]) -> Wri
     if out.len() < n {
         return Writing::Refused(Refusal::ShortBuffer);
     }
-    let all = &room[..];
-    let len = put_word(out, 0, &all[0..n]);
+    let len = put_front(out, 0, &room[..], n);
     Writing::Written(len)
 }
 

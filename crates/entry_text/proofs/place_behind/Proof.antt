@@ -13,7 +13,9 @@ enum-known-item : tie.Need-enum-known-item
 enum-known-item c = search needs
 
 returns : tie.Need-returns
-returns c = other-kind (λ (k : Kind). c .before .args .from ≡ placeBehind k (c .before .args .from) (c .before .args .len)) refl (λ a. refl) refl (c .before .args .slot .item) (c .match .keys2)
+returns c =
+    let c1 = c .before in
+    other-kind (λ (k : Kind). c1 .args .from ≡ placeBehind k (c1 .args .from) (c1 .args .len)) refl (λ a. refl) refl (c1 .args .slot .item) (c .match .keys2)
 
 sub-at-most : tie.Need-sub-at-most
 sub-at-most c = search needs
@@ -22,7 +24,10 @@ at-most-requires : tie.Need-at-most-requires
 at-most-requires c κs = tt
 
 add-result : tie.Need-add-result
-add-result c = omega (arith, c .at-most .ensures, at-most-le (c .before .before .item .given .0 .0 .len) (c .before .before .before .before .args .len - c .before .before .before .before .args .from))
+add-result c =
+    let c2 = c .before .before in
+    let c4 = c2 .before .before in
+    omega (arith, c .at-most .ensures, at-most-le (c2 .item .given .0 .0 .len) (c4 .args .len - c4 .args .from))
 
 returns-2 : tie.Need-returns-2
 returns-2 c = rw (ap kindOf (c .before .before .item .given .1), c .at-most .ensures)

@@ -6,13 +6,14 @@ use native.Mathlib.Omega.{arith}
 use lib.ListN.{length, take, drop, getD}
 use borrow.Rule.Slice.PartAt.{part-to-end}
 use Rattle.definitions.specs.declared.table.Item.the-variants as item
+use Rattle.definitions.specs.declared.table.Slot.{Slot}
 use Rattle.definitions.specs.Limits.{itemsMost}
 use Rattle.definitions.specs.Items.{kindOf, behindItem}
 use Rattle.definitions.specs.House.{itemEntries, slotEntries, entriesText}
 use Rattle.output.specs.Puts.{puts}
 use Rattle.output.proofs.Putting.{onward, told, same-length as same}
 use Rattle.output.proofs.Clipping.{at-most-le, taken-most}
-use Rattle.entry_text.proofs.Gathering.{items-on, items-end, behind-is}
+use Rattle.entry_text.proofs.Items.{items-on, items-end, behind-is}
 use Rattle.entry_text.proofs.put_items.Statement.{statement}
 use Rattle.entry_text.proofs.put_items.Tie as tie
 
@@ -63,20 +64,23 @@ loop-again c =
     let loop = c .before .before .before .before .before .before .before .before .loop in
     let n = c .before .before .before .before .before .before .before .before .before .at-most .result in
     let bytes = args .bytes .now in
-    let sl = getD (args .t3) (loop .i) (record { item = item.Unused; addresses = [] }) in
+    let none : Slot = record { item = item.Unused; addresses = [] } in
+    let sl = getD (args .t3) (loop .i) none in
+    let more = c .before .before .before .before .before .before .before .loop-test .taken in
     let long : n ≤ length (args .t3) = omega arith in
     let behind = behind-is (kindOf (sl .item)) bytes (loop .from) (loop .inv .2) in
     let rest : List ℕ → List ℕ = λ b. entriesText (slotEntries (drop (loop .i + 1) (take n (args .t3))) b) in
     let one : List ℕ → List ℕ = λ b. entriesText (itemEntries (kindOf (sl .item)) sl b) in
-    let put = told {l = one (drop (loop .from) bytes)} (ap one (sym (part-to-end bytes (loop .from)))) (c .before .before .before .put-slot .ensures) in
+    let slot = c .before .before .before .put-slot in
+    let put = told {l = one (drop (loop .from) bytes)} (ap one (sym (part-to-end bytes (loop .from)))) (slot .ensures) in
     let place = c .place-behind .ensures in (
       omega arith,
       loop .inv .1,
       omega (arith, place, behind .1),
       loop .inv .3
-          ∙ ap (puts (loop .out) (loop .next)) (items-on (args .t3) n (loop .i) (record { item = item.Unused; addresses = [] }) (drop (loop .from) bytes) (c .before .before .before .before .before .before .before .loop-test .taken) long)
+          ∙ ap (puts (loop .out) (loop .next)) (items-on (args .t3) n (loop .i) none (drop (loop .from) bytes) more long)
           ∙ onward (rest (behindItem (kindOf (sl .item)) (drop (loop .from) bytes))) put
-          ∙ ap (λ b. puts (c .before .before .before .put-slot .last .0) (c .before .before .before .put-slot .result) (rest b)) (behind .0 ∙ ap (λ k. drop k bytes) (sym place)),
+          ∙ ap (λ b. puts (slot .last .0) (slot .result) (rest b)) (behind .0 ∙ ap (λ k. drop k bytes) (sym place)),
     )
 
 returns : tie.Need-returns Inv-loop μ-loop
@@ -86,8 +90,9 @@ returns c =
     let loop = c .before .loop in
     let n = c .before .before .at-most in
     let long : length (args .t3) ≡ itemsMost = omega arith in
+    let end = items-end (args .t3) (n .result) (loop .i) (drop (loop .from) (args .bytes .now)) (c .loop-test .left) in
     told (ap (λ l. entriesText (slotEntries l (args .bytes .now))) (taken-most (args .count) (args .t3) long (n .ensures)))
-    (record { is = sym (loop .inv .3 ∙ ap (puts (loop .out) (loop .next)) (items-end (args .t3) (n .result) (loop .i) (drop (loop .from) (args .bytes .now)) (c .loop-test .left))) })
+    (record { is = sym (loop .inv .3 ∙ ap (puts (loop .out) (loop .next)) end) })
 
 same-length : tie.Need-same-length Inv-loop μ-loop
 same-length c = same (returns c)

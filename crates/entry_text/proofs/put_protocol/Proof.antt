@@ -18,7 +18,11 @@ put-requires c κs = tt
 
 returns : tie.Need-returns
 unfolding entryText
-returns c = then (c .before .before .before .before .before .before .before .before .before .before .put-word .ensures) (then (c .before .before .before .before .before .before .put-decimal .ensures) (c .before .before .put .ensures))
+returns c =
+    let c2 = c .before .before in
+    let c6 = c2 .before .before .before .before in
+    let c10 = c6 .before .before .before .before in
+    then (c10 .put-word .ensures) (then (c6 .put-decimal .ensures) (c2 .put .ensures))
 
 same-length : tie.Need-same-length
 same-length c = same (returns c)

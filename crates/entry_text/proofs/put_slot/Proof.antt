@@ -1,7 +1,7 @@
 use mathlib.Core.Path.{refl}
 use Rattle.definitions.specs.declared.table.Item.the-variants as item
 use Rattle.definitions.specs.House.{testText}
-use Rattle.entry_text.proofs.Gathering.{unused-text, address-text, plain-text, pattern-text}
+use Rattle.entry_text.proofs.Items.{unused-text, address-text, plain-text, pattern-text}
 use Rattle.output.proofs.Putting.{none-put, told, same-length as same}
 use borrow.Author.Needs.{needs}
 use Rattle.entry_text.proofs.put_slot.Statement.{statement}
@@ -62,53 +62,87 @@ put-pattern-requires : tie.Need-put-pattern-requires
 put-pattern-requires c κs = tt
 
 returns : tie.Need-returns
-returns c = told (unused-text (c .before .before .before .before .before .args .slot) (c .before .before .before .before .before .args .b .now) (c .enum-told .given .1)) none-put
+returns c =
+    let c5 = c .before .before .before .before .before in
+    told (unused-text (c5 .args .slot) (c5 .args .b .now) (c .enum-told .given .1)) none-put
 
 returns-2 : tie.Need-returns-2
-returns-2 c = told (address-text (c .before .before .before .before .before .before .before .before .before .before .args .slot) (c .before .before .before .before .before .before .before .before .before .before .args .b .now) (c .before .before .before .before .before .item .given .0 .0) (c .before .before .before .before .before .item .given .1)) (c .before .before .put-address-test .ensures)
+returns-2 c =
+    let c2 = c .before .before in
+    let c5 = c2 .before .before .before in
+    let c10 = c5 .before .before .before .before .before in
+    told (address-text (c10 .args .slot) (c10 .args .b .now) (c5 .item .given .0 .0) (c5 .item .given .1)) (c2 .put-address-test .ensures)
 
 same-length : tie.Need-same-length
 same-length c = same (returns-2 c)
 
 returns-3 : tie.Need-returns-3
 unfolding testText
-returns-3 c = told (plain-text (c .before .before .before .before .before .before .before .before .before .before .args .slot) (c .before .before .before .before .before .before .before .before .before .before .args .b .now) item.SameIp refl (c .before .before .before .before .before .enum-told2 .given .1)) (c .before .before .put-word .ensures)
+returns-3 c =
+    let c2 = c .before .before in
+    let c5 = c2 .before .before .before in
+    let c10 = c5 .before .before .before .before .before in
+    told (plain-text (c10 .args .slot) (c10 .args .b .now) item.SameIp refl (c5 .enum-told2 .given .1)) (c2 .put-word .ensures)
 
 same-length-2 : tie.Need-same-length-2
 same-length-2 c = same (returns-3 c)
 
 returns-4 : tie.Need-returns-4
-returns-4 c = told (plain-text (c .before .before .before .before .before .before .before .before .before .before .args .slot) (c .before .before .before .before .before .before .before .before .before .before .args .b .now) (item.Number (c .before .before .before .before .before .item2 .given .0 .0)) refl (c .before .before .before .before .before .item2 .given .1)) (c .before .before .put-number-test .ensures)
+returns-4 c =
+    let c2 = c .before .before in
+    let c5 = c2 .before .before .before in
+    let c10 = c5 .before .before .before .before .before in
+    told (plain-text (c10 .args .slot) (c10 .args .b .now) (item.Number (c5 .item2 .given .0 .0)) refl (c5 .item2 .given .1)) (c2 .put-number-test .ensures)
 
 same-length-3 : tie.Need-same-length-3
 same-length-3 c = same (returns-4 c)
 
 returns-5 : tie.Need-returns-5
-returns-5 c = told (plain-text (c .before .before .before .before .before .before .before .before .before .before .args .slot) (c .before .before .before .before .before .before .before .before .before .before .args .b .now) (item.Ttl (c .before .before .before .before .before .item3 .given .0 .0)) refl (c .before .before .before .before .before .item3 .given .1)) (c .before .before .put-ttl-test .ensures)
+returns-5 c =
+    let c2 = c .before .before in
+    let c5 = c2 .before .before .before in
+    let c10 = c5 .before .before .before .before .before in
+    told (plain-text (c10 .args .slot) (c10 .args .b .now) (item.Ttl (c5 .item3 .given .0 .0)) refl (c5 .item3 .given .1)) (c2 .put-ttl-test .ensures)
 
 same-length-4 : tie.Need-same-length-4
 same-length-4 c = same (returns-5 c)
 
 returns-6 : tie.Need-returns-6
-returns-6 c = told (plain-text (c .before .before .before .before .before .before .before .before .before .before .args .slot) (c .before .before .before .before .before .before .before .before .before .before .args .b .now) (item.Field (c .before .before .before .before .before .item4 .given .0 .0)) refl (c .before .before .before .before .before .item4 .given .1)) (c .before .before .put-field-test .ensures)
+returns-6 c =
+    let c2 = c .before .before in
+    let c5 = c2 .before .before .before in
+    let c10 = c5 .before .before .before .before .before in
+    told (plain-text (c10 .args .slot) (c10 .args .b .now) (item.Field (c5 .item4 .given .0 .0)) refl (c5 .item4 .given .1)) (c2 .put-field-test .ensures)
 
 same-length-5 : tie.Need-same-length-5
 same-length-5 c = same (returns-6 c)
 
 returns-7 : tie.Need-returns-7
-returns-7 c = told (plain-text (c .before .before .before .before .before .before .before .before .before .before .args .slot) (c .before .before .before .before .before .before .before .before .before .before .args .b .now) (item.Size (c .before .before .before .before .before .item5 .given .0 .0)) refl (c .before .before .before .before .before .item5 .given .1)) (c .before .before .put-size-test .ensures)
+returns-7 c =
+    let c2 = c .before .before in
+    let c5 = c2 .before .before .before in
+    let c10 = c5 .before .before .before .before .before in
+    told (plain-text (c10 .args .slot) (c10 .args .b .now) (item.Size (c5 .item5 .given .0 .0)) refl (c5 .item5 .given .1)) (c2 .put-size-test .ensures)
 
 same-length-6 : tie.Need-same-length-6
 same-length-6 c = same (returns-7 c)
 
 returns-8 : tie.Need-returns-8
-returns-8 c = told (plain-text (c .before .before .before .before .before .before .before .before .before .before .args .slot) (c .before .before .before .before .before .before .before .before .before .before .args .b .now) (item.At (c .before .before .before .before .before .item6 .given .0 .0)) refl (c .before .before .before .before .before .item6 .given .1)) (c .before .before .put-at-test .ensures)
+returns-8 c =
+    let c2 = c .before .before in
+    let c5 = c2 .before .before .before in
+    let c10 = c5 .before .before .before .before .before in
+    told (plain-text (c10 .args .slot) (c10 .args .b .now) (item.At (c5 .item6 .given .0 .0)) refl (c5 .item6 .given .1)) (c2 .put-at-test .ensures)
 
 same-length-7 : tie.Need-same-length-7
 same-length-7 c = same (returns-8 c)
 
 returns-9 : tie.Need-returns-9
-returns-9 c = told (pattern-text (c .before .before .before .before .before .before .before .before .before .before .args .slot) (c .before .before .before .before .before .before .before .before .before .before .args .b .now) (c .before .before .before .before .before .item7 .given .0 .0) (c .before .before .before .before .before .item7 .given .1)) (c .before .before .put-pattern .ensures)
+returns-9 c =
+    let c2 = c .before .before in
+    let c5 = c2 .before .before .before in
+    let c10 = c5 .before .before .before .before .before in
+    told (pattern-text (c10 .args .slot) (c10 .args .b .now) (c5 .item7 .given .0 .0) (c5 .item7 .given .1)) (c2 .put-pattern .ensures)
 
 same-length-8 : tie.Need-same-length-8
 same-length-8 c = same (returns-9 c)

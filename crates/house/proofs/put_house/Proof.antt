@@ -1,5 +1,7 @@
-use mathlib.Core.Path.{refl}
-use Rattle.house.proofs.Gathering.{house-parts}
+use mathlib.Core.Path.{refl, _∙_}
+use borrow.Author.Needs.{needs}
+use Rattle.keywords.proofs.Options.{flow-option}
+use Rattle.house.proofs.Canonical.{house-parts}
 use Rattle.output.proofs.Putting.{then, told, same-length as same}
 use Rattle.house.proofs.put_house.Statement.{statement}
 use Rattle.house.proofs.put_house.Tie as tie
@@ -16,8 +18,11 @@ put-name-requires c κs = tt
 put-protocol-requires : tie.Need-put-protocol-requires
 put-protocol-requires c κs = tt
 
-put-flow-requires : tie.Need-put-flow-requires
-put-flow-requires c κs = tt
+flow-keyword-requires : tie.Need-flow-keyword-requires
+flow-keyword-requires c κs = tt
+
+put-keyword-requires : tie.Need-put-keyword-requires
+put-keyword-requires c κs = search needs
 
 put-table-items-requires : tie.Need-put-table-items-requires
 put-table-items-requires c κs = tt
@@ -29,7 +34,20 @@ put-word-requires-2 : tie.Need-put-word-requires-2
 put-word-requires-2 c κs = tt
 
 returns : tie.Need-returns
-returns c = told (house-parts (c .before .before .before .before .before .before .before .before .before .before .before .before .before .before .before .before .before .before .before .before .before .before .before .before .before .before .before .before .args .t)) (then (c .before .before .before .before .before .before .before .before .before .before .before .before .before .before .before .before .before .before .before .before .before .before .before .put-word .ensures) (then (c .before .before .before .before .before .before .before .before .before .before .before .before .before .before .before .before .before .before .before .put-name .ensures) (then (c .before .before .before .before .before .before .before .before .before .before .before .before .before .before .before .put-protocol .ensures) (then (c .before .before .before .before .before .before .before .before .before .before .before .put-flow .ensures) (then (c .before .before .before .before .before .before .before .put-table-items .ensures) (c .before .before .put-word2 .ensures))))))
+returns c =
+    let c2 = c .before .before in
+    let c7 = c2 .before .before .before .before .before in
+    let c11 = c7 .before .before .before .before in
+    let c12 = c11 .before in
+    let c16 = c12 .before .before .before .before in
+    let c20 = c16 .before .before .before .before in
+    let c24 = c20 .before .before .before .before in
+    let t = c24 .before .before .before .before .before .args .t in
+    let flow = flow-option (t .flow) ∙ c12 .flow-keyword .ensures .1 in
+    told (house-parts t)
+    (then (c24 .put-word .ensures)
+    (then (c20 .put-name .ensures)
+    (then (c16 .put-protocol .ensures) (then (told flow (c11 .put-keyword .ensures)) (then (c7 .put-table-items .ensures) (c2 .put-word2 .ensures))))))
 
 same-length : tie.Need-same-length
 same-length c = same (returns c)
@@ -42,7 +60,8 @@ put-house-spec =
     put-word-requires
     put-name-requires
     put-protocol-requires
-    put-flow-requires
+    flow-keyword-requires
+    put-keyword-requires
     put-table-items-requires
     slice-aggregate-put-word-2
     put-word-requires-2

@@ -30,14 +30,17 @@ loop-less : tie.Need-loop-less Inv-loop μ-loop
 loop-less c = omega arith
 
 loop-again : tie.Need-loop-again Inv-loop μ-loop
-loop-again c = (
-  omega arith,
-  c .before .before .before .before .before .before .loop .inv .1
-      ∙ put-on (c .before .before .before .before .before .before .loop .out) (c .before .before .before .before .before .before .loop .next) (c .before .before .before .before .before .before .before .before .before .args .w .now) (c .before .before .before .before .before .before .loop .i) (c .before .before .before .before .before .loop-test .taken) (c .before .before .put .ensures),
-)
+loop-again c =
+    let l = c .before .before .before .before .before .before .loop in
+    let w = c .before .before .before .before .before .before .before .before .before .args .w .now in
+    let more = c .before .before .before .before .before .loop-test .taken in
+    (omega arith, l .inv .1 ∙ put-on (l .out) (l .next) w (l .i) more (c .before .before .put .ensures))
 
 returns : tie.Need-returns Inv-loop μ-loop
-returns c = record { is = sym (c .before .loop .inv .1 ∙ put-all (c .before .loop .out) (c .before .loop .next) (c .before .before .before .before .args .w .now) (c .before .loop .i) (c .loop-test .left)) }
+returns c =
+    let l = c .before .loop in
+    let w = c .before .before .before .before .args .w .now in
+    record { is = sym (l .inv .1 ∙ put-all (l .out) (l .next) w (l .i) (c .loop-test .left)) }
 
 same-length : tie.Need-same-length Inv-loop μ-loop
 same-length c = same (returns c)

@@ -22,7 +22,10 @@ returns c = told (ap (λ x. entriesText (distanceEntry x)) (c .enum-told .given 
 
 returns-2 : tie.Need-returns-2
 unfolding entriesText entryText
-returns-2 c = told (ap (λ x. entriesText (distanceEntry x)) (c .before .before .before .before .before .d .given .1) ∙ append-nil (modifierText (entry.Distance (c .before .before .before .before .before .d .given .0 .0)))) (c .before .before .put-shift .ensures)
+returns-2 c =
+    let c2 = c .before .before in
+    let c5 = c2 .before .before .before in
+    told (ap (λ x. entriesText (distanceEntry x)) (c5 .d .given .1) ∙ append-nil (modifierText (entry.Distance (c5 .d .given .0 .0)))) (c2 .put-shift .ensures)
 
 same-length : tie.Need-same-length
 same-length c = same (returns-2 c)

@@ -30,7 +30,17 @@ put-requires-3 c κs = tt
 
 returns : tie.Need-returns
 unfolding entryText
-returns c = then (c .before .before .before .before .before .before .before .before .before .before .before .before .before .before .before .before .before .before .before .before .before .before .before .put-word .ensures) (then (then (c .before .before .before .before .before .before .before .before .before .before .before .before .before .before .before .before .before .before .put-if .ensures) (then (c .before .before .before .before .before .before .before .before .before .before .before .before .before .before .put .ensures) (then (c .before .before .before .before .before .before .before .before .before .before .put-bytes .ensures) (c .before .before .before .before .before .before .put2 .ensures)))) (c .before .before .put3 .ensures))
+returns c =
+    let c2 = c .before .before in
+    let c6 = c2 .before .before .before .before in
+    let c10 = c6 .before .before .before .before in
+    let c14 = c10 .before .before .before .before in
+    let c18 = c14 .before .before .before .before in
+    let c23 = c18 .before .before .before .before .before in
+    then (c23 .put-word .ensures)
+    (then (then (c18 .put-if .ensures)
+    (then (c14 .put .ensures)
+    (then (c10 .put-bytes .ensures) (c6 .put2 .ensures)))) (c2 .put3 .ensures))
 
 same-length : tie.Need-same-length
 same-length c = same (returns c)

@@ -1,12 +1,11 @@
-use mathlib.Core.Path.{refl}
 use Rattle.definitions.specs.House.{modifierText}
-use Rattle.output.proofs.Putting.{then, same-length as same}
+use Rattle.output.proofs.Putting.{then, told, same-length as same}
 use borrow.Author.Needs.{needs}
 use Rattle.pattern_text.proofs.put_reach.Statement.{statement}
 use Rattle.pattern_text.proofs.put_reach.Tie as tie
 
 slice-aggregate-put-word : tie.Need-slice-aggregate-put-word
-slice-aggregate-put-word c = refl
+slice-aggregate-put-word c = search needs
 
 put-word-requires : tie.Need-put-word-requires
 put-word-requires c κs = tt
@@ -17,15 +16,25 @@ cast-put-decimal c = search needs
 put-decimal-requires : tie.Need-put-decimal-requires
 put-decimal-requires c κs = tt
 
-put-reference-requires : tie.Need-put-reference-requires
-put-reference-requires c κs = tt
+reference-keyword-requires : tie.Need-reference-keyword-requires
+reference-keyword-requires c κs = tt
+
+put-keyword-requires : tie.Need-put-keyword-requires
+put-keyword-requires c κs = search needs
 
 put-requires : tie.Need-put-requires
 put-requires c κs = tt
 
 returns : tie.Need-returns
 unfolding modifierText
-returns c = then (c .before .before .before .before .before .before .before .before .before .before .before .before .before .before .before .put-word .ensures) (then (then (c .before .before .before .before .before .before .before .before .before .before .put-decimal .ensures) (c .before .before .before .before .before .before .put-reference .ensures)) (c .before .before .put .ensures))
+returns c =
+    let c2 = c .before .before in
+    let c6 = c2 .before .before .before .before in
+    let c7 = c6 .before in
+    let c11 = c7 .before .before .before .before in
+    let c16 = c11 .before .before .before .before .before in
+    then (c16 .put-word .ensures)
+    (then (then (c11 .put-decimal .ensures) (told (c7 .reference-keyword .ensures .1) (c6 .put-keyword .ensures))) (c2 .put .ensures))
 
 same-length : tie.Need-same-length
 same-length c = same (returns c)
@@ -38,7 +47,8 @@ put-reach-spec =
     put-word-requires
     cast-put-decimal
     put-decimal-requires
-    put-reference-requires
+    reference-keyword-requires
+    put-keyword-requires
     put-requires
     same-length
     returns)

@@ -21,7 +21,13 @@ put-decimal-requires : tie.Need-put-decimal-requires
 put-decimal-requires c κs = tt
 
 returns : tie.Need-returns
-returns c = let z : toZ w32 (ofZ w32 (c .before .before .before .before .before .before .before .before .before .before .before .args .z)) ≡ c .before .before .before .before .before .before .before .before .before .before .before .args .z = search needs in told (kept-text (c .before .before .before .before .before .before .before .before .before .before .before .args .z) z) (then (c .before .before .before .before .before .before .put-if .ensures) (told (ap decimal (sym (c .before .before .before .before .before .before .before .before .before .magnitude .ensures))) (c .before .before .put-decimal .ensures)))
+returns c =
+    let c2 = c .before .before in
+    let c6 = c2 .before .before .before .before in
+    let c9 = c6 .before .before .before in
+    let c11 = c9 .before .before in
+    let z : toZ w32 (ofZ w32 (c11 .args .z)) ≡ c11 .args .z = search needs in
+    told (kept-text (c11 .args .z) z) (then (c6 .put-if .ensures) (told (ap decimal (sym (c9 .magnitude .ensures))) (c2 .put-decimal .ensures)))
 
 same-length : tie.Need-same-length
 same-length c = same (returns c)

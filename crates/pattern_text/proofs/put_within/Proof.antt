@@ -22,7 +22,10 @@ returns c = told (ap (λ x. entriesText (withinEntry x)) (c .enum-told .given .1
 
 returns-2 : tie.Need-returns-2
 unfolding entriesText entryText
-returns-2 c = told (ap (λ x. entriesText (withinEntry x)) (c .before .before .before .before .before .w .given .1) ∙ append-nil (modifierText (entry.Within (c .before .before .before .before .before .w .given .0 .0)))) (c .before .before .put-reach .ensures)
+returns-2 c =
+    let c2 = c .before .before in
+    let c5 = c2 .before .before .before in
+    told (ap (λ x. entriesText (withinEntry x)) (c5 .w .given .1) ∙ append-nil (modifierText (entry.Within (c5 .w .given .0 .0)))) (c2 .put-reach .ensures)
 
 same-length : tie.Need-same-length
 same-length c = same (returns-2 c)

@@ -28,7 +28,12 @@ put-requires c κs = tt
 
 returns : tie.Need-returns
 unfolding testText
-returns c = then (c .before .before .before .before .before .before .before .before .before .before .before .before .before .before .before .before .put-word .ensures) (then (then (c .before .before .before .before .before .before .before .before .before .before .before .put-decimal .ensures) (c .before .before .before .before .before .before .put-if .ensures)) (c .before .before .put .ensures))
+returns c =
+    let c2 = c .before .before in
+    let c6 = c2 .before .before .before .before in
+    let c11 = c6 .before .before .before .before .before in
+    let c16 = c11 .before .before .before .before .before in
+    then (c16 .put-word .ensures) (then (then (c11 .put-decimal .ensures) (c6 .put-if .ensures)) (c2 .put .ensures))
 
 same-length : tie.Need-same-length
 same-length c = same (returns c)

@@ -1,18 +1,20 @@
-use mathlib.Core.Path.{refl}
 use Rattle.definitions.specs.House.{testText}
-use Rattle.output.proofs.Putting.{then, same-length as same}
+use Rattle.output.proofs.Putting.{then, told, same-length as same}
 use borrow.Author.Needs.{needs}
 use Rattle.test_text.proofs.put_ttl_test.Statement.{statement}
 use Rattle.test_text.proofs.put_ttl_test.Tie as tie
 
 slice-aggregate-put-word : tie.Need-slice-aggregate-put-word
-slice-aggregate-put-word c = refl
+slice-aggregate-put-word c = search needs
 
 put-word-requires : tie.Need-put-word-requires
 put-word-requires c κs = tt
 
-put-order-requires : tie.Need-put-order-requires
-put-order-requires c κs = tt
+order-keyword-requires : tie.Need-order-keyword-requires
+order-keyword-requires c κs = tt
+
+put-keyword-requires : tie.Need-put-keyword-requires
+put-keyword-requires c κs = search needs
 
 cast-put-decimal : tie.Need-cast-put-decimal
 cast-put-decimal c = search needs
@@ -25,7 +27,14 @@ put-requires c κs = tt
 
 returns : tie.Need-returns
 unfolding testText
-returns c = then (c .before .before .before .before .before .before .before .before .before .before .before .before .before .before .before .put-word .ensures) (then (then (c .before .before .before .before .before .before .before .before .before .before .before .put-order .ensures) (c .before .before .before .before .before .before .put-decimal .ensures)) (c .before .before .put .ensures))
+returns c =
+    let c2 = c .before .before in
+    let c6 = c2 .before .before .before .before in
+    let c11 = c6 .before .before .before .before .before in
+    let c12 = c11 .before in
+    let c16 = c12 .before .before .before .before in
+    then (c16 .put-word .ensures)
+    (then (then (told (c12 .order-keyword .ensures .1) (c11 .put-keyword .ensures)) (c6 .put-decimal .ensures)) (c2 .put .ensures))
 
 same-length : tie.Need-same-length
 same-length c = same (returns c)
@@ -36,7 +45,8 @@ put-ttl-test-spec =
     (tie.spec
     slice-aggregate-put-word
     put-word-requires
-    put-order-requires
+    order-keyword-requires
+    put-keyword-requires
     cast-put-decimal
     put-decimal-requires
     put-requires

@@ -1,5 +1,5 @@
 -- A table is answered with its house text, a refusal with its number and place, as the definition does by the outcome.
-use Rattle.text_answers.proofs.Answering.{read-line, refused-line}
+use Rattle.text_answers.proofs.Answers.{read-line, refused-line}
 use Rattle.output.proofs.Putting.{told}
 use borrow.Author.Needs.{needs}
 use Rattle.text_answers.proofs.answer_text.Statement.{statement}
@@ -27,7 +27,8 @@ returns : tie.Need-returns
 returns c =
     let x = c .before .before .before .before .before .before .before .before .before .before .args in
     let read = c .before .before .before .before .before .before .before .read in
-    told (read-line (x .s .now) (read .result) (read .ensures) (c .before .before .before .before .before .enum-told .given .1)) (c .before .before .put-table .ensures)
+    told (read-line (x .s .now) (read .result) (read .ensures) (c .before .before .before .before .before .enum-told .given .1))
+    (c .before .before .put-table .ensures)
 
 same-length-2 : tie.Need-same-length-2
 same-length-2 c = search needs

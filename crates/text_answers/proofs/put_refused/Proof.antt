@@ -21,7 +21,12 @@ same-length : tie.Need-same-length
 same-length c = search needs
 
 returns : tie.Need-returns
-returns c = then (told (ap decimal (sym (c .before .before .before .before .before .before .before .before .before .before .before .number-of .ensures))) (c .before .before .before .before .before .before .before .before .before .before .put-decimal .ensures)) (then (c .before .before .before .before .before .before .put .ensures) (c .before .before .put-decimal2 .ensures))
+returns c =
+    let c2 = c .before .before in
+    let c6 = c2 .before .before .before .before in
+    let c10 = c6 .before .before .before .before in
+    let c11 = c10 .before in
+    then (told (ap decimal (sym (c11 .number-of .ensures))) (c10 .put-decimal .ensures)) (then (c6 .put .ensures) (c2 .put-decimal2 .ensures))
 
 pub put-refused-spec : {M : Type 1} → statement M
 put-refused-spec =

@@ -1,5 +1,5 @@
 use mathlib.Core.Path.{refl, sym, _∙_}
-use Rattle.text_answers.proofs.Answering.{wrote-line, declined-line}
+use Rattle.text_answers.proofs.Answers.{wrote-line, declined-line}
 use Rattle.output.proofs.Putting.{told}
 use borrow.Author.Needs.{needs}
 use Rattle.text_answers.proofs.put_table.Statement.{statement}
@@ -27,13 +27,23 @@ same-length : tie.Need-same-length
 same-length c = search needs
 
 returns : tie.Need-returns
-returns c = told (wrote-line (c .before .before .before .before .before .before .before .before .before .before .before .args .t) _ refl (c .before .before .before .before .before .w .given .0 .0) _ (sym (c .before .before .before .before .before .w .given .1) ∙ c .before .before .before .before .before .before .before .before .write .ensures .0) (c .before .before .before .before .before .before .before .before .write .ensures .1)) (c .before .before .put-ok .ensures)
+returns c =
+    let c2 = c .before .before in
+    let c5 = c2 .before .before .before in
+    let c8 = c5 .before .before .before in
+    let c11 = c8 .before .before .before in
+    told (wrote-line (c11 .args .t) _ refl (c5 .w .given .0 .0) _ (sym (c5 .w .given .1) ∙ c8 .write .ensures .0) (c8 .write .ensures .1)) (c2 .put-ok .ensures)
 
 same-length-2 : tie.Need-same-length-2
 same-length-2 c = search needs
 
 returns-2 : tie.Need-returns-2
-returns-2 c = told (declined-line (c .before .before .before .before .before .before .before .before .before .before .before .args .t) _ refl (c .before .before .before .before .before .w2 .given .0 .0) (sym (c .before .before .before .before .before .w2 .given .1) ∙ c .before .before .before .before .before .before .before .before .write .ensures .0)) (c .before .before .put-refused .ensures)
+returns-2 c =
+    let c2 = c .before .before in
+    let c5 = c2 .before .before .before in
+    let c8 = c5 .before .before .before in
+    let c11 = c8 .before .before .before in
+    told (declined-line (c11 .args .t) _ refl (c5 .w2 .given .0 .0) (sym (c5 .w2 .given .1) ∙ c8 .write .ensures .0)) (c2 .put-refused .ensures)
 
 pub put-table-spec : {M : Type 1} → statement M
 put-table-spec =

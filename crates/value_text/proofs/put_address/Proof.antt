@@ -1,4 +1,4 @@
-use Rattle.value_text.proofs.Left.{prefix-full, prefix-given}
+use Rattle.value_text.proofs.LeftOut.{prefix-full, prefix-given}
 use Rattle.output.proofs.Putting.{then, told, same-length as same}
 use borrow.Author.Needs.{needs}
 use Rattle.value_text.proofs.put_address.Statement.{statement}
@@ -8,7 +8,10 @@ put-octets-requires : tie.Need-put-octets-requires
 put-octets-requires c κs = tt
 
 returns : tie.Need-returns
-returns c = told (prefix-full (c .before .before .before .before .before .before .before .args .a) (c .if1 .taken)) (c .before .before .before .before .put-octets .ensures)
+returns c =
+    let c4 = c .before .before .before .before in
+    let c7 = c4 .before .before .before in
+    told (prefix-full (c7 .args .a) (c .if1 .taken)) (c4 .put-octets .ensures)
 
 same-length : tie.Need-same-length
 same-length c = same (returns c)
@@ -23,7 +26,13 @@ put-decimal-requires : tie.Need-put-decimal-requires
 put-decimal-requires c κs = tt
 
 returns-2 : tie.Need-returns-2
-returns-2 c = told (prefix-given (c .before .before .before .before .before .before .before .before .before .before .before .before .before .before .before .before .args .a) (c .before .before .before .before .before .before .before .before .before .if1 .left)) (then (c .before .before .before .before .before .before .before .before .before .before .before .before .before .put-octets .ensures) (then (c .before .before .before .before .before .before .before .put .ensures) (c .before .before .put-decimal .ensures)))
+returns-2 c =
+    let c2 = c .before .before in
+    let c7 = c2 .before .before .before .before .before in
+    let c9 = c7 .before .before in
+    let c13 = c9 .before .before .before .before in
+    let c16 = c13 .before .before .before in
+    told (prefix-given (c16 .args .a) (c9 .if1 .left)) (then (c13 .put-octets .ensures) (then (c7 .put .ensures) (c2 .put-decimal .ensures)))
 
 same-length-2 : tie.Need-same-length-2
 same-length-2 c = same (returns-2 c)

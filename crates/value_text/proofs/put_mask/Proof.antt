@@ -1,5 +1,5 @@
 use mathlib.Core.Path.{refl}
-use Rattle.value_text.proofs.Left.{mask-full, mask-given}
+use Rattle.value_text.proofs.LeftOut.{mask-full, mask-given}
 use Rattle.output.proofs.Putting.{none-put, then, told, same-length as same}
 use borrow.Author.Needs.{needs}
 use Rattle.value_text.proofs.put_mask.Statement.{statement}
@@ -12,7 +12,10 @@ field-most-requires : tie.Need-field-most-requires
 field-most-requires c κs = tt
 
 returns : tie.Need-returns
-returns c = told (mask-full (c .before .before .before .before .args .t) (c .before .field-most .result) (c .before .field-most .ensures) (c .if1 .taken)) none-put
+returns c =
+    let c1 = c .before in
+    let c4 = c1 .before .before .before in
+    told (mask-full (c4 .args .t) (c1 .field-most .result) (c1 .field-most .ensures) (c .if1 .taken)) none-put
 
 slice-aggregate-put-word : tie.Need-slice-aggregate-put-word
 slice-aggregate-put-word c = refl
@@ -30,7 +33,16 @@ put-requires : tie.Need-put-requires
 put-requires c κs = tt
 
 returns-2 : tie.Need-returns-2
-returns-2 c = told (mask-given (c .before .before .before .before .before .before .before .before .before .before .before .before .before .before .before .before .before .before .args .t) (c .before .before .before .before .before .before .before .before .before .before .before .before .before .before .before .field-most .result) (c .before .before .before .before .before .before .before .before .before .before .before .before .before .before .before .field-most .ensures) (c .before .before .before .before .before .before .before .before .before .before .before .before .before .before .if1 .left)) (then (c .before .before .before .before .before .before .before .before .before .before .before .put-word .ensures) (then (c .before .before .before .before .before .before .put-decimal .ensures) (c .before .before .put .ensures)))
+returns-2 c =
+    let c2 = c .before .before in
+    let c6 = c2 .before .before .before .before in
+    let c11 = c6 .before .before .before .before .before in
+    let c14 = c11 .before .before .before in
+    let c15 = c14 .before in
+    let c18 = c15 .before .before .before in
+    told (mask-given (c18 .args .t) (c15 .field-most .result) (c15 .field-most .ensures) (c14 .if1 .left))
+    (then (c11 .put-word .ensures)
+    (then (c6 .put-decimal .ensures) (c2 .put .ensures)))
 
 same-length : tie.Need-same-length
 same-length c = same (returns-2 c)

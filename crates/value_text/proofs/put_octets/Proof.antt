@@ -37,7 +37,20 @@ put-decimal-requires-4 : tie.Need-put-decimal-requires-4
 put-decimal-requires-4 c κs = tt
 
 returns : tie.Need-returns
-returns c = then (c .before .before .before .before .before .before .before .before .before .before .before .before .before .before .before .before .before .before .before .before .before .before .before .before .before .before .put-decimal .ensures) (then (c .before .before .before .before .before .before .before .before .before .before .before .before .before .before .before .before .before .before .before .before .before .before .put .ensures) (then (c .before .before .before .before .before .before .before .before .before .before .before .before .before .before .before .before .before .before .put-decimal2 .ensures) (then (c .before .before .before .before .before .before .before .before .before .before .before .before .before .before .put2 .ensures) (then (c .before .before .before .before .before .before .before .before .before .before .put-decimal3 .ensures) (then (c .before .before .before .before .before .before .put3 .ensures) (c .before .before .put-decimal4 .ensures))))))
+returns c =
+    let c2 = c .before .before in
+    let c6 = c2 .before .before .before .before in
+    let c10 = c6 .before .before .before .before in
+    let c14 = c10 .before .before .before .before in
+    let c18 = c14 .before .before .before .before in
+    let c22 = c18 .before .before .before .before in
+    let c26 = c22 .before .before .before .before in
+    then (c26 .put-decimal .ensures)
+    (then (c22 .put .ensures)
+    (then (c18 .put-decimal2 .ensures)
+    (then (c14 .put2 .ensures)
+    (then (c10 .put-decimal3 .ensures)
+    (then (c6 .put3 .ensures) (c2 .put-decimal4 .ensures))))))
 
 same-length : tie.Need-same-length
 same-length c = same (returns c)

@@ -3,7 +3,7 @@ use mathlib.Core.Path.{sym, _∙_}
 use borrow.Author.Needs.{needs}
 use borrow.Author.Tests.{not-true, not-false}
 use Rattle.output.proofs.Putting.{told}
-use Rattle.writer.proofs.Dues.{measures, ill-formed, too-long, too-short, taken-back, written}
+use Rattle.writer.proofs.Measured.{measures, ill-formed, too-long, too-short, taken-back, written}
 use Rattle.writer.proofs.write_measured.Statement.{statement}
 use Rattle.writer.proofs.write_measured.Tie as tie
 
@@ -32,29 +32,21 @@ returns-3 c =
     let formed = sym (c .before .before .before .before .before .well-formed .ensures) ∙ not-false _ (c .before .before .before .before .if1 .left) in
     too-short (x .t) (x .out .now) formed (put .result) (measures (x .t) (put .ensures)) (c .before .if2 .left) (c .if3 .taken)
 
-sub-put-word : tie.Need-sub-put-word
-sub-put-word c = search needs
-
-part-put-word-start : tie.Need-part-put-word-start
-part-put-word-start c = search needs
-
-part-put-word-end : tie.Need-part-put-word-end
-part-put-word-end c = search needs
-
-put-word-requires : tie.Need-put-word-requires
-put-word-requires c κs = tt
+put-front-requires : tie.Need-put-front-requires
+put-front-requires c κs = tt
 
 returns-4 : tie.Need-returns-4
 returns-4 c =
-    let x = c .before .before .before .before .before .before .before .before .before .before .before .before .before .before .args in
-    let put = c .before .before .before .before .before .before .before .before .before .put-house in
-    let lent = c .before .before .before .before .before .before .before .before .before .before .put-house-arg .given .0 .1 in
-    let short = c .before .before .before .before .before .before .before .before .if2 .left in
-    let tested = c .before .before .before .before .before .before .before .before .before .before .before in
-    let formed = sym (tested .before .well-formed .ensures) ∙ not-false _ (tested .if1 .left) in
-    let room = c .before .before .before .before .before .before .before .if3 .left in
-    written (x .t) (x .out .now) formed (put .result) (measures (x .t) (put .ensures)) short room
-    (told (taken-back (x .t) (put .ensures) short lent) (c .before .before .put-word .ensures))
+    let c6 = c .before .before .before .before .before .before in
+    let c7 = c6 .before in
+    let put = c7 .before .put-house in
+    let lent = c7 .before .before .put-house-arg .given .0 .1 in
+    let c10 = c7 .before .before .before in
+    let x = c10 .before .before .before .args in
+    let formed = sym (c10 .before .well-formed .ensures) ∙ not-false _ (c10 .if1 .left) in
+    let short = c7 .if2 .left in
+    written (x .t) (x .out .now) formed (put .result) (measures (x .t) (put .ensures)) short (c6 .if3 .left)
+    (told (taken-back (x .t) (put .ensures) short lent) (c .before .before .put-front .ensures))
 
 same-length : tie.Need-same-length
 same-length c = search needs
@@ -68,9 +60,6 @@ write-measured-spec =
     put-house-requires
     returns-2
     returns-3
-    sub-put-word
-    part-put-word-start
-    part-put-word-end
-    put-word-requires
+    put-front-requires
     same-length
     returns-4)

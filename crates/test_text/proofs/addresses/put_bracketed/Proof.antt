@@ -5,7 +5,7 @@ use lib.ListN.{length}
 use Rattle.definitions.specs.Limits.{addressesMost}
 use Rattle.definitions.specs.House.{bracketed}
 use Rattle.output.proofs.Clipping.{at-most-le, taken-most}
-use Rattle.test_text.proofs.Texts.{brackets, no-brackets}
+use Rattle.test_text.proofs.AddressLists.{brackets, no-brackets}
 use Rattle.output.proofs.Putting.{then, told, same-length as same}
 use borrow.Author.Needs.{needs}
 use Rattle.test_text.proofs.addresses.put_bracketed.Statement.{statement}
@@ -18,13 +18,27 @@ put-requires : tie.Need-put-requires
 put-requires c κs = tt
 
 put-list-requires : tie.Need-put-list-requires
-put-list-requires c κs = omega (arith, c .before .before .before .before .before .before .at-most .ensures, at-most-le (c .before .before .before .before .before .before .before .before .args .count) addressesMost)
+put-list-requires c κs =
+    let c6 = c .before .before .before .before .before .before in
+    let c8 = c6 .before .before in
+    omega (arith, c6 .at-most .ensures, at-most-le (c8 .args .count) addressesMost)
 
 put-requires-2 : tie.Need-put-requires-2
 put-requires-2 c κs = tt
 
 returns : tie.Need-returns
-returns c = let long : length (c .before .before .before .before .before .before .before .before .before .before .before .before .before .before .before .args .list) ≡ addressesMost = omega arith in let few : c .before .before .before .before .before .before .before .before .before .before .before .before .before .at-most .result ≤ length (c .before .before .before .before .before .before .before .before .before .before .before .before .before .before .before .args .list) = omega (arith, long, c .before .before .before .before .before .before .before .before .before .before .before .before .before .at-most .ensures, at-most-le (c .before .before .before .before .before .before .before .before .before .before .before .before .before .before .before .args .count) addressesMost) in told (ap bracketed (taken-most (c .before .before .before .before .before .before .before .before .before .before .before .before .before .before .before .args .count) (c .before .before .before .before .before .before .before .before .before .before .before .before .before .before .before .args .list) long (c .before .before .before .before .before .before .before .before .before .before .before .before .before .at-most .ensures)) ∙ brackets (c .before .before .before .before .before .before .before .before .before .before .before .before .before .before .before .args .list) (c .before .before .before .before .before .before .before .before .before .before .before .before .before .at-most .result) few (c .before .before .before .before .before .before .before .before .before .before .before .before .if1 .taken)) (then (c .before .before .before .before .before .before .before .before .before .before .put .ensures) (then (c .before .before .before .before .before .before .put-list .ensures) (c .before .before .put2 .ensures)))
+returns c =
+    let c15 = c .before .before .before .before .before .before .before .before .before .before .before .before .before .before .before in
+    let x = c15 .args in
+    let long : length (x .list) ≡ addressesMost = omega arith in
+    let c2 = c .before .before in
+    let c6 = c2 .before .before .before .before in
+    let c10 = c6 .before .before .before .before in
+    let c12 = c10 .before .before in
+    let n = c12 .before .at-most in
+    let few : n .result ≤ length (x .list) = omega (arith, long, n .ensures, at-most-le (x .count) addressesMost) in
+    told (ap bracketed (taken-most (x .count) (x .list) long (n .ensures)) ∙ brackets (x .list) (n .result) few (c12 .if1 .taken))
+    (then (c10 .put .ensures) (then (c6 .put-list .ensures) (c2 .put2 .ensures)))
 
 same-length : tie.Need-same-length
 same-length c = same (returns c)
@@ -33,7 +47,13 @@ put-list-requires-2 : tie.Need-put-list-requires-2
 put-list-requires-2 c κs = search needs
 
 returns-2 : tie.Need-returns-2
-returns-2 c = let long : length (c .before .before .before .before .before .before .before .args .list) ≡ addressesMost = omega arith in told (ap bracketed (taken-most (c .before .before .before .before .before .before .before .args .count) (c .before .before .before .before .before .before .before .args .list) long (c .before .before .before .before .before .at-most .ensures)) ∙ no-brackets (c .before .before .before .before .before .before .before .args .list) (c .before .before .before .before .before .at-most .result) (c .before .before .before .before .if1 .left)) (c .before .before .put-list2 .ensures)
+returns-2 c =
+    let c4 = c .before .before .before .before in
+    let n = c4 .before .at-most in
+    let x = c4 .before .before .before .args in
+    let long : length (x .list) ≡ addressesMost = omega arith in
+    told (ap bracketed (taken-most (x .count) (x .list) long (n .ensures)) ∙ no-brackets (x .list) (n .result) (c4 .if1 .left))
+    (c .before .before .put-list2 .ensures)
 
 same-length-2 : tie.Need-same-length-2
 same-length-2 c = same (returns-2 c)

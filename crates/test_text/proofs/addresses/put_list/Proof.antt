@@ -4,10 +4,11 @@ use mathlib.Core.List.{_++_}
 use Prim.Native.Nat.{_+_, _-_, _≤_}
 use native.Mathlib.Omega.{arith}
 use lib.ListN.{length, take, drop, getD}
+use Rattle.definitions.specs.declared.table.Address.{Address}
 use Rattle.definitions.specs.House.{addressText, addressesText}
 use Rattle.output.specs.Puts.{puts}
 use Rattle.output.proofs.Putting.{onward, same-length as same}
-use Rattle.test_text.proofs.Texts.{listFrom, list-is, list-on, list-end}
+use Rattle.test_text.proofs.AddressLists.{listFrom, list-is, list-on, list-end}
 use Rattle.test_text.proofs.addresses.put_list.Statement.{statement}
 use Rattle.test_text.proofs.addresses.put_list.Tie as tie
 
@@ -46,11 +47,14 @@ loop-again c =
     let args = c .before .before .before .before .before .before .before .before .before .before .before .before .before .args in
     let loop = c .before .before .before .before .before .before .before .before .before .before .before .loop in
     let long : args .n ≤ length (args .t3) = omega arith in
+    let none : Address = record { number = 0; prefix = 0 } in
+    let more = c .before .before .before .before .before .before .before .before .before .before .loop-test .taken in
+    let comma = c .before .before .before .before .before .before .before .put-if .ensures in
     let rest = listFrom (loop .i + 1) (drop (loop .i + 1) (take (args .n) (args .t3))) in (
       omega arith,
       loop .inv .1
-          ∙ ap (puts (loop .out) (loop .next)) (list-on (args .t3) (args .n) (loop .i) (record { number = 0; prefix = 0 }) (c .before .before .before .before .before .before .before .before .before .before .loop-test .taken) long)
-          ∙ onward (addressText (getD (args .t3) (loop .i) (record { number = 0; prefix = 0 })) ++ rest) (c .before .before .before .before .before .before .before .put-if .ensures)
+          ∙ ap (puts (loop .out) (loop .next)) (list-on (args .t3) (args .n) (loop .i) none more long)
+          ∙ onward (addressText (getD (args .t3) (loop .i) none) ++ rest) comma
           ∙ onward rest (c .before .before .put-address .ensures),
     )
 

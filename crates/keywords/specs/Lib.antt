@@ -1,0 +1,2 @@
+-- What the contracts of `keywords` cite.
+pub mod Keywords

@@ -1,2 +1,0 @@
--- What the contracts of `pattern_text` cite.
-pub mod Parts
