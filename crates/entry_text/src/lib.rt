@@ -1,7 +1,7 @@
 // House text of a table's entries, option by option: any table, whatever numbers stand in it.
 ghost use mathlib.Core.Path.{_≡_};
 ghost use Prim.Native.Nat.{_≤_};
-ghost use lib.ListN.{take, length};
+ghost use lib.ListN.{take};
 ghost use Rattle.definitions.specs.Entries.{Name, Protocol};
 ghost use Rattle.definitions.specs.Items.{kindOf, slotsOf};
 ghost use Rattle.definitions.specs.House.{itemEntries, slotEntries, entryText, entriesText};

@@ -1,5 +1,4 @@
 // Keywords, as house text has them; what it leaves out is empty. They stand in one table, and one function puts any of them.
-ghost use mathlib.Core.Path.{_≡_};
 ghost use Rattle.definitions.specs.House.{sideName, numberName, orderText, fieldName, operatorText, sizeFieldText, referenceText};
 ghost use Rattle.keywords.specs.Keywords.{Listed, spelled, Spells, flowOption, contextOption};
 ghost use Rattle.output.specs.Puts.{Puts};

@@ -1,5 +1,5 @@
 -- What is put in parts is put as a whole.
-use mathlib.Core.Path.{_≡_, refl, sym, ap, subst, _∙_}
+use mathlib.Core.Path.{_≡_, refl, sym, ap, _∙_}
 use mathlib.Core.List.{List, [], _∷_, _++_}
 use Prim.Native.Nat.{ℕ, suc, _+_, _≤_, _<_}
 use native.Mathlib.Numerals.{add-one}
@@ -48,7 +48,7 @@ pub none-put : {out : List ℕ} {at : ℕ} → Puts out at [] out at
 unfolding puts
 none-put = record { is = refl }
 
-pub puts-append : (out : List ℕ) (at : ℕ) (k l : List ℕ) → puts out at (k ++ l) ≡ puts (puts out at k .0) (puts out at k .1) l
+puts-append : (out : List ℕ) (at : ℕ) (k l : List ℕ) → puts out at (k ++ l) ≡ puts (puts out at k .0) (puts out at k .1) l
 unfolding puts
 puts-append out at [] l = refl
 puts-append out at (b ∷ k) l = puts-append (set out at b) (counted at) k l
@@ -66,7 +66,7 @@ pub onward : {out : List ℕ} {at : ℕ} {k o : List ℕ} {n : ℕ} (l : List �
 onward {out = out} {at = at} {k = k} l e = puts-append out at k l ∙ ap (λ (p : List ℕ × ℕ). puts (p .0) (p .1) l) (sym (e .is))
 
 -- the buffer keeps its length
-pub puts-length : (out : List ℕ) (at : ℕ) (l : List ℕ) → length (puts out at l .0) ≡ length out
+puts-length : (out : List ℕ) (at : ℕ) (l : List ℕ) → length (puts out at l .0) ≡ length out
 unfolding puts
 puts-length out at [] = refl
 puts-length out at (b ∷ l) = puts-length (set out at b) (counted at) l ∙ length-set out at b

@@ -2,7 +2,7 @@
 ghost use mathlib.Core.Path.{_≡_};
 ghost use lib.IntN.{natAbs};
 ghost use Rattle.definitions.specs.Entries as entry;
-ghost use Rattle.definitions.specs.House.{decimalℤ, noCaseEntry, distanceEntry, withinEntry, patternEntries, modifierText, entryText, entriesText};
+ghost use Rattle.definitions.specs.House.{decimalℤ, distanceEntry, withinEntry, patternEntries, modifierText, entryText, entriesText};
 ghost use Rattle.output.specs.Puts.{Puts};
 use definitions::table::Distance;
 use definitions::table::Pattern;

@@ -1,15 +1,13 @@
 -- The answer to a text, by what reader and writer answer.
-use mathlib.Core.Path.{_≡_, refl, sym, ap, subst, _∙_}
+use mathlib.Core.Path.{_≡_, sym, ap, _∙_}
 use mathlib.Core.Bool.{Bool, true, false, true≢false, false≢true}
 use mathlib.Core.List.{List, _++_}
-use Prim.Native.Nat.{ℕ, _≤_, _<_}
-use native.Mathlib.Omega.{arith}
+use Prim.Native.Nat.{ℕ, _<_}
 use lib.Dec.{leb}
 use lib.ListN.{length, take, drop}
-use lib.Seq.{take-all, take-append-seam, length-take-le}
-use borrow.Author.Tests.{lt-ltb, leb-true, leb-false}
+use lib.Seq.{take-append-seam}
+use borrow.Author.Tests.{lt-ltb}
 use Rattle.forms.specs.Bytes.{text}
-use Rattle.forms.proofs.Bools.{by-cases}
 use Rattle.definitions.specs.declared.table.Table.{Table}
 use Rattle.definitions.specs.declared.answers.Refusal.{Refusal}
 use Rattle.definitions.specs.declared.answers.Refusal.the-variants as refusal

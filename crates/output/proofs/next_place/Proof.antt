@@ -1,23 +1,17 @@
-use mathlib.Core.Path.{_≡_}
 use native.Mathlib.Numerals.{add-one}
 use borrow.Author.Needs.{needs}
 use borrow.Author.Tests.{lt-ltb, le-ltb}
 use Rattle.output.specs.Puts.{countedMost, counted}
 use Rattle.output.proofs.next_place.Statement.{statement}
 use Rattle.output.proofs.next_place.Tie as tie
-use Rattle.output.proofs.next_place.Reads as reads
-use Rattle.output.proofs.next_place.Lts as lts
 
--- src/lib.rt:13:23
 add-result : tie.Need-add-result
 add-result c = search needs
 
--- src/lib.rt:10:1
 returns : tie.Need-returns
 unfolding counted
 returns c = rw (lt-ltb (c .before .args .at) countedMost (c .if1 .taken), add-one)
 
--- src/lib.rt:10:1
 returns-2 : tie.Need-returns-2
 unfolding counted
 returns-2 c = rw (le-ltb (c .before .args .at) countedMost (c .if1 .left))
