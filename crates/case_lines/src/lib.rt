@@ -17,6 +17,7 @@ use line_stream::next_line;
 pub fn feed(input: &[u8], line: &mut [u8], out: &mut [u8], begun: Begun) -> Fed
     ensures { λ r. ⌜ Feeds caseAnswer (now (input .entry)) (now (line .entry)) (now (out .entry)) (now (line .exit)) (now (out .exit)) begun r ⌝ }
 {
+    // For the bytes of a case: cleared once a feed, not once a line.
     let mut room = [0u8; PAIRS];
     let mut more = [0u8; PAIRS];
     let mut t = first_line(input, line, out, begun);
@@ -28,7 +29,7 @@ pub fn feed(input: &[u8], line: &mut [u8], out: &mut [u8], begun: Begun) -> Fed
     t.fed
 }
 
-// Behind the last byte: the answer to a line that lacks its LF. The answer is how many bytes it has, more than the buffer's if it has no room.
+// After the last byte: the answer to a line that lacks its LF. The answer is how many bytes it has, more than the buffer's if it has no room.
 pub fn finish(line: &[u8], out: &mut [u8], begun: Begun) -> usize
     ensures { λ r. ⌜ Puts (now (out .entry)) 0 (lastLine caseAnswer (begun .number) (take (begun .len) (now (line .entry)))) (now (out .exit)) r ⌝ }
 {

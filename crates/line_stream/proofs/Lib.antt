@@ -3,6 +3,7 @@ pub mod Room
 pub mod Parts
 pub mod Keeping
 pub mod Taking
+pub mod States
 pub mod Loop
 pub mod Finish
 pub mod Output

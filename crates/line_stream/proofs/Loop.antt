@@ -1,63 +1,33 @@
--- THE LOOP of a feed, whatever is answered: the code is in the program's state after the bytes taken so far, line by line, in whatever parts the input comes.
+-- THE LOOP of a feed, whatever is answered: after each line the code is in the program's state after the bytes taken so far. A program's proof of `feed` cites
+-- `Loop`, its invariant, and the five laws on it.
 use mathlib.Core.Path.{_≡_, refl, sym, ap, subst, _∙_}
-use mathlib.Core.Bool.{true, false, true≢false, false≢true}
-use mathlib.Core.List.{List, [], _∷_, _++_}
+use mathlib.Core.Bool.{true, false, false≢true}
+use mathlib.Core.List.{List, [], _++_}
 use Prim.Native.Nat.{ℕ, _+_, _≤_, _<_}
 use native.Mathlib.Omega.{arith}
-use native.Mathlib.Nat.{le-of-lt}
-use native.Mathlib.Numerals.{add-one}
-use lib.Dec.{eqb, ltb}
+use lib.Dec.{ltb}
 use lib.ListN.{length, getD, take}
-use lib.Seq.{take-suc}
-use borrow.Author.Tests.{not-true, ltb-true, ltb-false}
+use borrow.Author.Tests.{ltb-true, ltb-false}
 use Rattle.forms.specs.Bytes.{text}
-use Rattle.forms.proofs.Bools.{by-cases, both-left, both-right}
-use Rattle.definitions.specs.Lists.{all?}
+use Rattle.forms.proofs.Bools.{by-cases}
 use Rattle.definitions.specs.House.{decimal}
 use Rattle.output.specs.Puts.{puts, Puts}
 use Rattle.output.proofs.Putting.{none-put, same-length}
 use Rattle.output.proofs.Whole.{placed-front, placed-whole}
 use Rattle.line_stream.specs.declared.Begun.{Begun}
-use Rattle.line_stream.specs.declared.Fed.{Fed}
 use Rattle.line_stream.specs.declared.Feeding.{Feeding}
-use Rattle.line_stream.specs.Stream.{State, stateOf, longer, ended, byteRead, after, hasRoom, answerTo, answerFits, Feeds}
-use Rattle.line_stream.specs.Steps.{inLine, lfFrom, lineFrom, opening, Takes, Nexts, turnsLeft}
+use Rattle.line_stream.specs.Stream.{State, stateOf, ended, after, hasRoom, answerTo, answerFits, Feeds}
+use Rattle.line_stream.specs.Steps.{lfFrom, lineFrom, opening, Takes, Nexts, turnsLeft}
 use Rattle.line_stream.proofs.Room.{line-put, no-room, room-counted, room-within}
 use Rattle.line_stream.proofs.Parts.{line-within, line-lf, line-inside, line-after}
-use Rattle.line_stream.proofs.Keeping.{partly-none, partly-on, further, keeps-length, keeps-partly}
+use Rattle.line_stream.proofs.Keeping.{keeps-length, keeps-partly}
+use Rattle.line_stream.proofs.States.{after-append, after-line, after-lf}
 
 nothing-put : {out o : List ℕ} {at n : ℕ} → Puts out at [] o n → o ≡ out
 unfolding puts
 nothing-put p = ap (λ (q : List ℕ × ℕ). q .0) (p .is)
 
 module _ (answer : List ℕ → List ℕ) where
-  -- ---- the state after a part of the input
-
-  pub after-append : (room : ℕ) (st : State) (k l : List ℕ) → after answer room st (k ++ l) ≡ after answer room (after answer room st k) l
-  unfolding after
-  after-append room st [] l = refl
-  after-append room st (b ∷ k) l = after-append room (byteRead answer room st b) k l
-
-  -- a part without LF is kept
-  after-line : (room : ℕ) (st : State) (part : List ℕ) → all? inLine part ≡ true → after answer room st part ≡ further room st part
-  unfolding after all?
-  after-line room st [] t = ap (λ (s : List ℕ). record { number = st .number; begun = s; written = st .written }) (sym (partly-none room (st .begun)))
-  after-line room st (b ∷ part) t =
-      let isnt : eqb b 10 ≡ false = not-true (eqb b 10) (both-left (inLine b) (all? inLine part) t) in
-      rw isnt
-      (after-line room (longer room st b) part (both-right (inLine b) (all? inLine part) t)
-      ∙ ap (λ (s : List ℕ). record { number = st .number; begun = s; written = st .written }) (partly-on room (st .begun) b part))
-
-  -- LF ends the line
-  after-lf : (room : ℕ) (st : State) (input : List ℕ) (i : ℕ) → i < length input → getD input i 0 ≡ 10
-      → after answer room st (take (i + 1) input) ≡ ended answer (after answer room st (take i input))
-  unfolding after
-  after-lf room st input i h e =
-      ap (λ (k : ℕ). after answer room st (take k input)) (add-one i)
-      ∙ ap (after answer room st) (take-suc input i 0 h)
-      ∙ after-append room st (take i input) (getD input i 0 ∷ [])
-      ∙ ap (byteRead answer room (after answer room st (take i input))) e
-
   module _ (input line₀ out₀ : List ℕ) (b : Begun) where
     abbrev now : ℕ → State
     now i = after answer (length line₀) (stateOf b line₀ []) (take i input)
@@ -85,7 +55,9 @@ module _ (answer : List ℕ → List ℕ) where
     begunWith g w l = record { number = g .number; begun = l; written = w }
 
     -- a line is taken
-    module _ {i place : ℕ} {line line' out out' : List ℕ} {g : Begun} {r : Feeding} (k : Takes input i line line' out out' place g r) (s : At i line out place g) where
+    module _
+        {i place : ℕ} {line line' out out' : List ℕ} {g : Begun} {r : Feeding} (k : Takes input i line line' out out' place g r)
+        (s : At i line out place g) where
       abbrev end : ℕ
       end = lfFrom input i
 
@@ -99,10 +71,10 @@ module _ (answer : List ℕ → List ℕ) where
             same-out = s .same-out;
             is =
                 ap (begunWith g (take place out)) (keeps-partly (k .keeps))
-                ∙ sym (after-line (length line) st (lineFrom input i) (line-inside input i))
+                ∙ sym (after-line answer (length line) st (lineFrom input i) (line-inside input i))
                 ∙ ap (λ (n : ℕ). after answer n st (lineFrom input i)) (s .same-line)
                 ∙ ap (λ (x : State). after answer (length line₀) x (lineFrom input i)) (s .is)
-                ∙ sym (after-append (length line₀) (stateOf b line₀ []) (take i input) (lineFrom input i))
+                ∙ sym (after-append answer (length line₀) (stateOf b line₀ []) (take i input) (lineFrom input i))
                 ∙ ap (after answer (length line₀) (stateOf b line₀ [])) (sym (line-after input i));
           }
 
@@ -153,7 +125,7 @@ module _ (answer : List ℕ → List ℕ) where
             is =
                 ap (λ (l : List ℕ). record { number = ended answer (stateOf begun line []) .number; begun = []; written = l }) all
                 ∙ ap (ended answer) (so .at .is)
-                ∙ sym (after-lf (length line₀) (stateOf b line₀ []) input (t .fed .taken) (lf .0) (lf .1));
+                ∙ sym (after-lf answer (length line₀) (stateOf b line₀ []) input (t .fed .taken) (lf .0) (lf .1));
           }
 
       -- the same state as before: the answer is not counted
@@ -172,7 +144,9 @@ module _ (answer : List ℕ → List ℕ) where
         at = at-full;
         opened = none-put;
         lf = λ z. absurd (false≢true z);
-        stops = λ _ _. (so .lf w .1, subst (λ (x : State). answerFits answer x place (k .ended) ≡ false) (so .at .is) (no-room (so .before) place (length (k .ended)) answered f));
+        stops = λ _ _.
+            let crowded = no-room (so .before) place (length (k .ended)) answered f in
+            (so .lf w .1, subst (λ (x : State). answerFits answer x place (k .ended) ≡ false) (so .at .is) crowded);
       }
 
       next-taken : SoFar line' out' r
@@ -194,7 +168,7 @@ module _ (answer : List ℕ → List ℕ) where
           stops = so .stops f;
         })
 
-  -- ---- THE LOOP'S INVARIANT: it began behind the first line, and whatever that line was begun with, the code is where it says since
+  -- ---- THE LOOP'S INVARIANT. The code's loop begins where the first line is taken already, so it goes from there: whatever the feed began with
 
   pub record Loop (input line₁ out₁ : List ℕ) (t₁ : Feeding) (line out : List ℕ) (t : Feeding) : Type 0 where
     since : (line₀ out₀ : List ℕ) (b : Begun) → SoFar input line₀ out₀ b line₁ out₁ t₁ → SoFar input line₀ out₀ b line out t

@@ -50,11 +50,12 @@ module _ (answer : List ℕ → List ℕ) where
     abbrev at : ℕ → List ℕ → List ℕ → State
     at n s w = record { number = n; begun = s; written = w }
 
-    -- where the program stands that has read so much of the line begun
+    -- the state of a program that has read so much of the line begun
     abbrev reading : ℕ → List ℕ → List ℕ → State
     reading n s w = at n (take room s) w
 
-    read-end : (n : ℕ) (s w : List ℕ) (b k : ℕ) → n + suc k < 2 ^ 64 → eqb b 10 ≡ true → byteRead answer room (reading n s w) b ≡ reading (suc n) [] (w ++ answerTo answer n s)
+    read-end : (n : ℕ) (s w : List ℕ) (b k : ℕ) → n + suc k < 2 ^ 64 → eqb b 10 ≡ true
+        → byteRead answer room (reading n s w) b ≡ reading (suc n) [] (w ++ answerTo answer n s)
     read-end n s w b k few t =
         rw t
         (ap (λ (m : ℕ). at m [] (w ++ answerTo answer n (take room s))) (next-is n k few)
@@ -94,4 +95,6 @@ module _ (answer : List ℕ → List ℕ) where
 
     pub whole-output : (input : List ℕ) → length input + 1 < 2 ^ 64 → outputOver answer input ≡ outputOf answer (after answer room start input)
     unfolding outputOver
-    whole-output input few = to-come 1 [] [] input (omega (arith, few)) ∙ ap (λ (s : List ℕ). outputOf answer (after answer room (record { number = 1; begun = s; written = [] }) input)) (take-nil room)
+    whole-output input few =
+        to-come 1 [] [] input (omega (arith, few))
+        ∙ ap (λ (s : List ℕ). outputOf answer (after answer room (at 1 s []) input)) (take-nil room)

@@ -18,7 +18,7 @@ use Rattle.line_stream.specs.declared.Fed.{Fed}
 use Rattle.line_stream.specs.Stream.{numberMost, answerTo, State, stateOf, byteRead, after, lastLine, outputOf, hasRoom, answerFits, Feeds}
 use Rattle.line_stream.specs.Runs.{Runs, last, part}
 use Rattle.line_stream.proofs.Room.{room-counted, room-within}
-use Rattle.line_stream.proofs.Loop.{after-append}
+use Rattle.line_stream.proofs.States.{after-append}
 use Rattle.line_stream.proofs.Output.{whole-output}
 
 module _ (answer : List ℕ → List ℕ) where
@@ -30,7 +30,9 @@ module _ (answer : List ℕ → List ℕ) where
   byte-prepend : (room : ℕ) (w : List ℕ) (st : State) (b : ℕ) → byteRead answer room (prepend w st) b ≡ prepend w (byteRead answer room st b)
   byte-prepend room w st b =
       by-cases (eqb b 10)
-      (λ t. rw t (ap (λ (l : List ℕ). record { number = byteRead answer room st 10 .number; begun = []; written = l }) (append-assoc w (st .written) (answerTo answer (st .number) (st .begun)))))
+      (λ t.
+      let put = answerTo answer (st .number) (st .begun) in
+      rw t (ap (λ (l : List ℕ). record { number = byteRead answer room st 10 .number; begun = []; written = l }) (append-assoc w (st .written) put)))
       (λ f. rw f)
 
   after-prepend : (room : ℕ) (w : List ℕ) (st : State) (l : List ℕ) → after answer room (prepend w st) l ≡ prepend w (after answer room st l)
@@ -46,8 +48,8 @@ module _ (answer : List ℕ → List ℕ) where
   abbrev comes : List ℕ → List ℕ → Begun → List ℕ
   comes input line b = outputOf answer (after answer (length line) (stateOf b line []) input)
 
-  last-comes : (line : List ℕ) (b : Begun) {out out' : List ℕ} {n : ℕ} → Puts out 0 (lastLine answer (b .number) (take (b .len) line)) out' n → hasRoom n (length out') ≡ true
-      → take n out' ≡ comes [] line b
+  last-comes : (line : List ℕ) (b : Begun) {out out' : List ℕ} {n : ℕ} → Puts out 0 (lastLine answer (b .number) (take (b .len) line)) out' n
+      → hasRoom n (length out') ≡ true → take n out' ≡ comes [] line b
   unfolding after
   last-comes line b {out = out} {out' = out'} {n = n} p t =
       placed-whole out 0 p (room-counted n (length out') t) (subst (λ (k : ℕ). n ≤ k) (same-length p) (room-within n (length out') t))
@@ -58,7 +60,8 @@ module _ (answer : List ℕ → List ℕ) where
       let w = take (r .put) out' in
       let front = take (r .taken) block in
       let back = drop (r .taken) block ++ rest in
-      let whole : front ++ back ≡ block ++ rest = sym (append-assoc front (drop (r .taken) block) rest) ∙ ap (λ (l : List ℕ). l ++ rest) (take-append-drop (r .taken) block) in
+      let whole : front ++ back ≡ block ++ rest =
+      sym (append-assoc front (drop (r .taken) block) rest) ∙ ap (λ (l : List ℕ). l ++ rest) (take-append-drop (r .taken) block) in
       sym (output-prepend w (after answer (length line') (stateOf (r .begun) line' []) back))
       ∙ ap (outputOf answer) (sym (after-prepend (length line') w (stateOf (r .begun) line' []) back)
       ∙ ap (λ (l : List ℕ). after answer (length line') (stateOf (r .begun) line' l) back) (append-nil w)
@@ -74,7 +77,8 @@ module _ (answer : List ℕ → List ℕ) where
   -- ---- from the start on it is the program's output
 
   pub runs-output : (most : ℕ) → ((m : ℕ) (s : List ℕ) → most < m → answer (take m s) ≡ answer s)
-      → {input line w : List ℕ} → most < length line → length input + 1 < 2 ^ 64 → Runs answer input line (record { number = 1; len = 0 }) w → w ≡ outputOver answer input
+      → {input line w : List ℕ} → most < length line → length input + 1 < 2 ^ 64
+      → Runs answer input line (record { number = 1; len = 0 }) w → w ≡ outputOver answer input
   runs-output most kept {input = input} {line = line} roomy few u = runs-on u ∙ sym (whole-output answer most (length line) kept roomy input few)
 
   -- ---- each turn takes some of its input, where every answer has room
@@ -97,9 +101,11 @@ module _ (answer : List ℕ → List ℕ) where
 
       stuck : r .taken ≡ 0 → ⊥
       stuck e =
-          let st : after answer (length line) (stateOf b line []) (take (r .taken) input) ≡ stateOf b line [] = ap (λ (n : ℕ). after answer (length line) (stateOf b line []) (take n input)) e in
+          let first = stateOf b line [] in
+          let st : after answer (length line) first (take (r .taken) input) ≡ first = ap (λ (n : ℕ). after answer (length line) first (take n input)) e in
           let none : r .put ≡ 0 = none-taken (r .put) out' (f .put) (ap (λ (x : State). x .written) (f .stands ∙ st)) in
-          let crowded : answerFits answer (stateOf b line []) (r .put) out' ≡ false = subst (λ (x : State). answerFits answer x (r .put) out' ≡ false) st (f .stops (omega (arith, e, some)) .1) in
+          let crowded : answerFits answer first (r .put) out' ≡ false =
+          subst (λ (x : State). answerFits answer x (r .put) out' ≡ false) st (f .stops (omega (arith, e, some)) .1) in
           let len : length (answerTo answer (b .number) (take (b .len) line)) ≤ k = short (b .number) (take (b .len) line) counts in
           let n = r .put + length (answerTo answer (b .number) (take (b .len) line)) in
           true≢false (sym (has-room n (length out') (omega (arith, none, len, few)) (omega (arith, none, len, fits, f .same-out))) ∙ crowded)

@@ -92,8 +92,8 @@ line-most s = outcome-most (read limits01 s .outcome) (read limits01 s .table) (
 
 pub answer-most : (n : ℕ) (s : List ℕ) → n ≤ numberMost → length (answerTo (lineOf limits01) n s) ≤ 1049
 answer-most n s h =
-    omega
-    (arith, length-append (decimal n) (9 ∷ (lineOf limits01 s ++ text "\n")), length-append (lineOf limits01 s) (text "\n"), decimal-most n (omega (arith, h)), line-most s)
+    let tail = lineOf limits01 s ++ text "\n" in
+    omega (arith, length-append (decimal n) (9 ∷ tail), length-append (lineOf limits01 s) (text "\n"), decimal-most n (omega (arith, h)), line-most s)
 
 pub always-takes : {input line out line' out' : List ℕ} {b : Begun} {r : Fed} → 1049 ≤ length out → b .number ≤ numberMost → 0 < length input
     → Feeds (lineOf limits01) input line out line' out' b r → 0 < r .taken

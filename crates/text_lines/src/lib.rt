@@ -26,7 +26,7 @@ pub fn feed(input: &[u8], line: &mut [u8], out: &mut [u8], begun: Begun) -> Fed
     t.fed
 }
 
-// Behind the last byte: the answer to a line that lacks its LF. The answer is how many bytes it has, more than the buffer's if it has no room.
+// After the last byte: the answer to a line that lacks its LF. The answer is how many bytes it has, more than the buffer's if it has no room.
 pub fn finish(line: &[u8], out: &mut [u8], begun: Begun) -> usize
     ensures { λ r. ⌜ Puts (now (out .entry)) 0 (lastLine (lineOf limits01) (begun .number) (take (begun .len) (now (line .entry)))) (now (out .exit)) r ⌝ }
 {
