@@ -16,7 +16,8 @@ use Rattle.definitions.specs.Standing.{isPattern}
 use Rattle.reader_state.specs.State.{lastPlace}
 
 -- with no further pattern among the entries, a modifier behind them belongs to the pattern before them
-none-modified : (es : List Entry) (m : Modifier) → any? isPattern es ≡ false → (p : patterns.Pattern) → modified (es ++ (Modified m ∷ [])) p ≡ with m (modified es p)
+none-modified : (es : List Entry) (m : Modifier) → any? isPattern es ≡ false
+    → (p : patterns.Pattern) → modified (es ++ (Modified m ∷ [])) p ≡ with m (modified es p)
 unfolding modified any?
 none-modified [] m h p = refl
 none-modified (Name n ∷ es) m h p = none-modified es m h p

@@ -34,7 +34,8 @@ use Rattle.enter.specs.Judging.{tableIn, usableHeld, judgedIn}
 use Rattle.enter.proofs.Choosing.{if-or}
 use Rattle.laws.proofs.Padded.{padded-at}
 use Rattle.enter.proofs.OneMore.{count-none, dashes-length}
-use Rattle.enter.proofs.Outcomes.{Outcome, name-outcome, protocol-outcome, flow-outcome, test-outcome, addresses-outcome, pattern-outcome, modifier-outcome}
+use Rattle.enter.proofs.Outcomes.{Outcome, name-outcome, protocol-outcome, flow-outcome}
+use Rattle.enter.proofs.Outcomes.{test-outcome, addresses-outcome, pattern-outcome, modifier-outcome}
 
 -- ---- entering
 

@@ -21,13 +21,16 @@ use Rattle.enter_modifiers.specs.Modifying.{modifierEntered}
 -- ---- name, protocol and flow
 
 abbrev pub nameGiven : Given → Given
-nameGiven g = record { name = true; protocol = g .protocol; flow = g .flow; context = g .context; nocase = g .nocase; distance = g .distance; within = g .within }
+nameGiven g =
+    record { name = true; protocol = g .protocol; flow = g .flow; context = g .context; nocase = g .nocase; distance = g .distance; within = g .within }
 
 abbrev pub protocolGiven : Given → Given
-protocolGiven g = record { name = g .name; protocol = true; flow = g .flow; context = g .context; nocase = g .nocase; distance = g .distance; within = g .within }
+protocolGiven g =
+    record { name = g .name; protocol = true; flow = g .flow; context = g .context; nocase = g .nocase; distance = g .distance; within = g .within }
 
 abbrev pub flowGiven : Given → Given
-flowGiven g = record { name = g .name; protocol = g .protocol; flow = true; context = g .context; nocase = g .nocase; distance = g .distance; within = g .within }
+flowGiven g =
+    record { name = g .name; protocol = g .protocol; flow = true; context = g .context; nocase = g .nocase; distance = g .distance; within = g .within }
 
 abbrev pub withName : State → ℕ → ℕ → State
 withName st from n =

@@ -21,6 +21,7 @@ pub fn enter_name(st: State, from: usize, n: usize) -> Entered
     no_item(due, state)
 }
 
+// A protocol is kept by its number.
 pub fn enter_protocol(st: State, p: u8) -> Entered
     ensures { λ r. ⌜ r ≡ protocolEntered st p ⌝ }
 {
@@ -33,6 +34,7 @@ pub fn enter_protocol(st: State, p: u8) -> Entered
     no_item(due, state)
 }
 
+// A flow is kept as it is read.
 pub fn enter_flow(st: State, f: Flow) -> Entered
     ensures { λ r. ⌜ r ≡ flowEntered st f ⌝ }
 {

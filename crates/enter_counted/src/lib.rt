@@ -17,6 +17,7 @@ use reader_state::State;
 use reader_state::bare_pattern;
 use reader_state::no_item;
 
+// A test goes behind the items so far, with its addresses beside it; 11 where there is no room for one more.
 pub fn enter_test(st: State, item: Item, list: [Address; ADDRESSES]) -> Entered
     requires { ⌜ Sound st ⌝ }
     ensures { λ r. ⌜ r ≡ testEntered st item list ⌝ }

@@ -62,10 +62,14 @@ already (Distance d) g = g .distance
 already (Within w) g = g .within
 
 abbrev pub givenAlso : Modifier → Given → Given
-givenAlso (Context c) g = record { name = g .name; protocol = g .protocol; flow = g .flow; context = true; nocase = g .nocase; distance = g .distance; within = g .within }
-givenAlso NoCase g = record { name = g .name; protocol = g .protocol; flow = g .flow; context = g .context; nocase = true; distance = g .distance; within = g .within }
-givenAlso (Distance d) g = record { name = g .name; protocol = g .protocol; flow = g .flow; context = g .context; nocase = g .nocase; distance = true; within = g .within }
-givenAlso (Within w) g = record { name = g .name; protocol = g .protocol; flow = g .flow; context = g .context; nocase = g .nocase; distance = g .distance; within = true }
+givenAlso (Context c) g =
+    record { name = g .name; protocol = g .protocol; flow = g .flow; context = true; nocase = g .nocase; distance = g .distance; within = g .within }
+givenAlso NoCase g =
+    record { name = g .name; protocol = g .protocol; flow = g .flow; context = g .context; nocase = true; distance = g .distance; within = g .within }
+givenAlso (Distance d) g =
+    record { name = g .name; protocol = g .protocol; flow = g .flow; context = g .context; nocase = g .nocase; distance = true; within = g .within }
+givenAlso (Within w) g =
+    record { name = g .name; protocol = g .protocol; flow = g .flow; context = g .context; nocase = g .nocase; distance = g .distance; within = true }
 
 -- where `last` is the slot of the last pattern
 abbrev pub modifierEntered : State → Slot → Modifier → Entered

@@ -62,6 +62,7 @@ fn enter_modifier(st: State, last: Slot, again: bool, p: Pattern, given: Given) 
     }
 }
 
+// The context of the last pattern.
 pub fn enter_context(st: State, last: Slot, c: Context) -> Entered
     ensures { λ r. ⌜ r ≡ modifierEntered st last (modifier.Context c) ⌝ }
 {
@@ -82,6 +83,7 @@ pub fn enter_context(st: State, last: Slot, c: Context) -> Entered
     enter_modifier(st, last, again, q, given)
 }
 
+// The last pattern ignores letter case.
 pub fn enter_nocase(st: State, last: Slot) -> Entered
     ensures { λ r. ⌜ r ≡ modifierEntered st last modifier.NoCase ⌝ }
 {
@@ -94,6 +96,7 @@ pub fn enter_nocase(st: State, last: Slot) -> Entered
     enter_modifier(st, last, again, q, given)
 }
 
+// The distance of the last pattern.
 pub fn enter_distance(st: State, last: Slot, d: Shift) -> Entered
     ensures { λ r. ⌜ r ≡ modifierEntered st last (modifier.Distance d) ⌝ }
 {
@@ -114,6 +117,7 @@ pub fn enter_distance(st: State, last: Slot, d: Shift) -> Entered
     enter_modifier(st, last, again, q, given)
 }
 
+// How far the last pattern reaches.
 pub fn enter_within(st: State, last: Slot, w: Reach) -> Entered
     ensures { λ r. ⌜ r ≡ modifierEntered st last (modifier.Within w) ⌝ }
 {

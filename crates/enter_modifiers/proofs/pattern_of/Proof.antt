@@ -17,7 +17,9 @@ bare-pattern-requires c κs = tt
 
 returns : tie.Need-returns
 unfolding patternOf
-returns c = c .bare-pattern .ensures ∙ other-kind (λ (k : Kind). bare false 0 ≡ patternIn k) refl (λ a. refl) refl (c .before .before .args .slot .item) (c .before .match .keys2)
+returns c =
+    let item = c .before .before .args .slot .item in
+    c .bare-pattern .ensures ∙ other-kind (λ (k : Kind). bare false 0 ≡ patternIn k) refl (λ a. refl) refl item (c .before .match .keys2)
 
 returns-2 : tie.Need-returns-2
 unfolding patternOf

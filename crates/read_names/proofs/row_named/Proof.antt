@@ -1,144 +1,143 @@
 -- Each row is computed from the table; behind the match only the last row's number is left.
-use mathlib.Core.Path.{_≡_}
+use mathlib.Core.Path.{_≡_, refl}
 use native.Mathlib.Omega.{arith}
 use Rattle.definitions.specs.Options.{optionTable}
 use Rattle.read_names.specs.Names.{optionNames, optionOrder}
 use Rattle.read_names.proofs.Rows.{none-below}
-use borrow.Author.Needs.{needs}
 use Rattle.read_names.proofs.row_named.Statement.{statement}
 use Rattle.read_names.proofs.row_named.Tie as tie
 
 slice-aggregate-found-if : tie.Need-slice-aggregate-found-if
-slice-aggregate-found-if c = search needs
+slice-aggregate-found-if c = refl
 
 found-if-requires : tie.Need-found-if-requires
-found-if-requires c κs = search needs
+found-if-requires c κs = let pre = c .before .before .before .pre in (pre .0, pre .1)
 
 slice-aggregate-found-if-2 : tie.Need-slice-aggregate-found-if-2
-slice-aggregate-found-if-2 c = search needs
+slice-aggregate-found-if-2 c = refl
 
 found-if-requires-2 : tie.Need-found-if-requires-2
-found-if-requires-2 c κs = search needs
+found-if-requires-2 c κs = let pre = c .before .before .before .pre in (pre .0, pre .1)
 
 slice-aggregate-found-if-3 : tie.Need-slice-aggregate-found-if-3
-slice-aggregate-found-if-3 c = search needs
+slice-aggregate-found-if-3 c = refl
 
 found-if-requires-3 : tie.Need-found-if-requires-3
-found-if-requires-3 c κs = search needs
+found-if-requires-3 c κs = let pre = c .before .before .before .pre in (pre .0, pre .1)
 
 slice-aggregate-found-if-4 : tie.Need-slice-aggregate-found-if-4
-slice-aggregate-found-if-4 c = search needs
+slice-aggregate-found-if-4 c = refl
 
 found-if-requires-4 : tie.Need-found-if-requires-4
-found-if-requires-4 c κs = search needs
+found-if-requires-4 c κs = let pre = c .before .before .before .pre in (pre .0, pre .1)
 
 slice-aggregate-found-if-5 : tie.Need-slice-aggregate-found-if-5
-slice-aggregate-found-if-5 c = search needs
+slice-aggregate-found-if-5 c = refl
 
 found-if-requires-5 : tie.Need-found-if-requires-5
-found-if-requires-5 c κs = search needs
+found-if-requires-5 c κs = let pre = c .before .before .before .pre in (pre .0, pre .1)
 
 slice-aggregate-found-if-6 : tie.Need-slice-aggregate-found-if-6
-slice-aggregate-found-if-6 c = search needs
+slice-aggregate-found-if-6 c = refl
 
 found-if-requires-6 : tie.Need-found-if-requires-6
-found-if-requires-6 c κs = search needs
+found-if-requires-6 c κs = let pre = c .before .before .before .pre in (pre .0, pre .1)
 
 slice-aggregate-found-if-7 : tie.Need-slice-aggregate-found-if-7
-slice-aggregate-found-if-7 c = search needs
+slice-aggregate-found-if-7 c = refl
 
 found-if-requires-7 : tie.Need-found-if-requires-7
-found-if-requires-7 c κs = search needs
+found-if-requires-7 c κs = let pre = c .before .before .before .pre in (pre .0, pre .1)
 
 slice-aggregate-found-if-8 : tie.Need-slice-aggregate-found-if-8
-slice-aggregate-found-if-8 c = search needs
+slice-aggregate-found-if-8 c = refl
 
 found-if-requires-8 : tie.Need-found-if-requires-8
-found-if-requires-8 c κs = search needs
+found-if-requires-8 c κs = let pre = c .before .before .before .pre in (pre .0, pre .1)
 
 slice-aggregate-found-if-9 : tie.Need-slice-aggregate-found-if-9
-slice-aggregate-found-if-9 c = search needs
+slice-aggregate-found-if-9 c = refl
 
 found-if-requires-9 : tie.Need-found-if-requires-9
-found-if-requires-9 c κs = search needs
+found-if-requires-9 c κs = let pre = c .before .before .before .pre in (pre .0, pre .1)
 
 slice-aggregate-found-if-10 : tie.Need-slice-aggregate-found-if-10
-slice-aggregate-found-if-10 c = search needs
+slice-aggregate-found-if-10 c = refl
 
 found-if-requires-10 : tie.Need-found-if-requires-10
-found-if-requires-10 c κs = search needs
+found-if-requires-10 c κs = let pre = c .before .before .before .pre in (pre .0, pre .1)
 
 slice-aggregate-found-if-11 : tie.Need-slice-aggregate-found-if-11
-slice-aggregate-found-if-11 c = search needs
+slice-aggregate-found-if-11 c = refl
 
 found-if-requires-11 : tie.Need-found-if-requires-11
-found-if-requires-11 c κs = search needs
+found-if-requires-11 c κs = let pre = c .before .before .before .pre in (pre .0, pre .1)
 
 slice-aggregate-found-if-12 : tie.Need-slice-aggregate-found-if-12
-slice-aggregate-found-if-12 c = search needs
+slice-aggregate-found-if-12 c = refl
 
 found-if-requires-12 : tie.Need-found-if-requires-12
-found-if-requires-12 c κs = search needs
+found-if-requires-12 c κs = let pre = c .before .before .before .pre in (pre .0, pre .1)
 
 slice-aggregate-found-if-13 : tie.Need-slice-aggregate-found-if-13
-slice-aggregate-found-if-13 c = search needs
+slice-aggregate-found-if-13 c = refl
 
 found-if-requires-13 : tie.Need-found-if-requires-13
-found-if-requires-13 c κs = search needs
+found-if-requires-13 c κs = let pre = c .before .before .before .pre in (pre .0, pre .1)
 
 slice-aggregate-found-if-14 : tie.Need-slice-aggregate-found-if-14
-slice-aggregate-found-if-14 c = search needs
+slice-aggregate-found-if-14 c = refl
 
 found-if-requires-14 : tie.Need-found-if-requires-14
-found-if-requires-14 c κs = search needs
+found-if-requires-14 c κs = let pre = c .before .before .before .pre in (pre .0, pre .1)
 
 slice-aggregate-found-if-15 : tie.Need-slice-aggregate-found-if-15
-slice-aggregate-found-if-15 c = search needs
+slice-aggregate-found-if-15 c = refl
 
 found-if-requires-15 : tie.Need-found-if-requires-15
-found-if-requires-15 c κs = search needs
+found-if-requires-15 c κs = let pre = c .before .before .before .pre in (pre .0, pre .1)
 
 slice-aggregate-found-if-16 : tie.Need-slice-aggregate-found-if-16
-slice-aggregate-found-if-16 c = search needs
+slice-aggregate-found-if-16 c = refl
 
 found-if-requires-16 : tie.Need-found-if-requires-16
-found-if-requires-16 c κs = search needs
+found-if-requires-16 c κs = let pre = c .before .before .before .pre in (pre .0, pre .1)
 
 slice-aggregate-found-if-17 : tie.Need-slice-aggregate-found-if-17
-slice-aggregate-found-if-17 c = search needs
+slice-aggregate-found-if-17 c = refl
 
 found-if-requires-17 : tie.Need-found-if-requires-17
-found-if-requires-17 c κs = search needs
+found-if-requires-17 c κs = let pre = c .before .before .before .pre in (pre .0, pre .1)
 
 slice-aggregate-found-if-18 : tie.Need-slice-aggregate-found-if-18
-slice-aggregate-found-if-18 c = search needs
+slice-aggregate-found-if-18 c = refl
 
 found-if-requires-18 : tie.Need-found-if-requires-18
-found-if-requires-18 c κs = search needs
+found-if-requires-18 c κs = let pre = c .before .before .before .pre in (pre .0, pre .1)
 
 slice-aggregate-found-if-19 : tie.Need-slice-aggregate-found-if-19
-slice-aggregate-found-if-19 c = search needs
+slice-aggregate-found-if-19 c = refl
 
 found-if-requires-19 : tie.Need-found-if-requires-19
-found-if-requires-19 c κs = search needs
+found-if-requires-19 c κs = let pre = c .before .before .before .pre in (pre .0, pre .1)
 
 slice-aggregate-found-if-20 : tie.Need-slice-aggregate-found-if-20
-slice-aggregate-found-if-20 c = search needs
+slice-aggregate-found-if-20 c = refl
 
 found-if-requires-20 : tie.Need-found-if-requires-20
-found-if-requires-20 c κs = search needs
+found-if-requires-20 c κs = let pre = c .before .before .before .pre in (pre .0, pre .1)
 
 slice-aggregate-found-if-21 : tie.Need-slice-aggregate-found-if-21
-slice-aggregate-found-if-21 c = search needs
+slice-aggregate-found-if-21 c = refl
 
 found-if-requires-21 : tie.Need-found-if-requires-21
-found-if-requires-21 c κs = search needs
+found-if-requires-21 c κs = let pre = c .before .before .before .pre in (pre .0, pre .1)
 
 slice-aggregate-found-if-22 : tie.Need-slice-aggregate-found-if-22
-slice-aggregate-found-if-22 c = search needs
+slice-aggregate-found-if-22 c = refl
 
 found-if-requires-22 : tie.Need-found-if-requires-22
-found-if-requires-22 c κs = search needs
+found-if-requires-22 c κs = let pre = c .before .before .before .pre in (pre .0, pre .1)
 
 returns : tie.Need-returns
 unfolding optionNames optionOrder optionTable
