@@ -13,12 +13,12 @@ use Rattle.definitions.specs.declared.answers.Reading.{Reading}
 use Rattle.definitions.specs.Limits.{limits01}
 use Rattle.definitions.specs.Reading.{read}
 use Rattle.definitions.specs.Cases.{pairs}
-use Rattle.line_parts.specs.Parts.{contains, partBefore, partAfter, afterParts, part}
+use Rattle.line_parts.specs.Parts.{contains, partBefore, partAfter, afterParts}
 use Rattle.line_parts.proofs.Delimiters.{part-le}
 use Rattle.line_numbers.specs.HexPairs.{isHex}
 use Rattle.line_packets.specs.declared.packets.PacketColumns.{PacketColumns}
-use Rattle.line_packets.specs.Directions.{isDirection, directionOf}
-use Rattle.line_packets.specs.FieldMaps.{isMap, mapOf}
+use Rattle.line_packets.specs.Directions.{isDirection}
+use Rattle.line_packets.specs.FieldMaps.{isMap}
 use Rattle.line_packets.specs.Packets.{isPacket, packetOf}
 use Rattle.case_columns.specs.Asks.{Ask, isAsk, askOf}
 use Rattle.case_answers.specs.CaseLines.{maxLine, isCase, caseOf}
@@ -29,7 +29,9 @@ use Rattle.case_answers.specs.Columns.{maxPairs, areColumns, columnsText
 pub room-is : {n : ℕ} → n ≡ maxPairs → maxLine ≤ n * 2
 room-is e = omega (arith, e)
 
-pub formed-is : {x u y v : List ℕ} {r q : Reading} (dir : Direction) (m : FieldMap) (a : Ask) → x ≡ u → y ≡ v → r ≡ q → readingText u v dir m q a ≡ readingText x y dir m r a
+pub formed-is :
+    {x u y v : List ℕ} {r q : Reading} (dir : Direction) (m : FieldMap) (a : Ask) → x ≡ u → y ≡ v → r ≡ q
+    → readingText u v dir m q a ≡ readingText x y dir m r a
 formed-is {x = x} {u = u} {y = y} {v = v} {r = r} {q = q} dir m a e f g =
     ap (λ (w : List ℕ). readingText w v dir m q a) (sym e)
     ∙ ap (λ (w : List ℕ). readingText x w dir m q a) (sym f)
@@ -68,29 +70,43 @@ pub long-line : (l : List ℕ) → maxLine < length l → caseAnswer l ≡ text 
 unfolding caseAnswer isCase
 long-line l h = rw (lt-leb (length l) maxLine h)
 
-module _ (l r1 r2 r3 r4 : List ℕ) (h : length l ≤ maxLine) (q1 : r1 ≡ partAfter 9 l) (q2 : r2 ≡ partAfter 9 r1) (q3 : r3 ≡ partAfter 9 r2) (q4 : r4 ≡ partAfter 9 r3) where
-  two : r2 ≡ partAfter 9 (partAfter 9 l)
-  two = q2 ∙ ap (partAfter 9) q1
+module _
+    (l r1 r2 r3 r4 : List ℕ) (h : length l ≤ maxLine)
+    (q1 : r1 ≡ partAfter 9 l) (q2 : r2 ≡ partAfter 9 r1) (q3 : r3 ≡ partAfter 9 r2) (q4 : r4 ≡ partAfter 9 r3)
+  where
+    two : r2 ≡ partAfter 9 (partAfter 9 l)
+    two = q2 ∙ ap (partAfter 9) q1
 
-  three : r3 ≡ partAfter 9 (partAfter 9 (partAfter 9 l))
-  three = q3 ∙ ap (partAfter 9) two
+    three : r3 ≡ partAfter 9 (partAfter 9 (partAfter 9 l))
+    three = q3 ∙ ap (partAfter 9) two
 
-  four : r4 ≡ partAfter 9 (partAfter 9 (partAfter 9 (partAfter 9 l)))
-  four = q4 ∙ ap (partAfter 9) three
+    four : r4 ≡ partAfter 9 (partAfter 9 (partAfter 9 (partAfter 9 l)))
+    four = q4 ∙ ap (partAfter 9) three
 
-  pub few-tabs : contains 9 r4 ≡ false → caseAnswer l ≡ text "bad"
-  unfolding caseAnswer isCase afterParts
-  few-tabs e = rw (le-leb (length l) maxLine h, ap (contains 9) (sym four) ∙ e)
+    pub few-tabs : contains 9 r4 ≡ false → caseAnswer l ≡ text "bad"
+    unfolding caseAnswer isCase afterParts
+    few-tabs e = rw (le-leb (length l) maxLine h, ap (contains 9) (sym four) ∙ e)
 
-  pub packet-le : (x : List ℕ) → x ≡ partBefore 9 r1 → length x ≤ maxLine
-  unfolding afterParts
-  packet-le x e = omega (arith, ap length (e ∙ ap (partBefore 9) q1), part-le 9 1 l, h)
+    pub packet-le : (x : List ℕ) → x ≡ partBefore 9 r1 → length x ≤ maxLine
+    unfolding afterParts
+    packet-le x e = omega (arith, ap length (e ∙ ap (partBefore 9) q1), part-le 9 1 l, h)
 
-  pub decoded-le : (x : List ℕ) → x ≡ partBefore 9 r3 → length x ≤ maxLine
-  unfolding afterParts
-  decoded-le x e = omega (arith, ap length (e ∙ ap (partBefore 9) three), part-le 9 3 l, h)
+    pub decoded-le : (x : List ℕ) → x ≡ partBefore 9 r3 → length x ≤ maxLine
+    unfolding afterParts
+    decoded-le x e = omega (arith, ap length (e ∙ ap (partBefore 9) three), part-le 9 3 l, h)
 
-  pub as-columns : contains 9 r4 ≡ true → (o p f d a s : List ℕ) → o ≡ partBefore 9 l → p ≡ partBefore 9 r1 → f ≡ partBefore 9 r2 → d ≡ partBefore 9 r3 → a ≡ partBefore 9 r4 → s ≡ partAfter 9 r4 → caseAnswer l ≡ columnsText o p f d a s
-  unfolding caseAnswer isCase caseOf afterParts columnsText areColumns
-  as-columns e o p f d a s oe pe fe de ae se =
-      rw (le-leb (length l) maxLine h, ap (contains 9) (sym four) ∙ e, oe, pe ∙ ap (partBefore 9) q1, fe ∙ ap (partBefore 9) two, de ∙ ap (partBefore 9) three, ae ∙ ap (partBefore 9) four, se ∙ ap (partAfter 9) four)
+    pub as-columns :
+        contains 9 r4 ≡ true → (o p f d a s : List ℕ) → o ≡ partBefore 9 l → p ≡ partBefore 9 r1 → f ≡ partBefore 9 r2
+        → d ≡ partBefore 9 r3 → a ≡ partBefore 9 r4 → s ≡ partAfter 9 r4 → caseAnswer l ≡ columnsText o p f d a s
+    unfolding caseAnswer isCase caseOf afterParts columnsText areColumns
+    as-columns e o p f d a s oe pe fe de ae se =
+        rw (
+          le-leb (length l) maxLine h,
+          ap (contains 9) (sym four) ∙ e,
+          oe,
+          pe ∙ ap (partBefore 9) q1,
+          fe ∙ ap (partBefore 9) two,
+          de ∙ ap (partBefore 9) three,
+          ae ∙ ap (partBefore 9) four,
+          se ∙ ap (partAfter 9) four,
+        )

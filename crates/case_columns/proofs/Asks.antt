@@ -1,15 +1,15 @@
 -- The ask: the word, or what stands between the brackets; and what the code's answer tells of the bytes.
-use mathlib.Core.Path.{_≡_, refl, sym, ap, _∙_}
-use mathlib.Core.Bool.{Bool, true, false, _&&_}
-use mathlib.Core.List.{List, []}
+use mathlib.Core.Path.{_≡_, refl, ap, _∙_}
+use mathlib.Core.Bool.{Bool, true, false}
+use mathlib.Core.List.{List}
 use Prim.Native.Nat.{ℕ}
 use Rattle.forms.specs.Bytes.{if_then_else_, text}
 use Rattle.forms.proofs.Bools.{by-cases}
 use Rattle.definitions.specs.Lists.{sameBytes}
-use Rattle.definitions.specs.Answers.{placementOf}
 use Rattle.line_parts.specs.Parts.{partBefore, partAfter}
 use Rattle.case_columns.specs.declared.Asked.{Asked}
-use Rattle.case_columns.specs.Asks.{Ask, all, first, next, inside, isEnclosed, areStarts, isAsk, askOf, isKind, askBy, askedBy, noAsk, parsedStarts, parsedNext, parsedAsk}
+use Rattle.case_columns.specs.Asks.{Ask, all, first, next, isEnclosed, isAsk, askOf, isKind, askBy}
+use Rattle.case_columns.specs.Asks.{askedBy, noAsk, parsedStarts, parsedNext, parsedAsk}
 
 module _ (l : List ℕ) where
   -- ---- between the brackets
@@ -36,11 +36,7 @@ module _ (l : List ℕ) where
     pub ask-next : sameBytes l (text "first") ≡ false → (r : Asked) → r ≡ parsedNext l → r ≡ parsedAsk l
     unfolding parsedAsk isAsk askOf parsedNext parsedStarts
     ask-next f r e =
-        rw (other, f)
-        (e
-        ∙ by-cases (isEnclosed l)
-        (λ t. rw t)
-        (λ n. rw n))
+        rw (other, f) (e ∙ by-cases (isEnclosed l) (λ t. rw t) (λ n. rw n))
 
 -- ---- what the answer tells
 

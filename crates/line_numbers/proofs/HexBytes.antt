@@ -101,28 +101,31 @@ pairs-out s i h = short (drop i s) (omega (arith, length-drop i s, h))
 
 -- ---- in a lent buffer
 
-pub pairs-length : (l : List ℕ) → length (pairs l) * 2 ≤ length l
+pairs-length : (l : List ℕ) → length (pairs l) * 2 ≤ length l
 unfolding pairs
 pairs-length [] = omega arith
 pairs-length (a ∷ []) = omega arith
 pairs-length (a ∷ (b ∷ l)) = omega (arith, pairs-length l)
 
 -- pairs put from the start of a buffer that has room for those of most bytes
-module _ (most : ℕ) (few : most ≤ countedMost) (l room after : List ℕ) (n : ℕ) (p : Puts room 0 (pairs l) after n) (h : length l ≤ most) (g : most ≤ length room * 2) where
-  count-is : n ≡ length (pairs l)
-  count-is =
-      let counted : n ≡ 0 + length (pairs l) =
-      ap (λ (x : List ℕ × ℕ). x .1) (p .is)
-      ∙ puts-count room 0 (pairs l) (omega arith)
-      ∙ most-of (0 + length (pairs l)) countedMost (omega (arith, pairs-length l, h, few)) in
-      omega (arith, counted)
+module _
+    (most : ℕ) (few : most ≤ countedMost) (l room after : List ℕ) (n : ℕ) (p : Puts room 0 (pairs l) after n)
+    (h : length l ≤ most) (g : most ≤ length room * 2)
+  where
+    count-is : n ≡ length (pairs l)
+    count-is =
+        let counted : n ≡ 0 + length (pairs l) =
+        ap (λ (x : List ℕ × ℕ). x .1) (p .is)
+        ∙ puts-count room 0 (pairs l) (omega arith)
+        ∙ most-of (0 + length (pairs l)) countedMost (omega (arith, pairs-length l, h, few)) in
+        omega (arith, counted)
 
-  pub pairs-in : n ≤ length after
-  pairs-in = omega (arith, count-is, pairs-length l, h, g, same-length p)
+    pub pairs-in : n ≤ length after
+    pairs-in = omega (arith, count-is, pairs-length l, h, g, same-length p)
 
-  pub pairs-are : take (n - 0) (drop 0 after) ≡ pairs l
-  pairs-are =
-      let e : n - 0 ≡ length (pairs l) = omega (arith, count-is) in
-      let held : after ≡ pairs l ++ drop (0 + length (pairs l)) room =
-      ap (λ (x : List ℕ × ℕ). x .0) (p .is) ∙ puts-buffer room 0 (pairs l) (omega (arith, pairs-length l, h, g)) (omega (arith, pairs-length l, h, few)) in
-      ap (λ (k : ℕ). take k after) e ∙ ap (take (length (pairs l))) held ∙ take-append-seam (pairs l) (drop (0 + length (pairs l)) room)
+    pub pairs-are : take (n - 0) (drop 0 after) ≡ pairs l
+    pairs-are =
+        let e : n - 0 ≡ length (pairs l) = omega (arith, count-is) in
+        let held : after ≡ pairs l ++ drop (0 + length (pairs l)) room =
+        ap (λ (x : List ℕ × ℕ). x .0) (p .is) ∙ puts-buffer room 0 (pairs l) (omega (arith, pairs-length l, h, g)) (omega (arith, pairs-length l, h, few)) in
+        ap (λ (k : ℕ). take k after) e ∙ ap (take (length (pairs l))) held ∙ take-append-seam (pairs l) (drop (0 + length (pairs l)) room)

@@ -50,7 +50,9 @@ hex-other l r e q n =
     let other : run (has hexDigits) l ≡ length l → ⊥ = λ z. n (omega (arith, q, z)) in
     rw (e, all-run (has hexDigits) l, ne-eqb (run (has hexDigits) l) (length l) other) (sym (and-false (not (none? l))))
 
-pub hex-even : (l : List ℕ) (r : ℕ) → sameBytes l (text "-") ≡ false → (length l ≡ 0 → ⊥) → r ≡ 0 + run (has hexDigits) l → r ≡ length l → eqb (length l % 2) 0 ≡ isHex l
+pub hex-even :
+    (l : List ℕ) (r : ℕ) → sameBytes l (text "-") ≡ false → (length l ≡ 0 → ⊥) → r ≡ 0 + run (has hexDigits) l → r ≡ length l
+    → eqb (length l % 2) 0 ≡ isHex l
 unfolding isHex
 hex-even [] r e n q z = absurd (n refl)
 hex-even (b ∷ l) r e n q z =

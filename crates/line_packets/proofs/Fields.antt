@@ -20,7 +20,8 @@ use Rattle.line_packets.specs.declared.field_maps.SpanResult.{SpanResult
 use Rattle.line_packets.specs.declared.field_maps.SpanResult.the-variants as span
 use Rattle.line_packets.specs.declared.field_maps.MapResult.{MapResult}
 use Rattle.line_packets.specs.declared.field_maps.MapResult.the-variants.{Parsed, Failed}
-use Rattle.line_packets.specs.FieldMaps.{fieldNamed, noFields, withField, isSpan, spanOf, isField, insertField, areFields, mapFrom, isMap, mapOf, parsedSpan, parsedField, parsedFields, parsedMap}
+use Rattle.line_packets.specs.FieldMaps.{fieldNamed, noFields, withField, isSpan, spanOf, isField, insertField, areFields, mapFrom, isMap, mapOf}
+use Rattle.line_packets.specs.FieldMaps.{parsedSpan, parsedField, parsedFields, parsedMap}
 use Rattle.line_packets.proofs.Spans.{failed-span, parsed-span, span-value}
 
 -- ---- one field

@@ -1,6 +1,6 @@
 -- The four columns of a packet, from the answers for each; and what the answer for all tells of them.
-use mathlib.Core.Path.{_≡_, refl, sym, ap, _∙_}
-use mathlib.Core.Bool.{Bool, true, false, false≢true, _&&_}
+use mathlib.Core.Path.{_≡_, sym}
+use mathlib.Core.Bool.{true, false, false≢true, _&&_}
 use mathlib.Core.List.{List}
 use Prim.Native.Nat.{ℕ}
 use Rattle.forms.proofs.Bools.{both-left, both-right}

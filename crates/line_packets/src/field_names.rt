@@ -46,6 +46,7 @@ pub fn no_fields() -> FieldMap
     }
 }
 
+// The map with another uri, and so for each field.
 fn with_uri(m: FieldMap, f: FieldSpan) -> FieldMap
     ensures { λ r. ⌜ r ≡ withField m context.Uri f ⌝ }
 {

@@ -7,7 +7,7 @@ use native.Mathlib.Omega.{arith}
 use native.Mathlib.Nat.{le-refl}
 use lib.ListN.{length, take, drop, length-drop, drop-of-length-le}
 use lib.Seq.{length-take-le}
-use lib.Dec.{eqb, ltb}
+use lib.Dec.{eqb}
 use borrow.Author.Tests.{ltb-false}
 use Rattle.forms.specs.Bytes.{run}
 use Rattle.scan.proofs.Running.{run-le}
@@ -44,7 +44,7 @@ module _ (d : ℕ) (l : List ℕ) where
   pub before-le : length (partBefore d l) ≤ length l
   before-le = omega (arith, before-length, find-le)
 
-  pub after-le : length (partAfter d l) ≤ length l
+  after-le : length (partAfter d l) ≤ length l
   unfolding partAfter
   after-le = omega (arith, length-drop (suc (find d l)) l)
 
@@ -54,7 +54,7 @@ module _ (d : ℕ) (l : List ℕ) where
 
 -- ---- by the number of delimiters passed
 
-pub afterParts-le : (d k : ℕ) (l : List ℕ) → length (afterParts d k l) ≤ length l
+afterParts-le : (d k : ℕ) (l : List ℕ) → length (afterParts d k l) ≤ length l
 unfolding afterParts
 afterParts-le d zero l = le-refl (length l)
 afterParts-le d (suc k) l = omega (arith, afterParts-le d k (partAfter d l), after-le d l)

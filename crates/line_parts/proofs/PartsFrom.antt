@@ -23,7 +23,7 @@ ltb-suc a b =
 abbrev rest : ℕ → List ℕ → List (List ℕ)
 rest d l = if contains d l then parts d (partAfter d l) else []
 
-pub parts-step : (d : ℕ) (l : List ℕ) → parts d l ≡ partBefore d l ∷ rest d l
+parts-step : (d : ℕ) (l : List ℕ) → parts d l ≡ partBefore d l ∷ rest d l
 unfolding parts contains partBefore partAfter find run
 parts-step d [] = refl
 parts-step d (b ∷ l) =
@@ -38,7 +38,9 @@ partsFrom d s at = if leb at (length s) then parts d (drop at s) else []
 pub from-start : (d : ℕ) (s : List ℕ) → parts d s ≡ partsFrom d s 0
 from-start d s = rw (le-leb 0 (length s) (omega arith))
 
-from-on : (d : ℕ) (s : List ℕ) (at k : ℕ) → at ≤ length s → k ≡ length (partBefore d (drop at s)) → partsFrom d s at ≡ partBefore d (drop at s) ∷ partsFrom d s (at + (k + 1))
+from-on :
+    (d : ℕ) (s : List ℕ) (at k : ℕ) → at ≤ length s → k ≡ length (partBefore d (drop at s))
+    → partsFrom d s at ≡ partBefore d (drop at s) ∷ partsFrom d s (at + (k + 1))
 unfolding contains partAfter
 from-on d s at k h e =
     let l = drop at s in

@@ -84,7 +84,8 @@ returns-3 c =
     (as-columns _ _ _ _ _ (tabs .before .before .before .before .if1 .left) (tabs .before .before .before .part-after .ensures)
     (tabs .before .before .part-after2 .ensures) (tabs .before .part-after3 .ensures) (tabs .part-after4 .ensures)
     (sym (test .before .contains .ensures) ∙ not-false _ (test .if2 .left)) _ _ _ _ _ _
-    (columns .before .before .before .before .part-before .ensures) (columns .before .before .before .part-before2 .ensures) (columns .before .before .part-before3 .ensures)
+    (columns .before .before .before .before .part-before .ensures) (columns .before .before .before .part-before2 .ensures)
+    (columns .before .before .part-before3 .ensures)
     (columns .before .part-before4 .ensures) (columns .part-before5 .ensures) (test .before .before .part-after5 .ensures))
     (c .before .before .put-columns .ensures)
 

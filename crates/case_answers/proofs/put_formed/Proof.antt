@@ -49,8 +49,10 @@ returns c =
     let first = second .before .before in
     let start = first .before .before .before .before .before .before in
     let packet = pairs-are maxLine (omega arith) _ _ _ _ (first .put-pairs .ensures) (start .pre .2) (room-is (first .before .put-pairs-arg .given .0 .1)) in
-    let decoded = pairs-are maxLine (omega arith) _ _ _ _ (second .put-pairs2 .ensures) (start .pre .3) (room-is (second .before .put-pairs-arg2 .given .0 .1)) in
-    told (formed-is _ _ _ packet decoded (c .before .before .before .before .before .before .before .before .before .before .read .ensures)) (c .before .before .put-reading .ensures)
+    let room = room-is (second .before .put-pairs-arg2 .given .0 .1) in
+    let decoded = pairs-are maxLine (omega arith) _ _ _ _ (second .put-pairs2 .ensures) (start .pre .3) room in
+    let read = c .before .before .before .before .before .before .before .before .before .before .read .ensures in
+    told (formed-is _ _ _ packet decoded read) (c .before .before .put-reading .ensures)
 
 same-length : tie.Need-same-length
 same-length c = same (returns c)

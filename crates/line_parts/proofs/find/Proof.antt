@@ -24,7 +24,9 @@ shared-slice-read-if1 : tie.Need-shared-slice-read-if1 Inv-loop μ-loop
 shared-slice-read-if1 c = omega arith
 
 returns : tie.Need-returns Inv-loop μ-loop
-returns c = find-is _ _ _ (run-halt (λ b. not (eqb b _)) _ 0 _ (c .before .before .before .loop .inv) (c .before .before .loop-test .taken) (ap not (eq-eqb _ _ (c .if1 .taken))))
+returns c =
+    let turn = c .before .before in
+    find-is _ _ _ (run-halt (λ b. not (eqb b _)) _ 0 _ (turn .before .loop .inv) (turn .loop-test .taken) (ap not (eq-eqb _ _ (c .if1 .taken))))
 
 add-i : tie.Need-add-i Inv-loop μ-loop
 add-i c = omega arith
@@ -33,7 +35,9 @@ loop-less : tie.Need-loop-less Inv-loop μ-loop
 loop-less c = omega arith
 
 loop-again : tie.Need-loop-again Inv-loop μ-loop
-loop-again c = run-on (λ b. not (eqb b _)) _ 0 _ (c .before .before .before .loop .inv) (c .before .before .loop-test .taken) (ap not (ne-eqb _ _ (c .if1 .left)))
+loop-again c =
+    let turn = c .before .before in
+    run-on (λ b. not (eqb b _)) _ 0 _ (turn .before .loop .inv) (turn .loop-test .taken) (ap not (ne-eqb _ _ (c .if1 .left)))
 
 returns-2 : tie.Need-returns-2 Inv-loop μ-loop
 returns-2 c = find-is _ _ _ (run-out (λ b. not (eqb b _)) _ 0 _ (c .before .loop .inv) (c .loop-test .left))

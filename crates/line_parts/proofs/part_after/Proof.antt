@@ -23,7 +23,9 @@ part-result-end : tie.Need-part-result-end
 part-result-end c = search needs
 
 returns : tie.Need-returns
-returns c = part-to-end (c .before .before .before .before .args .s .now) (c .before .before .find .result + 1) ∙ after-is _ _ _ (c .before .before .find .ensures)
+returns c =
+    let found = c .before .before .find in
+    part-to-end (c .before .before .before .before .args .s .now) (found .result + 1) ∙ after-is _ _ _ (found .ensures)
 
 sub-result-2 : tie.Need-sub-result-2
 sub-result-2 c = omega (arith, c .before .find .ensures, find-le (c .before .before .before .args .d) (c .before .before .before .args .s .now))
@@ -35,7 +37,9 @@ part-result-end-2 : tie.Need-part-result-end-2
 part-result-end-2 c = search needs
 
 returns-2 : tie.Need-returns-2
-returns-2 c = part-to-end (c .before .before .before .before .args .s .now) (c .before .before .find .result) ∙ after-none _ _ _ (c .before .before .find .ensures) (c .before .if1 .left)
+returns-2 c =
+    let found = c .before .before .find in
+    part-to-end (c .before .before .before .before .args .s .now) (found .result) ∙ after-none _ _ _ (found .ensures) (c .before .if1 .left)
 
 pub part-after-spec : {M : Type 1} → statement M
 part-after-spec =

@@ -43,29 +43,34 @@ enum-told c = search needs
 
 returns : tie.Need-returns Inv-loop μ-loop
 returns c =
-    let turn = c .before .before .before .before .before in
-    inserting-halt _ _ _ (turn .before .loop .inv) (turn .loop-test .taken) _ (c .before .before .before .part-before .ensures) _ (c .before .before .insert-field .ensures) (c .enum-told .given .1)
+    let field = c .before .before in
+    let test = field .before .before .before in
+    inserting-halt _ _ _ (test .before .loop .inv) (test .loop-test .taken) _ (field .before .part-before .ensures) _ (field .insert-field .ensures)
+    (c .enum-told .given .1)
 
 add-at : tie.Need-add-at Inv-loop μ-loop
 add-at c =
-    let turn = c .before .before .before .before .before .before in
-    let part = part-in 44 (turn .before .before .before .before .args .s .now) (turn .before .loop .at) (turn .loop-test .taken) _ (c .before .before .before .before .part-before .ensures) in
-    omega (arith, part)
+    let field = c .before .before .before in
+    let test = field .before .before .before in
+    let s = test .before .before .before .before .args .s .now in
+    omega (arith, part-in 44 s (test .before .loop .at) (test .loop-test .taken) _ (field .before .part-before .ensures))
 
 add-at-2 : tie.Need-add-at-2 Inv-loop μ-loop
 add-at-2 c =
-    let turn = c .before .before .before .before .before .before in
-    let part = part-in 44 (turn .before .before .before .before .args .s .now) (turn .before .loop .at) (turn .loop-test .taken) _ (c .before .before .before .before .part-before .ensures) in
-    omega (arith, part)
+    let field = c .before .before .before in
+    let test = field .before .before .before in
+    let s = test .before .before .before .before .args .s .now in
+    omega (arith, part-in 44 s (test .before .loop .at) (test .loop-test .taken) _ (field .before .part-before .ensures))
 
 loop-less : tie.Need-loop-less Inv-loop μ-loop
 loop-less c = omega arith
 
 loop-again : tie.Need-loop-again Inv-loop μ-loop
 loop-again c =
-    let turn = c .before .before .before .before .before .before in
     let field = c .before .before .before in
-    inserting-on _ _ _ (turn .before .loop .inv) (turn .loop-test .taken) _ (field .before .part-before .ensures) _ (field .insert-field .ensures) _ (c .before .next .given .1)
+    let test = field .before .before .before in
+    inserting-on _ _ _ (test .before .loop .inv) (test .loop-test .taken) _ (field .before .part-before .ensures) _ (field .insert-field .ensures)
+    _ (c .before .next .given .1)
 
 returns-2 : tie.Need-returns-2 Inv-loop μ-loop
 returns-2 c = inserting-out _ _ _ (c .before .loop .inv) (omega arith)
