@@ -63,6 +63,7 @@ pub fn address_holds(f: Facts, a: AddressTest, addresses: [Address; ADDRESSES]) 
     if a.negated { !among } else { among }
 }
 
+// same_ip: source and destination are the same address.
 pub fn same_ip(f: Facts) -> bool
     ensures { λ r. ⌜ r ≡ eqb (f .source) (f .destination) ⌝ }
 {

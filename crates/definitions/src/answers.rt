@@ -41,6 +41,7 @@ pub enum ReadOutcome {
     Refused(Refusal, usize),
 }
 
+// An answer of reading with the table beside it.
 pub struct Reading {
     pub outcome: ReadOutcome,
     pub table: Table,
@@ -72,6 +73,7 @@ pub enum Found {
     Refused(Refusal),
 }
 
+// The answer of "first" or "next" with the placement beside it.
 pub struct Answer {
     pub found: Found,
     pub placement: Placement,

@@ -30,6 +30,7 @@ pub struct Span {
     pub len: usize,
 }
 
+// A field of the map: absent, or at a span.
 pub enum FieldSpan {
     Absent,
     At(Span),
@@ -51,6 +52,7 @@ pub struct Match {
     pub end: usize,
 }
 
+// The last positive pattern before an item, if there is one.
 pub enum Last {
     Nothing,
     Was(Match),

@@ -17,6 +17,7 @@ pub enum Side {
     Destination,
 }
 
+// src_addr or dst_addr, negated or not, against the first addresses of its slot.
 pub struct AddressTest {
     pub side: Side,
     pub negated: bool,
@@ -31,6 +32,7 @@ pub enum NumberField {
     Tos,
 }
 
+// A header number that must be equal.
 pub struct NumberTest {
     pub field: NumberField,
     pub number: u16,
@@ -43,6 +45,7 @@ pub enum Order {
     Greater,
 }
 
+// ip_ttl: an order and a number.
 pub struct TtlTest {
     pub order: Order,
     pub number: u8,
@@ -56,6 +59,7 @@ pub enum HeaderField {
     Ttl,
 }
 
+// The operator of a field test.
 pub enum Operator {
     Equal,
     Unequal,
@@ -65,6 +69,7 @@ pub enum Operator {
     AtLeast,
 }
 
+// A field test: the field AND the mask, compared with the number.
 pub struct FieldTest {
     pub field: HeaderField,
     pub mask: u16,
@@ -80,6 +85,7 @@ pub enum SizeField {
     Body,
 }
 
+// data_size: an order, a number, and the field whose size it is.
 pub struct SizeTest {
     pub order: Order,
     pub number: u16,
@@ -103,6 +109,7 @@ pub enum Context {
     File,
 }
 
+// What distance and within are counted from.
 pub enum Reference {
     Match,
     Packet,
@@ -116,6 +123,7 @@ pub struct Shift {
     pub reverse: bool,
 }
 
+// distance, if given.
 pub enum Distance {
     Free,
     By(Shift),
@@ -127,6 +135,7 @@ pub struct Reach {
     pub reference: Reference,
 }
 
+// within, if given.
 pub enum Within {
     Free,
     Of(Reach),
@@ -142,6 +151,7 @@ pub struct Pattern {
     pub within: Within,
 }
 
+// An item of a table: a test, a pattern, or none.
 pub enum Item {
     Unused,
     Address(AddressTest),
@@ -166,6 +176,7 @@ pub struct Slot {
     pub addresses: [Address; ADDRESSES],
 }
 
+// The table of a rule: name, protocol, flow, pattern bytes, items.
 pub struct Table {
     pub name: [u8; NAME_BYTES],
     pub len: usize,

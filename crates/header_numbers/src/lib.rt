@@ -25,7 +25,7 @@ fn wide_at(d: &[u8], at: usize, n: usize) -> u64
     v
 }
 
-// One byte, two and four.
+// The number of one byte at a place.
 pub fn wide8(d: &[u8], at: usize) -> u8
     requires { ⌜ at ≤ 255 ⌝ }
     ensures { λ r. ⌜ r ≡ wide 1 (now (d .entry)) at ⌝ }
@@ -33,6 +33,7 @@ pub fn wide8(d: &[u8], at: usize) -> u8
     wide_at(d, at, 1) as u8
 }
 
+// The number of two bytes at a place.
 pub fn wide16(d: &[u8], at: usize) -> u16
     requires { ⌜ at ≤ 255 ⌝ }
     ensures { λ r. ⌜ r ≡ wide 2 (now (d .entry)) at ⌝ }
@@ -40,6 +41,7 @@ pub fn wide16(d: &[u8], at: usize) -> u16
     wide_at(d, at, 2) as u16
 }
 
+// The number of four bytes at a place.
 pub fn wide32(d: &[u8], at: usize) -> u32
     requires { ⌜ at ≤ 255 ⌝ }
     ensures { λ r. ⌜ r ≡ wide 4 (now (d .entry)) at ⌝ }

@@ -19,6 +19,7 @@ pub fn header_length(d: &[u8]) -> usize
     (words as usize) * 4
 }
 
+// The length of the datagram, as its header gives it.
 pub fn total_length(d: &[u8]) -> usize
     ensures { λ r. ⌜ r ≡ totalLength (now (d .entry)) ⌝ }
 {

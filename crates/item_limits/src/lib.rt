@@ -43,6 +43,7 @@ pub fn number_most(field: NumberField) -> u64
     }
 }
 
+// Whether a number test is within the limit of its field.
 pub fn number_fits(a: NumberTest) -> bool
     ensures { λ r. ⌜ r ≡ leb (a .number) (numberMost (a .field)) ⌝ }
 {
@@ -63,6 +64,7 @@ pub fn field_most(field: HeaderField) -> u64
     }
 }
 
+// Whether mask and number of a field test are within the limit of its field.
 pub fn field_fits(a: FieldTest) -> bool
     ensures { λ r. ⌜ r ≡ itemFits (Item.Field a) ⌝ }
 {

@@ -50,6 +50,7 @@ fn of_byte(x: u8) -> usize
     x as usize
 }
 
+// A number of two bytes, as wide as lengths are.
 pub fn of_word(x: u16) -> usize
     ensures { λ r. ⌜ r ≡ x ⌝ }
 {
@@ -67,6 +68,7 @@ pub fn order_holds(order: Order, x: usize, n: usize) -> bool
     }
 }
 
+// ip_ttl: the time to live compared with the number.
 pub fn ttl_holds(f: Facts, t: TtlTest) -> bool
     ensures { λ r. ⌜ r ≡ orderHolds (t .order) (f .ttl) (t .number) ⌝ }
 {

@@ -11,6 +11,7 @@ use protocols::TCP;
 use protocols::UDP;
 use protocols::has_ports;
 
+// The datagram's protocol.
 pub fn protocol_of(d: &[u8]) -> u8
     ensures { λ r. ⌜ r ≡ protocolOf (now (d .entry)) ⌝ }
 {
