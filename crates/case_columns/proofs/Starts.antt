@@ -1,6 +1,6 @@
 -- The starts of an earlier placement, one after the other.
 use mathlib.Core.Path.{_≡_, refl, sym, ap, _∙_}
-use mathlib.Core.Bool.{true, false, _&&_, and-false}
+use mathlib.Core.Bool.{false, and-false}
 use mathlib.Core.List.{List, [], _∷_, _++_, map, append-nil}
 use Prim.Native.Nat.{ℕ, _+_, _-_, _≤_, _<_}
 use native.Mathlib.Omega.{arith}
@@ -10,7 +10,6 @@ use borrow.Author.Tests.{le-leb, lt-leb}
 use Rattle.definitions.specs.declared.packet.Start.{Start}
 use Rattle.definitions.specs.Limits.{patternsMost}
 use Rattle.definitions.specs.Lists.{all?, none?, padded}
-use Rattle.definitions.specs.Numbers.{valueOf}
 use Rattle.definitions.specs.Starts.{startAt}
 use Rattle.definitions.specs.Answers.{placementOf}
 use Rattle.laws.proofs.Padded.{padded-one}

@@ -1,8 +1,8 @@
 -- What two states, or what is given in two, have to agree in; and what one entry more leaves as it is.
-use mathlib.Core.Path.{_≡_, ap, _∙_}
+use mathlib.Core.Path.{_≡_, _∙_}
 use mathlib.Core.Bool.{Bool, true, false}
 use mathlib.Core.List.{List, [], _∷_, _++_, append-nil}
-use Prim.Native.Nat.{ℕ, _+_}
+use Prim.Native.Nat.{_+_}
 use native.Mathlib.Omega.{arith}
 use Rattle.definitions.specs.declared.table.Flow.the-variants.{Any}
 use Rattle.definitions.specs.declared.table.Pattern as patterns

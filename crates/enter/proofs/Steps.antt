@@ -1,8 +1,8 @@
 -- The state of one entry more is the state before it with the code's change: field by field, by what one entry more does.
-use mathlib.Core.Path.{_≡_, refl, sym, ap, _∙_}
+use mathlib.Core.Path.{_≡_, refl, ap, _∙_}
 use mathlib.Core.Bool.{Bool, true, false}
 use mathlib.Core.List.{List, [], _∷_, _++_, append-nil}
-use Prim.Native.Nat.{ℕ, _+_, _≤_, _<_}
+use Prim.Native.Nat.{ℕ, _+_, _<_}
 use lib.ListN.{length, length-append, set, length-set}
 use Rattle.definitions.specs.declared.table.Flow.the-variants.{Any}
 use Rattle.definitions.specs.declared.table.Flow as flows

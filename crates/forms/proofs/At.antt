@@ -12,7 +12,7 @@ use Rattle.forms.specs.Form.{Class, has, Form, tell, byte, pair, alt, st
 use Rattle.forms.specs.Scan.{Scan, Got, Stop, onGot, empty, first, begins, scan, onward, over}
 use Rattle.forms.specs.Pieces.{skip, before}
 use Rattle.forms.specs.Place.{Read, Is, Far, No, within, placed, readAt, mapped, farther, both-read, bounded}
-use Rattle.forms.proofs.Sound.{sound-loose, never}
+use Rattle.forms.proofs.Sound.{sound-loose}
 use Rattle.forms.proofs.Places.{star-unroll, star-over}
 
 -- what is left at a place is the text from the place that its length tells
@@ -114,13 +114,3 @@ star-at {A} f n s i h =
     (by-cases (begins (first f) (drop i s))
     (λ t. rw t (join-two (λ (x : A) (xs : List A). x ∷ xs) f (star f) s i h (scan f (drop i s)) refl))
     (λ t. rw (t, place-at s i h)))
-
--- the place behind what was read is in the text
-pub is-in : {A : Type 0} (f : Form A) (s : List ℕ) (i : ℕ) (v : A) (n : ℕ) → i ≤ length s → readAt f s i ≡ Is v n → n ≤ length s
-unfolding readAt
-is-in {A} f s i v n h e = go (over f (drop i s)) (scan f (drop i s)) e
-  where
-    go : (o : List (List ℕ)) (r : Scan A) → placed s o r ≡ Is v n → n ≤ length s
-    go [] (Got a r) q = let z : length s - length r ≡ n = cc in omega (arith, z)
-    go (x ∷ o) (Got a r) q = never (cc)
-    go o (Stop r) q = never (cc)

@@ -11,7 +11,7 @@ use Rattle.forms.specs.Bytes.{if_then_else_, run}
 use Rattle.forms.proofs.Bools.{by-cases, both-left, both-right}
 use Rattle.forms.specs.Form.{Class, has, Form, tell, byte, pair, alt, star, made, bound}
 use Rattle.forms.specs.Scan.{Scan, Got, Stop, onGot, first, begins, one, loop, scan, onward, overs, over}
-use Rattle.forms.specs.Pieces.{skip, before, some}
+use Rattle.forms.specs.Pieces.{skip, some}
 use Rattle.forms.proofs.Sound.{never}
 
 module _ {A B : Type 0} (f : Form A) (g : Form B) (l : List ℕ) where
@@ -24,18 +24,6 @@ module _ {A B : Type 0} (f : Form A) (g : Form B) (l : List ℕ) where
       go2 a (Stop t) = refl
 
       go : (o : Scan A) → onGot (onGot o (λ a r. onGot (scan g r) (λ b t. Got (a, b) t))) (λ (p : A × B) r. Got (p .1) r) ≡ onGot o (λ a r. scan g r)
-      go (Got a r) = go2 a (scan g r)
-      go (Stop r) = refl
-
-  pub before-scan : scan (before f g) l ≡ onGot (scan f l) (λ a r. onGot (scan g r) (λ b t. Got a t))
-  unfolding scan
-  before-scan = go (scan f l)
-    where
-      go2 : (a : A) (o : Scan B) → onGot (onGot o (λ b t. Got (a, b) t)) (λ (p : A × B) r. Got (p .0) r) ≡ onGot o (λ b t. Got a t)
-      go2 a (Got b t) = refl
-      go2 a (Stop t) = refl
-
-      go : (o : Scan A) → onGot (onGot o (λ a r. onGot (scan g r) (λ b t. Got (a, b) t))) (λ (p : A × B) r. Got (p .0) r) ≡ onGot o (λ a r. onGot (scan g r) (λ b t. Got a t))
       go (Got a r) = go2 a (scan g r)
       go (Stop r) = refl
 

@@ -1,7 +1,7 @@
 -- THE ORDER OF STARTS: a strict order, total up to being the same start, which is being equal. All that the laws of placements and of lists of them know of
 -- a start is said here. At the end, how a number is placed in it.
 use mathlib.Core.Path.{_≡_, sym, ap, _∙_, subst}
-use mathlib.Core.Bool.{Bool, true, false, true≢false}
+use mathlib.Core.Bool.{true, false, true≢false}
 use Prim.Native.Nat.{ℕ, _≤_, _<_}
 use native.Mathlib.Omega.{arith}
 use borrow.Author.Tests.{ltb-true, ltb-false, eqb-true, lt-ltb, le-ltb, eq-eqb}

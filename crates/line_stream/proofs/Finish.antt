@@ -1,14 +1,13 @@
 -- THE LAST LINE, where it lacks its LF: none, or one that is answered as any other.
 use mathlib.Core.Path.{_≡_, refl, sym, ap, _∙_}
 use mathlib.Core.Bool.{true, false}
-use mathlib.Core.List.{List, [], _∷_, _++_}
-use Prim.Native.Nat.{ℕ, _<_}
+use mathlib.Core.List.{List, [], _∷_}
+use Prim.Native.Nat.{ℕ}
 use native.Mathlib.Nat.{not-suc-le-zero}
 use lib.Dec.{ltb}
 use lib.ListN.{length, take}
 use borrow.Author.Tests.{ltb-true, ltb-false}
 use Rattle.forms.specs.Bytes.{text}
-use Rattle.definitions.specs.House.{decimal}
 use Rattle.output.specs.Puts.{Puts}
 use Rattle.output.proofs.Putting.{told}
 use Rattle.line_stream.specs.declared.Begun.{Begun}

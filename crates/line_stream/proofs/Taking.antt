@@ -18,7 +18,7 @@ use Rattle.line_stream.specs.declared.Begun.{Begun}
 use Rattle.line_stream.specs.declared.Fed.{Fed}
 use Rattle.line_stream.specs.declared.Feeding.{Feeding}
 use Rattle.line_stream.specs.Stream.{nextNumber, hasRoom}
-use Rattle.line_stream.specs.Steps.{lfFrom, lineFrom, Keeps, opening, Takes, Nexts, Lasts}
+use Rattle.line_stream.specs.Steps.{lfFrom, Keeps, opening, Takes, Nexts, Lasts}
 use Rattle.line_stream.proofs.Parts.{line-slice}
 
 -- ---- a line is taken

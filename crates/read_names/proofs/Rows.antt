@@ -1,6 +1,5 @@
 -- The options are the rows of the definitions' table, in order; so the option of the first row with a name reads as that row.
 use mathlib.Core.Path.{_≡_, refl, sym, ap, _∙_}
-use mathlib.Core.Bool.{true, false}
 use mathlib.Core.List.{List, [], _∷_, map, head-eq-of-cons-eq, tail-eq-of-cons-eq}
 use Prim.Native.Nat.{ℕ, zero, suc, _+_, _≤_, _<_}
 use native.Mathlib.Omega.{arith}
@@ -12,9 +11,8 @@ use Rattle.forms.specs.Form.{Form}
 use Rattle.forms.specs.Place.{readAt}
 use Rattle.forms.proofs.Bools.{by-cases}
 use Rattle.definitions.specs.Entries.{Entry}
-use Rattle.definitions.specs.Options.{Option, optionTable, parsed, listed, unlisted}
+use Rattle.definitions.specs.Options.{Option, optionTable, parsed, listed}
 use Rattle.read_names.specs.declared.options.OptionName.{OptionName}
-use Rattle.read_names.specs.declared.options.Lookup.{Lookup}
 use Rattle.read_names.specs.declared.options.Lookup.the-variants.{Found, Unlisted}
 use Rattle.read_names.specs.Names.{optionOrder, formOf, optionNames, optionCount, foundIf, optionNamed, parsedAs}
 

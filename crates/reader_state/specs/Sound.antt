@@ -1,5 +1,5 @@
 -- What the code's stores and sums in the state rest on, and its answers.
-use Prim.Native.Nat.{ℕ, _+_, _≤_, _<_}
+use Prim.Native.Nat.{_+_, _≤_, _<_}
 use mathlib.Core.Path.{_≡_}
 use Rattle.definitions.specs.declared.answers.Refusal.{Refusal}
 use Rattle.definitions.specs.declared.answers.Due.{Due}

@@ -1,5 +1,4 @@
 // Words, their letter case ignored.
-ghost use mathlib.Core.Path.{_≡_};
 ghost use Prim.Native.Nat.{_≤_};
 ghost use lib.ListN.{length};
 ghost use Rattle.forms.specs.Pieces.{word};

@@ -1,13 +1,13 @@
 -- An answer with its number has at most 1,049 bytes, so that a feed into the program's 65,536 always takes some of its input.
-use mathlib.Core.Path.{_≡_, refl, sym, ap, _∙_}
+use mathlib.Core.Path.{_≡_, refl, ap}
 use mathlib.Core.Bool.{Bool, true, false, not, false≢true}
 use mathlib.Core.List.{List, _∷_, _++_}
-use Prim.Native.Nat.{ℕ, _+_, _≤_, _<_, _^_}
+use Prim.Native.Nat.{ℕ, _+_, _≤_, _<_}
 use native.Mathlib.Omega.{arith}
 use lib.Dec.{ltb}
 use lib.ListN.{length, length-append}
 use borrow.Author.Tests.{ltb-false}
-use Rattle.forms.specs.Bytes.{if_then_else_, text}
+use Rattle.forms.specs.Bytes.{text}
 use Rattle.forms.proofs.Bools.{by-cases}
 use Rattle.definitions.specs.declared.table.Table.{Table}
 use Rattle.definitions.specs.declared.answers.Refusal.{Refusal}
