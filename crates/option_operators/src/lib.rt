@@ -1,155 +1,144 @@
-// The operators of tests, and the mask.
+// The operators of tests, and the mask, from a cursor on.
 ghost use Prim.Native.Nat.{_≤_, _<_};
-ghost use lib.ListN.{length};
-ghost use Rattle.forms.specs.Pieces.{opt};
+ghost use Rattle.forms.specs.Pieces.{opt, mark};
 ghost use Rattle.definitions.specs.Forms.{lessOrGreater, comparison};
 ghost use Rattle.definitions.specs.declared.table.Order.the-variants.{Equal};
 ghost use Rattle.scan.specs.Capped.{farAbove};
-ghost use Rattle.scan_cursors.specs.Reads.{Reads};
-ghost use Rattle.scan_cursors.specs.declared.Cursor.the-variants.{Going};
-ghost use Rattle.option_operators.specs.Operators.{sizeOrder, greater, masked};
+ghost use Rattle.scan_cursors.specs.Reads.{Inside, Reads};
+ghost use Rattle.option_operators.specs.Operators.{sizeOrder, masked};
 use definitions::table::Operator;
 use definitions::table::Order;
 use scan_cursors::Cursor;
-use scan_cursors::join;
-use scan_cursors::place;
 use scan_pieces::numbers::Numeric;
-use scan_pieces::numbers::numeral_at;
-use scan_pieces::signs::sign_at;
-use scan_pieces::signs::spaces_at;
-use scan_pieces::signs::stands;
+use scan_steps::numbers::then_numeral;
+use scan_steps::signs::next_is;
+use scan_steps::signs::then_literal;
+use scan_steps::signs::then_spaces;
 
+// An order, and where scanning stands behind it.
 pub struct OrderAt {
     pub order: Order,
     pub cursor: Cursor,
 }
 
+// An operator, and where scanning stands behind it.
 pub struct OperatorAt {
     pub operator: Operator,
     pub cursor: Cursor,
 }
 
 // Optional `<` or `>`.
-pub fn order_at(s: &[u8], at: usize) -> OrderAt
-    requires { ⌜ at ≤ length (now s) ⌝ }
-    ensures { λ r. ⌜ Reads (opt Equal lessOrGreater) (now (s .entry)) (Going at) (r .order) (r .cursor) ⌝ }
+pub fn then_order(s: &[u8], c: Cursor) -> OrderAt
+    requires { ⌜ Inside (now s) c ⌝ }
+    ensures { λ r. ⌜ Reads (opt Equal lessOrGreater) (now (s .entry)) c (r .order) (r .cursor) ⌝ }
 {
-    if stands(s, at, b'<') {
+    if next_is(s, c, b'<') {
         return OrderAt {
             order: Order::Less,
-            cursor: Cursor::Going(at + 1),
+            cursor: then_literal(s, c, b'<'),
         };
     }
-    if stands(s, at, b'>') {
+    if next_is(s, c, b'>') {
         return OrderAt {
             order: Order::Greater,
-            cursor: Cursor::Going(at + 1),
+            cursor: then_literal(s, c, b'>'),
         };
     }
     OrderAt {
         order: Order::Equal,
-        cursor: Cursor::Going(at),
+        cursor: c,
     }
 }
 
 // Optional `<`, `>` or `=`.
-pub fn size_order_at(s: &[u8], at: usize) -> OrderAt
-    requires { ⌜ at ≤ length (now s) ⌝ }
-    ensures { λ r. ⌜ Reads sizeOrder (now (s .entry)) (Going at) (r .order) (r .cursor) ⌝ }
+pub fn then_size_order(s: &[u8], c: Cursor) -> OrderAt
+    requires { ⌜ Inside (now s) c ⌝ }
+    ensures { λ r. ⌜ Reads sizeOrder (now (s .entry)) c (r .order) (r .cursor) ⌝ }
 {
-    if stands(s, at, b'<') {
+    if next_is(s, c, b'<') {
         return OrderAt {
             order: Order::Less,
-            cursor: Cursor::Going(at + 1),
+            cursor: then_literal(s, c, b'<'),
         };
     }
-    if stands(s, at, b'>') {
+    if next_is(s, c, b'>') {
         return OrderAt {
             order: Order::Greater,
-            cursor: Cursor::Going(at + 1),
+            cursor: then_literal(s, c, b'>'),
         };
     }
-    if stands(s, at, b'=') {
+    if next_is(s, c, b'=') {
         return OrderAt {
             order: Order::Equal,
-            cursor: Cursor::Going(at + 1),
+            cursor: then_literal(s, c, b'='),
         };
     }
     OrderAt {
         order: Order::Equal,
-        cursor: Cursor::Going(at),
+        cursor: c,
+    }
+}
+
+// One operator, or the other with `=`.
+fn then_or_equal(s: &[u8], c: Cursor, alone: Operator, equal: Operator) -> OperatorAt
+    requires { ⌜ Inside (now s) c ⌝ }
+    ensures { λ r. ⌜ Reads (opt alone (mark 61 equal)) (now (s .entry)) c (r .operator) (r .cursor) ⌝ }
+{
+    if next_is(s, c, b'=') {
+        return OperatorAt {
+            operator: equal,
+            cursor: then_literal(s, c, b'='),
+        };
+    }
+    OperatorAt {
+        operator: alone,
+        cursor: c,
     }
 }
 
 // One of `= != < > <= >=`.
-pub fn comparison_at(s: &[u8], at: usize) -> OperatorAt
-    requires { ⌜ at ≤ length (now s) ⌝ }
-    ensures { λ r. ⌜ Reads comparison (now (s .entry)) (Going at) (r .operator) (r .cursor) ⌝ }
+pub fn then_comparison(s: &[u8], c: Cursor) -> OperatorAt
+    requires { ⌜ Inside (now s) c ⌝ }
+    ensures { λ r. ⌜ Reads comparison (now (s .entry)) c (r .operator) (r .cursor) ⌝ }
 {
-    if stands(s, at, b'=') {
+    if next_is(s, c, b'=') {
         return OperatorAt {
             operator: Operator::Equal,
-            cursor: Cursor::Going(at + 1),
+            cursor: then_literal(s, c, b'='),
         };
     }
-    if stands(s, at, b'!') {
+    if next_is(s, c, b'!') {
+        let not = then_literal(s, c, b'!');
         return OperatorAt {
             operator: Operator::Unequal,
-            cursor: sign_at(s, at + 1, b'='),
+            cursor: then_literal(s, not, b'='),
         };
     }
-    if stands(s, at, b'<') {
-        if stands(s, at + 1, b'=') {
-            return OperatorAt {
-                operator: Operator::AtMost,
-                cursor: Cursor::Going(at + 1 + 1),
-            };
-        }
-        return OperatorAt {
-            operator: Operator::Less,
-            cursor: Cursor::Going(at + 1),
-        };
+    if next_is(s, c, b'<') {
+        let less = then_literal(s, c, b'<');
+        return then_or_equal(s, less, Operator::Less, Operator::AtMost);
     }
-    greater_at(s, at)
-}
-
-// `>` or `>=`.
-fn greater_at(s: &[u8], at: usize) -> OperatorAt
-    requires { ⌜ at ≤ length (now s) ⌝ }
-    ensures { λ r. ⌜ Reads greater (now (s .entry)) (Going at) (r .operator) (r .cursor) ⌝ }
-{
-    let c = sign_at(s, at, b'>');
-    let from = place(c);
-    if stands(s, from, b'=') {
-        return OperatorAt {
-            operator: Operator::AtLeast,
-            cursor: join(c, Cursor::Going(from + 1)),
-        };
-    }
-    OperatorAt {
-        operator: Operator::Greater,
-        cursor: join(c, Cursor::Going(from)),
-    }
+    let greater = then_literal(s, c, b'>');
+    then_or_equal(s, greater, Operator::Greater, Operator::AtLeast)
 }
 
 // Optional `&` and a mask up to a limit, which is the full mask.
-pub fn mask_at(s: &[u8], at: usize, limit: u64) -> Numeric
-    requires { ⌜ (at ≤ length (now s)) × (limit < farAbove) ⌝ }
-    ensures { λ r. ⌜ Reads (masked limit) (now (s .entry)) (Going at) (r .value) (r .cursor) × (r .value ≤ limit) ⌝ }
+pub fn then_mask(s: &[u8], c: Cursor, limit: u64) -> Numeric
+    requires { ⌜ Inside (now s) c × (limit < farAbove) ⌝ }
+    ensures { λ r. ⌜ Reads (masked limit) (now (s .entry)) c (r .value) (r .cursor) × (r .value ≤ limit) ⌝ }
 {
-    if stands(s, at, b'&') {
-        let from = spaces_at(s, at + 1);
-        let n = numeral_at(s, from, limit);
-        let c = n.cursor;
-        let behind = place(c);
-        let end = spaces_at(s, behind);
+    if next_is(s, c, b'&') {
+        let and = then_literal(s, c, b'&');
+        let from = then_spaces(s, and);
+        let n = then_numeral(s, from, limit);
+        let behind = n.cursor;
         return Numeric {
             value: n.value,
-            cursor: join(c, Cursor::Going(end)),
+            cursor: then_spaces(s, behind),
         };
     }
     Numeric {
         value: limit,
-        cursor: Cursor::Going(at),
+        cursor: c,
     }
 }

@@ -12,28 +12,23 @@ use definitions::table::AddressTest;
 use definitions::table::Side;
 use entry::Value;
 use entry::no_addresses;
-use scan_cursors::join;
-use scan_cursors::place;
-use scan_pieces::signs::closing_at;
 use scan_pieces::signs::gap_at;
-use scan_pieces::signs::mark_at;
-use values::addresses::addresses_at;
-use values::names::name_at;
-use values::patterns::pattern_at;
+use scan_steps::signs::then_closing;
+use scan_steps::signs::then_optional_literal;
+use values::addresses::then_addresses;
+use values::patterns::then_pattern;
+use values::quoted_names::then_name;
 
+// The option name.
 pub fn name_option(s: &[u8], at: usize, used: usize) -> Parsed
     requires { ⌜ at ≤ length (now s) ⌝ }
     ensures { λ r. ⌜ ((bytes : List ℕ) → Parses nameForm (now (s .entry)) at (roomOf bytes used) (roomOf bytes (r .used)) r) ⌝ }
 {
     let list = no_addresses();
-    let c0 = gap_at(s, at);
-    let a1 = place(c0);
-    let n = name_at(s, a1);
-    let d1 = n.cursor;
-    let c1 = join(c0, d1);
-    let a2 = place(c1);
-    let d2 = closing_at(s, a2);
-    let cursor = join(c1, d2);
+    let c = gap_at(s, at);
+    let n = then_name(s, c);
+    let c = n.cursor;
+    let cursor = then_closing(s, c);
     Parsed {
         value: Value::Name(n.from, n.len),
         list,
@@ -42,22 +37,17 @@ pub fn name_option(s: &[u8], at: usize, used: usize) -> Parsed
     }
 }
 
+// The options src_addr and dst_addr, whose side the caller names.
 pub fn address_option(s: &[u8], at: usize, side: Side, used: usize) -> Parsed
     requires { ⌜ at ≤ length (now s) ⌝ }
     ensures { λ r. ⌜ ((bytes : List ℕ) → Parses (addressForm side) (now (s .entry)) at (roomOf bytes used) (roomOf bytes (r .used)) r) ⌝ }
 {
-    let c0 = gap_at(s, at);
-    let a1 = place(c0);
-    let m = mark_at(s, a1, b'!');
-    let d1 = m.cursor;
-    let c1 = join(c0, d1);
-    let a2 = place(c1);
-    let l = addresses_at(s, a2);
-    let d2 = l.cursor;
-    let c2 = join(c1, d2);
-    let a3 = place(c2);
-    let d3 = closing_at(s, a3);
-    let cursor = join(c2, d3);
+    let c = gap_at(s, at);
+    let m = then_optional_literal(s, c, b'!');
+    let c = m.cursor;
+    let l = then_addresses(s, c);
+    let c = l.cursor;
+    let cursor = then_closing(s, c);
     let list = l.list;
     Parsed {
         value: Value::Addresses(AddressTest {
@@ -71,23 +61,18 @@ pub fn address_option(s: &[u8], at: usize, side: Side, used: usize) -> Parsed
     }
 }
 
+// The option pattern; its bytes are stored behind those in use.
 pub fn pattern_option(s: &[u8], at: usize, bytes: &mut [u8], used: usize) -> Parsed
     requires { ⌜ (at ≤ length (now s)) × (length (now s) ≤ limits01 .text) × (used ≤ at) × (length (now bytes) ≡ limits01 .room) ⌝ }
     ensures { λ r. ⌜ Parses patternForm (now (s .entry)) at (roomOf (now (bytes .entry)) used) (roomOf (now (bytes .exit)) (r .used)) r ⌝ }
 {
     let list = no_addresses();
-    let c0 = gap_at(s, at);
-    let a1 = place(c0);
-    let m = mark_at(s, a1, b'!');
-    let d1 = m.cursor;
-    let c1 = join(c0, d1);
-    let a2 = place(c1);
-    let p = pattern_at(s, a2, bytes, used);
-    let d2 = p.cursor;
-    let c2 = join(c1, d2);
-    let a3 = place(c2);
-    let d3 = closing_at(s, a3);
-    let cursor = join(c2, d3);
+    let c = gap_at(s, at);
+    let m = then_optional_literal(s, c, b'!');
+    let c = m.cursor;
+    let p = then_pattern(s, c, bytes, used);
+    let c = p.cursor;
+    let cursor = then_closing(s, c);
     Parsed {
         value: Value::Pattern(m.yes, p.len),
         list,

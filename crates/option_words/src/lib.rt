@@ -1,8 +1,7 @@
-// The words of options' values. The first letter decides which word must stand; where two words begin alike, the letter behind does.
+// The words of options' values, from a cursor on. The first letter decides which word must stand; where two words begin alike, the
+// letter behind does.
 ghost use Prim.Native.Nat.{_≤_};
-ghost use lib.ListN.{length};
-ghost use Rattle.scan_cursors.specs.Reads.{Reads};
-ghost use Rattle.scan_cursors.specs.declared.Cursor.the-variants.{Going};
+ghost use Rattle.scan_cursors.specs.Reads.{Inside, Reads};
 ghost use Rattle.definitions.specs.Limits.{byteMost};
 ghost use Rattle.definitions.specs.Forms.{referenceWord};
 ghost use Rattle.option_words.specs.Words.{protocolValue, flowWord, contextWord, hWord, bWord, sizeWord};
@@ -12,193 +11,203 @@ use definitions::table::Flow;
 use definitions::table::Reference;
 use definitions::table::SizeField;
 use scan_cursors::Cursor;
-use scan_cursors::join;
-use scan_cursors::place;
 use scan_pieces::numbers::Numeric;
-use scan_pieces::numbers::number_at;
-use scan_pieces::signs::starts;
-use scan_pieces::words::word_at;
+use scan_steps::numbers::then_number;
+use scan_steps::signs::next_is_letter;
+use scan_steps::words::then_either_word;
+use scan_steps::words::then_word;
 
+// A flow, and where scanning stands behind it.
 pub struct FlowAt {
     pub flow: Flow,
     pub cursor: Cursor,
 }
 
+// A context, and where scanning stands behind it.
 pub struct ContextAt {
     pub context: Context,
     pub cursor: Cursor,
 }
 
+// A field of data_size, and where scanning stands behind it.
 pub struct SizeFieldAt {
     pub field: SizeField,
     pub cursor: Cursor,
 }
 
+// A reference, and where scanning stands behind it.
 pub struct ReferenceAt {
     pub reference: Reference,
     pub cursor: Cursor,
 }
 
 // `tcp`, `udp`, `icmp` or a number.
-pub fn protocol_at(s: &[u8], at: usize) -> Numeric
-    requires { ⌜ at ≤ length (now s) ⌝ }
-    ensures { λ r. ⌜ Reads protocolValue (now (s .entry)) (Going at) (r .value) (r .cursor) × (r .value ≤ byteMost) ⌝ }
+pub fn then_protocol(s: &[u8], c: Cursor) -> Numeric
+    requires { ⌜ Inside (now s) c ⌝ }
+    ensures { λ r. ⌜ Reads protocolValue (now (s .entry)) c (r .value) (r .cursor) × (r .value ≤ byteMost) ⌝ }
 {
-    if starts(s, at, b't') {
-        let cursor = word_at(s, at, b"tcp");
-        return Numeric { value: 6, cursor };
+    if next_is_letter(s, c, b't') {
+        return Numeric {
+            value: 6,
+            cursor: then_word(s, c, b"tcp"),
+        };
     }
-    if starts(s, at, b'u') {
-        let cursor = word_at(s, at, b"udp");
-        return Numeric { value: 17, cursor };
+    if next_is_letter(s, c, b'u') {
+        return Numeric {
+            value: 17,
+            cursor: then_word(s, c, b"udp"),
+        };
     }
-    if starts(s, at, b'i') {
-        let cursor = word_at(s, at, b"icmp");
-        return Numeric { value: 1, cursor };
+    if next_is_letter(s, c, b'i') {
+        return Numeric {
+            value: 1,
+            cursor: then_word(s, c, b"icmp"),
+        };
     }
-    number_at(s, at, BYTE_MOST)
+    then_number(s, c, BYTE_MOST)
 }
 
 // `from_client` or `from_server`.
-pub fn flow_at(s: &[u8], at: usize) -> FlowAt
-    requires { ⌜ at ≤ length (now s) ⌝ }
-    ensures { λ r. ⌜ Reads flowWord (now (s .entry)) (Going at) (r .flow) (r .cursor) ⌝ }
+pub fn then_flow(s: &[u8], c: Cursor) -> FlowAt
+    requires { ⌜ Inside (now s) c ⌝ }
+    ensures { λ r. ⌜ Reads flowWord (now (s .entry)) c (r .flow) (r .cursor) ⌝ }
 {
-    let c = word_at(s, at, b"from_");
-    let from = place(c);
-    if starts(s, from, b'c') {
-        let d = word_at(s, from, b"client");
+    let from = then_word(s, c, b"from_");
+    let side = then_either_word(s, from, b"client", b"server");
+    let cursor = side.cursor;
+    if side.first {
         return FlowAt {
             flow: Flow::FromClient,
-            cursor: join(c, d),
+            cursor,
         };
     }
-    let d = word_at(s, from, b"server");
     FlowAt {
         flow: Flow::FromServer,
-        cursor: join(c, d),
+        cursor,
     }
 }
 
 // `match`, `packet` or `context`.
-pub fn reference_at(s: &[u8], at: usize) -> ReferenceAt
-    requires { ⌜ at ≤ length (now s) ⌝ }
-    ensures { λ r. ⌜ Reads referenceWord (now (s .entry)) (Going at) (r .reference) (r .cursor) ⌝ }
+pub fn then_reference(s: &[u8], c: Cursor) -> ReferenceAt
+    requires { ⌜ Inside (now s) c ⌝ }
+    ensures { λ r. ⌜ Reads referenceWord (now (s .entry)) c (r .reference) (r .cursor) ⌝ }
 {
-    if starts(s, at, b'm') {
+    if next_is_letter(s, c, b'm') {
         return ReferenceAt {
             reference: Reference::Match,
-            cursor: word_at(s, at, b"match"),
+            cursor: then_word(s, c, b"match"),
         };
     }
-    if starts(s, at, b'p') {
+    let w = then_either_word(s, c, b"packet", b"context");
+    let cursor = w.cursor;
+    if w.first {
         return ReferenceAt {
             reference: Reference::Packet,
-            cursor: word_at(s, at, b"packet"),
+            cursor,
         };
     }
     ReferenceAt {
         reference: Reference::Context,
-        cursor: word_at(s, at, b"context"),
+        cursor,
     }
 }
 
 // `payload`, `uri`, `header` or `body`.
-pub fn size_word_at(s: &[u8], at: usize) -> SizeFieldAt
-    requires { ⌜ at ≤ length (now s) ⌝ }
-    ensures { λ r. ⌜ Reads sizeWord (now (s .entry)) (Going at) (r .field) (r .cursor) ⌝ }
+pub fn then_size_word(s: &[u8], c: Cursor) -> SizeFieldAt
+    requires { ⌜ Inside (now s) c ⌝ }
+    ensures { λ r. ⌜ Reads sizeWord (now (s .entry)) c (r .field) (r .cursor) ⌝ }
 {
-    if starts(s, at, b'p') {
+    if next_is_letter(s, c, b'p') {
         return SizeFieldAt {
             field: SizeField::Payload,
-            cursor: word_at(s, at, b"payload"),
+            cursor: then_word(s, c, b"payload"),
         };
     }
-    if starts(s, at, b'u') {
+    if next_is_letter(s, c, b'u') {
         return SizeFieldAt {
             field: SizeField::Uri,
-            cursor: word_at(s, at, b"uri"),
+            cursor: then_word(s, c, b"uri"),
         };
     }
-    if starts(s, at, b'h') {
+    let w = then_either_word(s, c, b"header", b"body");
+    let cursor = w.cursor;
+    if w.first {
         return SizeFieldAt {
             field: SizeField::Header,
-            cursor: word_at(s, at, b"header"),
+            cursor,
         };
     }
     SizeFieldAt {
         field: SizeField::Body,
-        cursor: word_at(s, at, b"body"),
+        cursor,
     }
 }
 
 // `header` or `host`.
-fn h_word_at(s: &[u8], at: usize) -> ContextAt
-    requires { ⌜ at ≤ length (now s) ⌝ }
-    ensures { λ r. ⌜ Reads hWord (now (s .entry)) (Going at) (r .context) (r .cursor) ⌝ }
+fn then_h_word(s: &[u8], c: Cursor) -> ContextAt
+    requires { ⌜ Inside (now s) c ⌝ }
+    ensures { λ r. ⌜ Reads hWord (now (s .entry)) c (r .context) (r .cursor) ⌝ }
 {
-    let c = word_at(s, at, b"h");
-    let from = place(c);
-    if starts(s, from, b'e') {
-        let d = word_at(s, from, b"eader");
+    let h = then_word(s, c, b"h");
+    let w = then_either_word(s, h, b"eader", b"ost");
+    let cursor = w.cursor;
+    if w.first {
         return ContextAt {
             context: Context::Header,
-            cursor: join(c, d),
+            cursor,
         };
     }
-    let d = word_at(s, from, b"ost");
     ContextAt {
         context: Context::Host,
-        cursor: join(c, d),
+        cursor,
     }
 }
 
 // `body` or `banner`.
-fn b_word_at(s: &[u8], at: usize) -> ContextAt
-    requires { ⌜ at ≤ length (now s) ⌝ }
-    ensures { λ r. ⌜ Reads bWord (now (s .entry)) (Going at) (r .context) (r .cursor) ⌝ }
+fn then_b_word(s: &[u8], c: Cursor) -> ContextAt
+    requires { ⌜ Inside (now s) c ⌝ }
+    ensures { λ r. ⌜ Reads bWord (now (s .entry)) c (r .context) (r .cursor) ⌝ }
 {
-    let c = word_at(s, at, b"b");
-    let from = place(c);
-    if starts(s, from, b'o') {
-        let d = word_at(s, from, b"ody");
+    let b = then_word(s, c, b"b");
+    let w = then_either_word(s, b, b"ody", b"anner");
+    let cursor = w.cursor;
+    if w.first {
         return ContextAt {
             context: Context::Body,
-            cursor: join(c, d),
+            cursor,
         };
     }
-    let d = word_at(s, from, b"anner");
     ContextAt {
         context: Context::Banner,
-        cursor: join(c, d),
+        cursor,
     }
 }
 
 // `packet`, `uri`, `header`, `body`, `banner`, `host` or `file`.
-pub fn context_at(s: &[u8], at: usize) -> ContextAt
-    requires { ⌜ at ≤ length (now s) ⌝ }
-    ensures { λ r. ⌜ Reads contextWord (now (s .entry)) (Going at) (r .context) (r .cursor) ⌝ }
+pub fn then_context(s: &[u8], c: Cursor) -> ContextAt
+    requires { ⌜ Inside (now s) c ⌝ }
+    ensures { λ r. ⌜ Reads contextWord (now (s .entry)) c (r .context) (r .cursor) ⌝ }
 {
-    if starts(s, at, b'p') {
+    if next_is_letter(s, c, b'p') {
         return ContextAt {
             context: Context::Packet,
-            cursor: word_at(s, at, b"packet"),
+            cursor: then_word(s, c, b"packet"),
         };
     }
-    if starts(s, at, b'u') {
+    if next_is_letter(s, c, b'u') {
         return ContextAt {
             context: Context::Uri,
-            cursor: word_at(s, at, b"uri"),
+            cursor: then_word(s, c, b"uri"),
         };
     }
-    if starts(s, at, b'h') {
-        return h_word_at(s, at);
+    if next_is_letter(s, c, b'h') {
+        return then_h_word(s, c);
     }
-    if starts(s, at, b'b') {
-        return b_word_at(s, at);
+    if next_is_letter(s, c, b'b') {
+        return then_b_word(s, c);
     }
     ContextAt {
         context: Context::File,
-        cursor: word_at(s, at, b"file"),
+        cursor: then_word(s, c, b"file"),
     }
 }

@@ -1,22 +1,19 @@
 // What may follow a number behind a comma.
-ghost use Prim.Native.Nat.{_≤_};
-ghost use lib.ListN.{length};
-ghost use Rattle.scan_cursors.specs.Reads.{Reads};
-ghost use Rattle.scan_cursors.specs.declared.Cursor.the-variants.{Going};
+ghost use Rattle.scan_cursors.specs.Reads.{Inside, Reads};
 ghost use Rattle.options.specs.Parts.{sizeField, relative, reference, reversed, directed};
 use definitions::table::Reference;
 use definitions::table::SizeField;
 use option_words::ReferenceAt;
 use option_words::SizeFieldAt;
-use option_words::reference_at;
-use option_words::size_word_at;
+use option_words::then_reference;
+use option_words::then_size_word;
 use scan_cursors::Cursor;
-use scan_cursors::join;
-use scan_cursors::place;
 use scan_pieces::signs::Mark;
-use scan_pieces::signs::stands;
-use scan_pieces::words::word_at;
+use scan_steps::signs::next_is;
+use scan_steps::signs::then_literal;
+use scan_steps::words::then_word;
 
+// A reference, whether `reverse` follows it, and where scanning stands behind them.
 pub struct DirectedAt {
     pub reference: Reference,
     pub reverse: bool,
@@ -24,88 +21,92 @@ pub struct DirectedAt {
 }
 
 // Optional `,` and the field of data_size.
-pub fn size_field_at(s: &[u8], at: usize) -> SizeFieldAt
-    requires { ⌜ at ≤ length (now s) ⌝ }
-    ensures { λ r. ⌜ Reads sizeField (now (s .entry)) (Going at) (r .field) (r .cursor) ⌝ }
+pub fn then_size_field(s: &[u8], c: Cursor) -> SizeFieldAt
+    requires { ⌜ Inside (now s) c ⌝ }
+    ensures { λ r. ⌜ Reads sizeField (now (s .entry)) c (r .field) (r .cursor) ⌝ }
 {
-    if stands(s, at, b',') {
-        return size_word_at(s, at + 1);
+    if next_is(s, c, b',') {
+        let comma = then_literal(s, c, b',');
+        return then_size_word(s, comma);
     }
     SizeFieldAt {
         field: SizeField::Payload,
-        cursor: Cursor::Going(at),
+        cursor: c,
     }
 }
 
 // Optional `,relative`.
-pub fn relative_at(s: &[u8], at: usize) -> Mark
-    requires { ⌜ at ≤ length (now s) ⌝ }
-    ensures { λ r. ⌜ Reads relative (now (s .entry)) (Going at) (r .yes) (r .cursor) ⌝ }
+pub fn then_relative(s: &[u8], c: Cursor) -> Mark
+    requires { ⌜ Inside (now s) c ⌝ }
+    ensures { λ r. ⌜ Reads relative (now (s .entry)) c (r .yes) (r .cursor) ⌝ }
 {
-    if stands(s, at, b',') {
+    if next_is(s, c, b',') {
+        let comma = then_literal(s, c, b',');
         return Mark {
             yes: true,
-            cursor: word_at(s, at + 1, b"relative"),
+            cursor: then_word(s, comma, b"relative"),
         };
     }
     Mark {
         yes: false,
-        cursor: Cursor::Going(at),
+        cursor: c,
     }
 }
 
 // Optional `,reverse`.
-fn reverse_at(s: &[u8], at: usize) -> Mark
-    requires { ⌜ at ≤ length (now s) ⌝ }
-    ensures { λ r. ⌜ Reads reversed (now (s .entry)) (Going at) (r .yes) (r .cursor) ⌝ }
+fn then_reverse(s: &[u8], c: Cursor) -> Mark
+    requires { ⌜ Inside (now s) c ⌝ }
+    ensures { λ r. ⌜ Reads reversed (now (s .entry)) c (r .yes) (r .cursor) ⌝ }
 {
-    if stands(s, at, b',') {
+    if next_is(s, c, b',') {
+        let comma = then_literal(s, c, b',');
         return Mark {
             yes: true,
-            cursor: word_at(s, at + 1, b"reverse"),
+            cursor: then_word(s, comma, b"reverse"),
         };
     }
     Mark {
         yes: false,
-        cursor: Cursor::Going(at),
+        cursor: c,
     }
 }
 
 // Optional `,` and a reference.
-pub fn comma_reference_at(s: &[u8], at: usize) -> ReferenceAt
-    requires { ⌜ at ≤ length (now s) ⌝ }
-    ensures { λ r. ⌜ Reads reference (now (s .entry)) (Going at) (r .reference) (r .cursor) ⌝ }
+pub fn then_comma_reference(s: &[u8], c: Cursor) -> ReferenceAt
+    requires { ⌜ Inside (now s) c ⌝ }
+    ensures { λ r. ⌜ Reads reference (now (s .entry)) c (r .reference) (r .cursor) ⌝ }
 {
-    if stands(s, at, b',') {
-        return reference_at(s, at + 1);
+    if next_is(s, c, b',') {
+        let comma = then_literal(s, c, b',');
+        return then_reference(s, comma);
     }
     ReferenceAt {
         reference: Reference::Match,
-        cursor: Cursor::Going(at),
+        cursor: c,
     }
 }
 
 // Optional `,` and a reference, only then optional `,reverse`.
-pub fn directed_at(s: &[u8], at: usize) -> DirectedAt
-    requires { ⌜ at ≤ length (now s) ⌝ }
-    ensures { λ r. ⌜ Reads directed (now (s .entry)) (Going at) (r .reference, r .reverse) (r .cursor) ⌝ }
+pub fn then_directed(s: &[u8], c: Cursor) -> DirectedAt
+    requires { ⌜ Inside (now s) c ⌝ }
+    ensures { λ r. ⌜ Reads directed (now (s .entry)) c (r .reference, r .reverse) (r .cursor) ⌝ }
 {
-    if stands(s, at, b',') {
-        let r = reference_at(s, at + 1);
+    if next_is(s, c, b',') {
+        let comma = then_literal(s, c, b',');
+        let r = then_reference(s, comma);
         let c = r.cursor;
-        let from = place(c);
-        let m = reverse_at(s, from);
-        let d = m.cursor;
+        let m = then_reverse(s, c);
         let reference = r.reference;
+        let cursor = m.cursor;
         return DirectedAt {
             reference,
             reverse: m.yes,
-            cursor: join(c, d),
+            cursor,
         };
     }
     DirectedAt {
         reference: Reference::Match,
         reverse: false,
-        cursor: Cursor::Going(at),
+        cursor: c,
     }
 }

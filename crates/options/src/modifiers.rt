@@ -8,33 +8,29 @@ ghost use Rattle.definitions.specs.Forms.{contextForm, noCaseForm, signed, dist
 ghost use Rattle.entry.specs.Values.{entryOf, Plain};
 ghost use Rattle.scan_cursors.specs.Reads.{Reads};
 ghost use Rattle.scan_cursors.specs.declared.Cursor.the-variants.{Going};
-use crate::commas::comma_reference_at;
-use crate::commas::directed_at;
+use crate::commas::then_comma_reference;
+use crate::commas::then_directed;
 use crate::valued::Valued;
 use definitions::limits::WORD_MOST;
 use definitions::table::Reach;
 use definitions::table::Shift;
 use entry::Value;
-use option_words::context_at;
-use scan_cursors::join;
-use scan_cursors::place;
-use scan_pieces::numbers::number_at;
+use option_words::then_context;
 use scan_pieces::signs::closing_at;
 use scan_pieces::signs::gap_at;
-use scan_pieces::signs::mark_at;
+use scan_steps::numbers::then_number;
+use scan_steps::signs::then_closing;
+use scan_steps::signs::then_optional_literal;
 
+// The option context.
 pub fn context_option(s: &[u8], at: usize) -> Valued
     requires { ⌜ at ≤ length (now s) ⌝ }
     ensures { λ r. ⌜ Reads contextForm (now (s .entry)) (Going at) (entryOf (now (s .entry)) (r .value) [] []) (r .cursor) × Plain (r .value) ⌝ }
 {
-    let c0 = gap_at(s, at);
-    let a1 = place(c0);
-    let w = context_at(s, a1);
-    let d1 = w.cursor;
-    let c1 = join(c0, d1);
-    let a2 = place(c1);
-    let d2 = closing_at(s, a2);
-    let cursor = join(c1, d2);
+    let c = gap_at(s, at);
+    let w = then_context(s, c);
+    let c = w.cursor;
+    let cursor = then_closing(s, c);
     let context = w.context;
     Valued {
         value: Value::Context(context),
@@ -42,6 +38,7 @@ pub fn context_option(s: &[u8], at: usize) -> Valued
     }
 }
 
+// The option no_case.
 pub fn no_case_option(s: &[u8], at: usize) -> Valued
     requires { ⌜ at ≤ length (now s) ⌝ }
     ensures { λ r. ⌜ Reads noCaseForm (now (s .entry)) (Going at) (entryOf (now (s .entry)) (r .value) [] []) (r .cursor) × Plain (r .value) ⌝ }
@@ -61,27 +58,20 @@ fn signed_of(minus: bool, n: u64) -> i32
     if minus { -v } else { v }
 }
 
+// The option distance.
 pub fn distance_option(s: &[u8], at: usize) -> Valued
     requires { ⌜ at ≤ length (now s) ⌝ }
     ensures { λ r. ⌜ Reads distanceForm (now (s .entry)) (Going at) (entryOf (now (s .entry)) (r .value) [] []) (r .cursor) × Plain (r .value) ⌝ }
 {
-    let c0 = gap_at(s, at);
-    let a1 = place(c0);
-    let m = mark_at(s, a1, b'-');
-    let d1 = m.cursor;
-    let c1 = join(c0, d1);
-    let a2 = place(c1);
-    let n = number_at(s, a2, WORD_MOST);
-    let d2 = n.cursor;
-    let c2 = join(c1, d2);
-    let a3 = place(c2);
-    let r = directed_at(s, a3);
-    let d3 = r.cursor;
-    let c3 = join(c2, d3);
-    let a4 = place(c3);
-    let d4 = closing_at(s, a4);
-    let cursor = join(c3, d4);
-    let offset = signed_of(m.yes, n.value);
+    let c = gap_at(s, at);
+    let minus = then_optional_literal(s, c, b'-');
+    let c = minus.cursor;
+    let n = then_number(s, c, WORD_MOST);
+    let c = n.cursor;
+    let r = then_directed(s, c);
+    let c = r.cursor;
+    let cursor = then_closing(s, c);
+    let offset = signed_of(minus.yes, n.value);
     let reference = r.reference;
     Valued {
         value: Value::Distance(Shift {
@@ -93,22 +83,17 @@ pub fn distance_option(s: &[u8], at: usize) -> Valued
     }
 }
 
+// The option within.
 pub fn within_option(s: &[u8], at: usize) -> Valued
     requires { ⌜ at ≤ length (now s) ⌝ }
     ensures { λ r. ⌜ Reads withinForm (now (s .entry)) (Going at) (entryOf (now (s .entry)) (r .value) [] []) (r .cursor) × Plain (r .value) ⌝ }
 {
-    let c0 = gap_at(s, at);
-    let a1 = place(c0);
-    let n = number_at(s, a1, WORD_MOST);
-    let d1 = n.cursor;
-    let c1 = join(c0, d1);
-    let a2 = place(c1);
-    let r = comma_reference_at(s, a2);
-    let d2 = r.cursor;
-    let c2 = join(c1, d2);
-    let a3 = place(c2);
-    let d3 = closing_at(s, a3);
-    let cursor = join(c2, d3);
+    let c = gap_at(s, at);
+    let n = then_number(s, c, WORD_MOST);
+    let c = n.cursor;
+    let r = then_comma_reference(s, c);
+    let c = r.cursor;
+    let cursor = then_closing(s, c);
     let number = n.value as u16;
     let reference = r.reference;
     Valued {

@@ -8,8 +8,8 @@ ghost use Rattle.options.specs.Parts.{numberWithin, fieldWithin};
 ghost use Rattle.entry.specs.Values.{entryOf, Plain};
 ghost use Rattle.scan_cursors.specs.Reads.{Reads};
 ghost use Rattle.scan_cursors.specs.declared.Cursor.the-variants.{Going};
-use crate::commas::relative_at;
-use crate::commas::size_field_at;
+use crate::commas::then_relative;
+use crate::commas::then_size_field;
 use crate::valued::Valued;
 use definitions::limits::BYTE_MOST;
 use definitions::limits::WORD_MOST;
@@ -22,19 +22,18 @@ use definitions::table::NumberTest;
 use definitions::table::SizeTest;
 use definitions::table::TtlTest;
 use entry::Value;
-use option_operators::comparison_at;
-use option_operators::mask_at;
-use option_operators::order_at;
-use option_operators::size_order_at;
-use scan_cursors::Cursor;
-use scan_cursors::join;
-use scan_cursors::place;
-use scan_pieces::numbers::number_at;
-use scan_pieces::numbers::numeral_at;
+use option_operators::then_comparison;
+use option_operators::then_mask;
+use option_operators::then_order;
+use option_operators::then_size_order;
 use scan_pieces::signs::closing_at;
 use scan_pieces::signs::gap_at;
-use scan_pieces::signs::spaces_at;
+use scan_steps::numbers::then_number;
+use scan_steps::numbers::then_numeral;
+use scan_steps::signs::then_closing;
+use scan_steps::signs::then_spaces;
 
+// The option same_ip.
 pub fn same_ip_option(s: &[u8], at: usize) -> Valued
     requires { ⌜ at ≤ length (now s) ⌝ }
     ensures { λ r. ⌜ Reads sameIpForm (now (s .entry)) (Going at) (entryOf (now (s .entry)) (r .value) [] []) (r .cursor) × Plain (r .value) ⌝ }
@@ -50,14 +49,10 @@ pub fn number_option(s: &[u8], at: usize, field: NumberField, limit: u64) -> Val
     requires { ⌜ (at ≤ length (now s)) × (limit ≤ wordMost) ⌝ }
     ensures { λ r. ⌜ Reads (numberWithin field limit) (now (s .entry)) (Going at) (entryOf (now (s .entry)) (r .value) [] []) (r .cursor) × Plain (r .value) ⌝ }
 {
-    let c0 = gap_at(s, at);
-    let a1 = place(c0);
-    let n = number_at(s, a1, limit);
-    let d1 = n.cursor;
-    let c1 = join(c0, d1);
-    let a2 = place(c1);
-    let d2 = closing_at(s, a2);
-    let cursor = join(c1, d2);
+    let c = gap_at(s, at);
+    let n = then_number(s, c, limit);
+    let c = n.cursor;
+    let cursor = then_closing(s, c);
     let number = n.value as u16;
     Valued {
         value: Value::Test(Item::Number(NumberTest { field, number })),
@@ -65,22 +60,17 @@ pub fn number_option(s: &[u8], at: usize, field: NumberField, limit: u64) -> Val
     }
 }
 
+// The option ip_ttl.
 pub fn ttl_option(s: &[u8], at: usize) -> Valued
     requires { ⌜ at ≤ length (now s) ⌝ }
     ensures { λ r. ⌜ Reads ttlForm (now (s .entry)) (Going at) (entryOf (now (s .entry)) (r .value) [] []) (r .cursor) × Plain (r .value) ⌝ }
 {
-    let c0 = gap_at(s, at);
-    let a1 = place(c0);
-    let o = order_at(s, a1);
-    let d1 = o.cursor;
-    let c1 = join(c0, d1);
-    let a2 = place(c1);
-    let n = number_at(s, a2, BYTE_MOST);
-    let d2 = n.cursor;
-    let c2 = join(c1, d2);
-    let a3 = place(c2);
-    let d3 = closing_at(s, a3);
-    let cursor = join(c2, d3);
+    let c = gap_at(s, at);
+    let o = then_order(s, c);
+    let c = o.cursor;
+    let n = then_number(s, c, BYTE_MOST);
+    let c = n.cursor;
+    let cursor = then_closing(s, c);
     let order = o.order;
     let number = n.value as u8;
     Valued {
@@ -94,25 +84,15 @@ pub fn field_option(s: &[u8], at: usize, field: HeaderField, limit: u64) -> Valu
     requires { ⌜ (at ≤ length (now s)) × (limit ≤ wordMost) ⌝ }
     ensures { λ r. ⌜ Reads (fieldWithin field limit) (now (s .entry)) (Going at) (entryOf (now (s .entry)) (r .value) [] []) (r .cursor) × Plain (r .value) ⌝ }
 {
-    let c0 = gap_at(s, at);
-    let a1 = place(c0);
-    let m = mask_at(s, a1, limit);
-    let d1 = m.cursor;
-    let c1 = join(c0, d1);
-    let a2 = place(c1);
-    let o = comparison_at(s, a2);
-    let d2 = o.cursor;
-    let c2 = join(c1, d2);
-    let a3 = place(c2);
-    let a4 = spaces_at(s, a3);
-    let c3 = join(c2, Cursor::Going(a4));
-    let a5 = place(c3);
-    let n = numeral_at(s, a5, limit);
-    let d4 = n.cursor;
-    let c4 = join(c3, d4);
-    let a6 = place(c4);
-    let d5 = closing_at(s, a6);
-    let cursor = join(c4, d5);
+    let c = gap_at(s, at);
+    let m = then_mask(s, c, limit);
+    let c = m.cursor;
+    let o = then_comparison(s, c);
+    let c = o.cursor;
+    let c = then_spaces(s, c);
+    let n = then_numeral(s, c, limit);
+    let c = n.cursor;
+    let cursor = then_closing(s, c);
     let mask = m.value as u16;
     let operator = o.operator;
     let number = n.value as u16;
@@ -127,26 +107,19 @@ pub fn field_option(s: &[u8], at: usize, field: HeaderField, limit: u64) -> Valu
     }
 }
 
+// The option data_size.
 pub fn size_option(s: &[u8], at: usize) -> Valued
     requires { ⌜ at ≤ length (now s) ⌝ }
     ensures { λ r. ⌜ Reads sizeForm (now (s .entry)) (Going at) (entryOf (now (s .entry)) (r .value) [] []) (r .cursor) × Plain (r .value) ⌝ }
 {
-    let c0 = gap_at(s, at);
-    let a1 = place(c0);
-    let o = size_order_at(s, a1);
-    let d1 = o.cursor;
-    let c1 = join(c0, d1);
-    let a2 = place(c1);
-    let n = number_at(s, a2, WORD_MOST);
-    let d2 = n.cursor;
-    let c2 = join(c1, d2);
-    let a3 = place(c2);
-    let f = size_field_at(s, a3);
-    let d3 = f.cursor;
-    let c3 = join(c2, d3);
-    let a4 = place(c3);
-    let d4 = closing_at(s, a4);
-    let cursor = join(c3, d4);
+    let c = gap_at(s, at);
+    let o = then_size_order(s, c);
+    let c = o.cursor;
+    let n = then_number(s, c, WORD_MOST);
+    let c = n.cursor;
+    let f = then_size_field(s, c);
+    let c = f.cursor;
+    let cursor = then_closing(s, c);
     let order = o.order;
     let number = n.value as u16;
     let field = f.field;
@@ -160,22 +133,17 @@ pub fn size_option(s: &[u8], at: usize) -> Valued
     }
 }
 
+// The option data_at.
 pub fn at_option(s: &[u8], at: usize) -> Valued
     requires { ⌜ at ≤ length (now s) ⌝ }
     ensures { λ r. ⌜ Reads atForm (now (s .entry)) (Going at) (entryOf (now (s .entry)) (r .value) [] []) (r .cursor) × Plain (r .value) ⌝ }
 {
-    let c0 = gap_at(s, at);
-    let a1 = place(c0);
-    let n = number_at(s, a1, WORD_MOST);
-    let d1 = n.cursor;
-    let c1 = join(c0, d1);
-    let a2 = place(c1);
-    let m = relative_at(s, a2);
-    let d2 = m.cursor;
-    let c2 = join(c1, d2);
-    let a3 = place(c2);
-    let d3 = closing_at(s, a3);
-    let cursor = join(c2, d3);
+    let c = gap_at(s, at);
+    let n = then_number(s, c, WORD_MOST);
+    let c = n.cursor;
+    let m = then_relative(s, c);
+    let c = m.cursor;
+    let cursor = then_closing(s, c);
     let number = n.value as u16;
     Valued {
         value: Value::Test(Item::At(AtTest {

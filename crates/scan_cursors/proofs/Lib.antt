@@ -1,2 +1,4 @@
--- How readings go together.
+-- How readings go together, how a byte chooses between forms, and where readings end.
 pub mod Readings
+pub mod Choices
+pub mod Onward

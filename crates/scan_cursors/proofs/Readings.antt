@@ -5,14 +5,28 @@ use mathlib.Core.List.{List}
 use Prim.Native.Nat.{ℕ, _+_, _-_, _≤_, _<_}
 use native.Mathlib.Omega.{arith}
 use lib.ListN.{length, drop, getD, length-drop}
-use Rattle.forms.specs.Form.{Class, has, Form, tell, byte, pair, alt, made, bound}
-use Rattle.forms.specs.Scan.{first, begins}
+use Rattle.forms.specs.Form.{Class, has, Form, tell, byte, pair, made, bound}
 use Rattle.forms.specs.Place.{Read, Is, Far, No, readAt, mapped, farther, both-read, bounded}
 use Rattle.forms.specs.Pieces.{skip, before}
-use Rattle.forms.proofs.At.{pair-at, skip-at, before-at, made-at, alt-at, tell-at, byte-at, byte-end, bound-at}
+use Rattle.forms.proofs.Bools.{by-cases}
+use Rattle.forms.proofs.At.{pair-at, skip-at, before-at, made-at, tell-at, byte-at, byte-end, bound-at}
 use Rattle.scan_cursors.specs.declared.Cursor.{Cursor}
 use Rattle.scan_cursors.specs.declared.Cursor.the-variants.{Going, Over, Stopped}
-use Rattle.scan_cursors.specs.Reads.{readBy, from, farBy, joined, placeOf, Inside, Reads}
+use Rattle.scan_cursors.specs.Reads.{readBy, from, farBy, joined, placeOf, Inside, limitedBy, Reads}
+
+-- ---- forms that read alike where a cursor stands, inside the text
+
+pub from-at : {A : Type 0} (c : Cursor) (j k : ℕ → Read A) → j (placeOf c) ≡ k (placeOf c) → from c j ≡ from c k
+from-at (Going n) j k e = e
+from-at (Over p n) j k e = ap (farther p) e
+from-at (Stopped p) j k e = refl
+
+from-alike : {A : Type 0} (s : List ℕ) (c : Cursor) (j k : ℕ → Read A) → Inside s c → ((n : ℕ) → n ≤ length s → j n ≡ k n) → from c j ≡ from c k
+from-alike s c j k i e = from-at c j k (e (placeOf c) i)
+
+pub alike-reads : {A : Type 0} {f g : Form A} {s : List ℕ} {c d : Cursor} {v : A} → ((n : ℕ) → n ≤ length s → readAt f s n ≡ readAt g s n)
+    → Inside s c → Reads f s c v d → Reads g s c v d
+alike-reads {A} {f} {g} {s} {c} e i r = record { reads = r .reads ∙ from-alike s c (λ n. readAt f s n) (λ n. readAt g s n) i e; inside = r .inside }
 
 -- ---- made
 
@@ -21,27 +35,19 @@ mapped-farther h p (Is a n) = refl
 mapped-farther h p (Far q n) = refl
 mapped-farther h p (No q) = refl
 
-mapped-from : {A B : Type 0} (h : A → B) (c : Cursor) (k : ℕ → Read A) → mapped h (from c k) ≡ from c (λ n. mapped h (k n))
-mapped-from h (Going n) k = refl
-mapped-from h (Over p n) k = mapped-farther h p (k n)
-mapped-from h (Stopped p) k = refl
+made-from : {A B : Type 0} (h : A → B) (f : Form A) (s : List ℕ) (c : Cursor) → mapped h (from c (λ n. readAt f s n)) ≡ from c (λ n. readAt (made h f) s n)
+made-from h f s (Going n) = sym (made-at h f s n)
+made-from h f s (Over p n) = mapped-farther h p (readAt f s n) ∙ ap (farther p) (sym (made-at h f s n))
+made-from h f s (Stopped p) = refl
 
 mapped-by : {A B : Type 0} (h : A → B) (v : A) (d : Cursor) → mapped h (readBy v d) ≡ readBy (h v) d
 mapped-by h v (Going n) = refl
 mapped-by h v (Over p n) = refl
 mapped-by h v (Stopped p) = refl
 
-from-same : {A : Type 0} (c : Cursor) (j k : ℕ → Read A) → ((n : ℕ) → j n ≡ k n) → from c j ≡ from c k
-from-same (Going n) j k e = e n
-from-same (Over p n) j k e = ap (farther p) (e n)
-from-same (Stopped p) j k e = refl
-
 pub made-reads : {A B : Type 0} {f : Form A} {s : List ℕ} {c d : Cursor} {v : A} (h : A → B) → Reads f s c v d → Reads (made h f) s c (h v) d
 made-reads {A} {B} {f} {s} {c} {d} {v} h r =
-    record {
-      reads = sym (mapped-by h v d) ∙ ap (mapped h) (r .reads) ∙ mapped-from h c (λ n. readAt f s n) ∙ from-same c (λ n. mapped h (readAt f s n)) (λ n. readAt (made h f) s n) (λ n. sym (made-at h f s n));
-      inside = r .inside;
-    }
+    record { reads = sym (mapped-by h v d) ∙ ap (mapped h) (r .reads) ∙ made-from h f s c; inside = r .inside }
 
 -- ---- one after the other
 
@@ -55,12 +61,8 @@ by-both h v (Going n) k = refl
 by-both h v (Over p n) k = farther-mapped (h v) p (k n)
 by-both h v (Stopped p) k = refl
 
-farther-twice : {A : Type 0} (p q : ℕ) (r : Read A) → farther {B = A} p r ≡ farther p (farther {B = A} q r)
-farther-twice p q (Is a n) = refl
-farther-twice p q (Far u n) = refl
-farther-twice p q (No u) = refl
-
-farther-both : {A B C : Type 0} (h : A → B → C) (p : ℕ) (r : Read A) (k : ℕ → Read B) → farther p (both-read h r k) ≡ both-read h (farther {B = A} p r) k
+farther-both : {A B C : Type 0} (h : A → B → C) (p : ℕ) (r : Read A) (k : ℕ → Read B)
+    → farther p (both-read h r k) ≡ both-read h (farther {B = A} p r) k
 farther-both {A} {B} {C} h p (Is a n) k = go (k n)
   where
     go : (r : Read B) → farther {B = C} p (mapped (h a) r) ≡ farther p r
@@ -75,29 +77,28 @@ farther-both {A} {B} {C} h p (Far q n) k = go (k n)
     go (No u) = refl
 farther-both h p (No q) k = refl
 
-from-both : {A B C : Type 0} (h : A → B → C) (c : Cursor) (j : ℕ → Read A) (k : ℕ → Read B) → from c (λ n. both-read h (j n) k) ≡ both-read h (from c j) k
+from-both : {A B C : Type 0} (h : A → B → C) (c : Cursor) (j : ℕ → Read A) (k : ℕ → Read B)
+    → from c (λ n. both-read h (j n) k) ≡ both-read h (from c j) k
 from-both h (Going n) j k = refl
 from-both h (Over p n) j k = farther-both h p (j n) k
 from-both h (Stopped p) j k = refl
 
-from-inside : {A : Type 0} (s : List ℕ) (c : Cursor) (j k : ℕ → Read A) → Inside s c → ((n : ℕ) → n ≤ length s → j n ≡ k n) → from c j ≡ from c k
-from-inside s (Going n) j k i e = e n i
-from-inside s (Over p n) j k i e = ap (farther p) (e n i)
-from-inside s (Stopped p) j k i e = refl
-
 -- a form that reads as the one and from behind it the other
-pub both-reads : {A B C : Type 0} {f : Form A} {g : Form B} {s : List ℕ} {c d e : Cursor} {v : A} {w : B} (h : A → B → C) (F : Form C)
+both-reads : {A B C : Type 0} {f : Form A} {g : Form B} {s : List ℕ} {c d e : Cursor} {v : A} {w : B} (h : A → B → C) (F : Form C)
     → ((n : ℕ) → n ≤ length s → readAt F s n ≡ both-read h (readAt f s n) (λ m. readAt g s m))
     → Inside s c → Reads f s c v d → Reads g s d w e → Reads F s c (h v w) e
 both-reads {A} {B} {C} {f} {g} {s} {c} {d} {e} {v} {w} h F at i r q =
     record {
       reads =
-          sym (mapped-by (h v) w e) ∙ ap (mapped (h v)) (q .reads) ∙ sym (by-both h v d (λ m. readAt g s m)) ∙ ap (λ (x : Read A). both-read h x (λ m. readAt g s m)) (r .reads)
-          ∙ sym (from-both h c (λ n. readAt f s n) (λ m. readAt g s m)) ∙ sym (from-inside s c (λ n. readAt F s n) (λ n. both-read h (readAt f s n) (λ m. readAt g s m)) i at);
+          sym (mapped-by (h v) w e) ∙ ap (mapped (h v)) (q .reads) ∙ sym (by-both h v d (λ m. readAt g s m))
+          ∙ ap (λ (x : Read A). both-read h x (λ m. readAt g s m)) (r .reads)
+          ∙ sym (from-both h c (λ n. readAt f s n) (λ m. readAt g s m))
+          ∙ sym (from-alike s c (λ n. readAt F s n) (λ n. both-read h (readAt f s n) (λ m. readAt g s m)) i at);
       inside = q .inside;
     }
 
-module _ {A B : Type 0} {f : Form A} {g : Form B} {s : List ℕ} {c d e : Cursor} {v : A} {w : B} (i : Inside s c) (r : Reads f s c v d) (q : Reads g s d w e) where
+module _ {A B : Type 0} {f : Form A} {g : Form B} {s : List ℕ} {c d e : Cursor} {v : A} {w : B} (i : Inside s c)
+    (r : Reads f s c v d) (q : Reads g s d w e) where
   pub pair-reads : Reads (pair f g) s c (v, w) e
   pair-reads = both-reads (λ (x : A) (y : B). (x, y)) (pair f g) (λ n h. pair-at f g s n h) i r q
 
@@ -107,17 +108,12 @@ module _ {A B : Type 0} {f : Form A} {g : Form B} {s : List ℕ} {c d e : Cursor
   pub before-reads : Reads (before f g) s c v e
   before-reads = both-reads (λ (x : A) (y : B). x) (before f g) (λ n h. before-at f g s n h) i r q
 
--- ---- either: the byte at the place decides
+-- ---- nothing
 
-module _ {A : Type 0} {f g : Form A} {s : List ℕ} {at : ℕ} {d : Cursor} {v : A} where
-  pub first-reads : begins (first f) (drop at s) ≡ true → Reads f s (Going at) v d → Reads (alt f g) s (Going at) v d
-  first-reads e r = record { reads = r .reads ∙ sym (alt-at f g s at ∙ rw e); inside = r .inside }
-
-  pub second-reads : begins (first f) (drop at s) ≡ false → Reads g s (Going at) v d → Reads (alt f g) s (Going at) v d
-  second-reads e r = record { reads = r .reads ∙ sym (alt-at f g s at ∙ rw e); inside = r .inside }
-
-pub tell-reads : {A : Type 0} (a : A) (s : List ℕ) (at : ℕ) → at ≤ length s → Reads (tell a) s (Going at) a (Going at)
-tell-reads a s at h = record { reads = sym (tell-at a s at h); inside = h }
+pub tell-reads : {A : Type 0} (a : A) (s : List ℕ) (c : Cursor) → Inside s c → Reads (tell a) s c a c
+tell-reads a s (Going n) h = record { reads = sym (tell-at a s n h); inside = h }
+tell-reads a s (Over p n) h = record { reads = sym (ap (farther p) (tell-at a s n h)); inside = h }
+tell-reads a s (Stopped p) h = record { reads = refl; inside = h }
 
 -- ---- a byte of a class
 
@@ -131,21 +127,45 @@ module _ (c : Class) (s : List ℕ) (at : ℕ) where
   pub byte-ends : at ≡ length s → (v : ℕ) → Reads (byte c) s (Going at) v (Stopped at)
   byte-ends h v = record { reads = sym (rw h (byte-end c s)); inside = omega arith }
 
--- ---- a bound on the value
+-- ---- a bound on the value, whose place is the first byte
 
-module _ {A : Type 0} {f : Form A} {s : List ℕ} {at n : ℕ} {v : A} (t : A → Bool) (j : A → ℕ) where
-  pub bound-kept : Reads f s (Going at) v (Going n) → t v ≡ true → Reads (bound t j f) s (Going at) v (Going n)
-  bound-kept r e = record { reads = sym (bound-at t j f s at ∙ ap (bounded t (λ a. length s - length (drop (j a) (drop at s)))) (sym (r .reads)) ∙ rw e); inside = r .inside }
+module _ {A : Type 0} (t : A → Bool) (s : List ℕ) where
+  by-limit : (v : A) (at : ℕ) (d : Cursor) → readBy v (limitedBy (t v) at d) ≡ bounded t (λ a. at) (readBy v d)
+  by-limit v at (Going n) = by-cases (t v) (λ x. rw x) (λ x. rw x)
+  by-limit v at (Over p n) = refl
+  by-limit v at (Stopped p) = refl
 
-  pub bound-broken : Reads f s (Going at) v (Going n) → t v ≡ false → at + j v ≤ length s → (w : A) → Reads (bound t j f) s (Going at) w (Over (at + j v) n)
-  bound-broken r e h w =
-      let q : length s - length (drop (j v) (drop at s)) ≡ at + j v = omega (arith, length-drop (j v) (drop at s), length-drop at s, h) in
-      record { reads = sym (bound-at t j f s at ∙ ap (bounded t (λ a. length s - length (drop (j a) (drop at s)))) (sym (r .reads)) ∙ rw (e, q)); inside = r .inside }
+  limit-inside : (b : Bool) (at : ℕ) (d : Cursor) → Inside s d → Inside s (limitedBy b at d)
+  limit-inside true at (Going n) i = i
+  limit-inside false at (Going n) i = i
+  limit-inside b at (Over p n) i = i
+  limit-inside b at (Stopped p) i = i
 
-  pub bound-stops : Reads f s (Going at) v (Stopped n) → (w : A) → Reads (bound t j f) s (Going at) w (Stopped n)
-  bound-stops r w = record { reads = sym (bound-at t j f s at ∙ ap (bounded t (λ a. length s - length (drop (j a) (drop at s)))) (sym (r .reads))); inside = r .inside }
+  first-at : (f : Form A) (at : ℕ) → at ≤ length s → readAt (bound t (λ (a : A). 0) f) s at ≡ bounded t (λ a. at) (readAt f s at)
+  first-at f at h =
+      let q : length s - length (drop at s) ≡ at = omega (arith, length-drop at s, h) in
+      bound-at t (λ (a : A). 0) f s at ∙ rw q
 
--- ---- a scanner at a place makes one at any cursor
+  bounded-farther : (at p : ℕ) (r : Read A) → bounded t (λ a. at) (farther {B = A} p r) ≡ farther p (bounded t (λ a. at) r)
+  bounded-farther at p (Is a n) = by-cases (t a) (λ x. rw x) (λ x. rw x)
+  bounded-farther at p (Far q n) = refl
+  bounded-farther at p (No q) = refl
+
+  limit-from : (f : Form A) (c : Cursor) → Inside s c
+      → bounded t (λ a. placeOf c) (from c (λ n. readAt f s n)) ≡ from c (λ n. readAt (bound t (λ (a : A). 0) f) s n)
+  limit-from f (Going n) i = sym (first-at f n i)
+  limit-from f (Over p n) i = bounded-farther n p (readAt f s n) ∙ ap (farther p) (sym (first-at f n i))
+  limit-from f (Stopped p) i = refl
+
+pub limit-reads : {A : Type 0} {f : Form A} {s : List ℕ} {c d : Cursor} {v : A} (t : A → Bool) → Inside s c → Reads f s c v d
+    → Reads (bound t (λ (a : A). 0) f) s c v (limitedBy (t v) (placeOf c) d)
+limit-reads {A} {f} {s} {c} {d} {v} t i r =
+    record {
+      reads = by-limit t s v (placeOf c) d ∙ ap (bounded t (λ a. placeOf c)) (r .reads) ∙ limit-from t s f c i;
+      inside = limit-inside t s (t v) (placeOf c) d (r .inside);
+    }
+
+-- ---- a scanner from a place on makes one from any cursor on
 
 farther-by : {A : Type 0} (p : ℕ) (v : A) (d : Cursor) → readBy v (farBy p d) ≡ farther {B = A} p (readBy v d)
 farther-by p v (Going n) = refl
@@ -157,18 +177,26 @@ far-inside s p (Going n) i = i
 far-inside s p (Over q n) i = i
 far-inside s p (Stopped q) i = i
 
-pub join-reads : {A : Type 0} {f : Form A} {s : List ℕ} (c : Cursor) {d : Cursor} {v : A} → Inside s c → Reads f s (Going (placeOf c)) v d → Reads f s c v (joined c d)
+join-reads : {A : Type 0} {f : Form A} {s : List ℕ} (c : Cursor) {d : Cursor} {v : A} → Inside s c → Reads f s (Going (placeOf c)) v d
+    → Reads f s c v (joined c d)
 join-reads (Going n) i r = r
-join-reads {A} {f} {s} (Over p n) {d} {v} i r = record { reads = farther-by p v d ∙ ap (farther p) (r .reads); inside = far-inside s p d (r .inside) }
+join-reads {A} {f} {s} (Over p n) {d} {v} i r =
+    record { reads = farther-by p v d ∙ ap (farther p) (r .reads); inside = far-inside s p d (r .inside) }
 join-reads (Stopped p) i r = record { reads = refl; inside = i }
+
+-- the same by the numbers that the code has
+pub step-reads : {A : Type 0} {f : Form A} {s : List ℕ} {c d e : Cursor} {v : A} {at : ℕ} → Inside s c → at ≡ placeOf c → e ≡ joined c d
+    → Reads f s (Going at) v d → Reads f s c v e
+step-reads {A} {f} {s} {c} {d} {e} {v} i p j r =
+    subst (λ (x : Cursor). Reads f s c v x) (sym j) (join-reads c i (subst (λ (n : ℕ). Reads f s (Going n) v d) p r))
+
+-- ---- where reading does not go on any value will do
 
 pub stopped-reads : {A : Type 0} (f : Form A) (s : List ℕ) (p : ℕ) (v : A) → p ≤ length s → Reads f s (Stopped p) v (Stopped p)
 stopped-reads f s p v h = record { reads = refl; inside = h }
 
--- the same by the numbers that the code has
-pub inside-at : {A : Type 0} {f : Form A} {s : List ℕ} {b c : Cursor} {v : A} {at : ℕ} → at ≡ placeOf c → Reads f s b v c → at ≤ length s
-inside-at e r = rw e (r .inside)
+pub stopped-any : {A : Type 0} {f : Form A} {s : List ℕ} {c : Cursor} {p : ℕ} {v : A} → Reads f s c v (Stopped p) → (w : A) → Reads f s c w (Stopped p)
+stopped-any r w = record { reads = r .reads; inside = r .inside }
 
-pub joined-reads : {A B : Type 0} {f : Form A} {g : Form B} {s : List ℕ} {b c d e : Cursor} {u : A} {v : B} {at : ℕ} → Reads f s b u c → at ≡ placeOf c → e ≡ joined c d → Reads g s (Going at) v d → Reads g s c v e
-joined-reads {A} {B} {f} {g} {s} {b} {c} {d} {e} {u} {v} q p j r =
-    subst (λ (x : Cursor). Reads g s c v x) (sym j) (join-reads c (q .inside) (subst (λ (n : ℕ). Reads g s (Going n) v d) p r))
+pub over-any : {A : Type 0} {f : Form A} {s : List ℕ} {c : Cursor} {p n : ℕ} {v : A} → Reads f s c v (Over p n) → (w : A) → Reads f s c w (Over p n)
+over-any r w = record { reads = r .reads; inside = r .inside }

@@ -1,9 +1,12 @@
 -- A scanner reads a form: from one cursor on, with a value, to another. The definitions' `readAt`, in the code's own type of places.
 use Prim.Native.Nat.{ℕ, _≤_}
 use mathlib.Core.Path.{_≡_}
+use mathlib.Core.Bool.{Bool, false}
 use mathlib.Core.List.{List}
-use lib.ListN.{length}
-use Rattle.forms.specs.Form.{Form}
+use lib.ListN.{length, drop}
+use Rattle.forms.specs.Bytes.{if_then_else_}
+use Rattle.forms.specs.Form.{Class, Form}
+use Rattle.forms.specs.Scan.{begins}
 use Rattle.forms.specs.Place.{Read, Is, Far, No, readAt, farther}
 use Rattle.scan_cursors.specs.declared.Cursor.{Cursor}
 use Rattle.scan_cursors.specs.declared.Cursor.the-variants.{Going, Over, Stopped}
@@ -38,6 +41,18 @@ placeOf (Stopped p) = p
 
 abbrev pub Inside : List ℕ → Cursor → Type 0
 Inside s c = placeOf c ≤ length s
+
+-- whether scanning goes on, with a byte of the class
+abbrev pub nextIn : Class → List ℕ → Cursor → Bool
+nextIn k s (Going n) = begins k (drop n s)
+nextIn k s (Over p n) = begins k (drop n s)
+nextIn k s (Stopped p) = false
+
+-- the cursor d behind a value that began at the place p and keeps its limit or not
+abbrev pub limitedBy : Bool → ℕ → Cursor → Cursor
+limitedBy b p (Going n) = if b then Going n else Over p n
+limitedBy b p (Over q n) = Over q n
+limitedBy b p (Stopped q) = Stopped q
 
 -- from the cursor c on the text s is read as the form f, with the value v, up to the cursor d
 pub record Reads {A : Type 0} (f : Form A) (s : List ℕ) (c : Cursor) (v : A) (d : Cursor) : Type 0 where

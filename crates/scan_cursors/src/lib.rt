@@ -1,6 +1,6 @@
 // Where scanning stands in a text.
 ghost use mathlib.Core.Path.{_≡_};
-ghost use Rattle.scan_cursors.specs.Reads.{placeOf, farBy, joined};
+ghost use Rattle.scan_cursors.specs.Reads.{placeOf, farBy, joined, limitedBy};
 
 // At a place; at the second place, a number beyond its limit having stood at the first; or stopped at a place, for good.
 pub enum Cursor {
@@ -9,6 +9,7 @@ pub enum Cursor {
     Stopped(usize),
 }
 
+// The place where scanning stands.
 pub fn place(c: Cursor) -> usize
     ensures { λ r. ⌜ r ≡ placeOf c ⌝ }
 {
@@ -38,6 +39,23 @@ pub fn join(c: Cursor, d: Cursor) -> Cursor
     match c {
         Cursor::Going(_) => d,
         Cursor::Over(place, _) => far(place, d),
+        Cursor::Stopped(at) => Cursor::Stopped(at),
+    }
+}
+
+// The cursor d behind a value from the cursor c on that keeps its limit or not; one beyond its limit is told by its first byte.
+pub fn limited(c: Cursor, kept: bool, d: Cursor) -> Cursor
+    ensures { λ r. ⌜ r ≡ limitedBy kept (placeOf c) d ⌝ }
+{
+    match d {
+        Cursor::Going(end) => {
+            if kept {
+                Cursor::Going(end)
+            } else {
+                Cursor::Over(place(c), end)
+            }
+        }
+        Cursor::Over(far, end) => Cursor::Over(far, end),
         Cursor::Stopped(at) => Cursor::Stopped(at),
     }
 }

@@ -1,5 +1,5 @@
 -- A byte of a class at a place: what the code's look at one byte says of the form of one byte.
-use mathlib.Core.Path.{_≡_, sym, _∙_, subst}
+use mathlib.Core.Path.{_≡_, refl, sym, _∙_, subst}
 use mathlib.Core.Bool.{true, false, false≢true}
 use mathlib.Core.List.{List, [], _∷_}
 use Prim.Native.Nat.{ℕ, _+_, _≤_, _<_}
@@ -15,7 +15,8 @@ use Rattle.forms.proofs.Bools.{by-cases, or-false}
 use Rattle.forms.proofs.Words.{span-one}
 use Rattle.scan_cursors.specs.declared.Cursor.the-variants.{Going, Stopped}
 use Rattle.scan_cursors.specs.Reads.{Reads}
-use Rattle.scan_cursors.proofs.Readings.{byte-reads, byte-stops, byte-ends, first-reads, second-reads, made-reads, tell-reads}
+use Rattle.scan_cursors.proofs.Readings.{byte-reads, byte-stops, byte-ends, made-reads, tell-reads}
+use Rattle.scan_cursors.proofs.Choices.{first-reads, second-reads}
 
 module _ (c : Class) (s : List ℕ) (at : ℕ) where
   pub begins-at : at < length s → begins c (drop at s) ≡ has c (getD s at 0)
@@ -25,7 +26,14 @@ module _ (c : Class) (s : List ℕ) (at : ℕ) where
   begins-out h = rw (drop-of-length-le s h)
 
   pub begins-in : begins c (drop at s) ≡ true → at < length s
-  begins-in e = by-cases (ltb at (length s)) (λ t. ltb-true at (length s) t) (λ t. absurd (false≢true (sym (begins-out (ltb-false at (length s) t)) ∙ e)))
+  begins-in e =
+      by-cases (ltb at (length s))
+      (λ t. ltb-true at (length s) t)
+      (λ t. absurd (false≢true (sym (begins-out (ltb-false at (length s) t)) ∙ e)))
+
+  -- a byte that stands there leaves a place behind it
+  pub begun-in : begins c (drop at s) ≡ true → at + 1 ≤ length s
+  begun-in e = let h = begins-in e in omega arith
 
   -- the byte that stands there is of the class
   pub byte-begun : begins c (drop at s) ≡ true → Reads (byte c) s (Going at) (getD s at 0) (Going (at + 1))
@@ -50,8 +58,8 @@ sign-begun b s at e =
 
 -- an optional byte
 module _ (b : ℕ) (s : List ℕ) (at : ℕ) where
-  pub mark-yes : {A : Type 0} (a b′ : A) → begins ((b, b) ∷ []) (drop at s) ≡ true → Reads (opt a (mark b b′)) s (Going at) b′ (Going (at + 1))
-  mark-yes a b′ e = first-reads e (made-reads (λ (x : ℕ). b′) (sign-begun b s at e))
+  pub mark-yes : begins ((b, b) ∷ []) (drop at s) ≡ true → Reads (opt false (mark b true)) s (Going at) true (Going (at + 1))
+  mark-yes e = first-reads refl e (made-reads (λ (x : ℕ). true) (sign-begun b s at e))
 
-  pub mark-no : {A : Type 0} (a b′ : A) → at ≤ length s → begins ((b, b) ∷ []) (drop at s) ≡ false → Reads (opt a (mark b b′)) s (Going at) a (Going at)
-  mark-no a b′ h e = second-reads e (tell-reads a s at h)
+  pub mark-no : at ≤ length s → begins ((b, b) ∷ []) (drop at s) ≡ false → Reads (opt false (mark b true)) s (Going at) false (Going at)
+  mark-no h e = second-reads refl e (tell-reads false s (Going at) h)

@@ -1,5 +1,5 @@
 -- The readings of `star` and `some` over a class that a run of bytes gives.
-use mathlib.Core.Path.{_≡_, refl, sym, ap, _∙_, subst}
+use mathlib.Core.Path.{_≡_, refl, sym, ap, _∙_}
 use mathlib.Core.List.{List, []}
 use Prim.Native.Nat.{ℕ, _+_, _-_, _≤_}
 use native.Mathlib.Omega.{arith}
@@ -23,31 +23,42 @@ module _ (c : Class) (s : List ℕ) (at : ℕ) (h : at ≤ length s) where
   left : length s - length (drop count (drop at s)) ≡ at + count
   left = omega (arith, length-drop count (drop at s), length-drop at s, run-le (has c) (drop at s), h)
 
-  got : (f : Form (List ℕ)) → over f (drop at s) ≡ [] → scan f (drop at s) ≡ Got (take count (drop at s)) (drop count (drop at s)) → Reads f s (Going at) (take count (drop at s)) (Going (at + count))
+  got : (f : Form (List ℕ)) → over f (drop at s) ≡ [] → scan f (drop at s) ≡ Got (take count (drop at s)) (drop count (drop at s))
+      → Reads f s (Going at) (take count (drop at s)) (Going (at + count))
   unfolding readAt
   got f o e = record { reads = sym (rw (o, e, left)); inside = run-in c s at h }
 
-  pub star-run : Reads (star (byte c)) s (Going at) (take (run (has c) (drop at s)) (drop at s)) (Going (at + run (has c) (drop at s)))
+  star-run : Reads (star (byte c)) s (Going at) (take count (drop at s)) (Going (at + count))
   star-run = got (star (byte c)) (over-free (star (byte c)) refl (drop at s)) (star-bytes c (has c) (λ b. refl) (drop at s))
 
-  pub some-run : (run (has c) (drop at s) ≡ 0 → ⊥) → Reads (some (byte c)) s (Going at) (take (run (has c) (drop at s)) (drop at s)) (Going (at + run (has c) (drop at s)))
+  some-run : (count ≡ 0 → ⊥) → Reads (some (byte c)) s (Going at) (take count (drop at s)) (Going (at + count))
   some-run n = got (some (byte c)) (over-free (some (byte c)) refl (drop at s)) (some-bytes c (has c) (λ b. refl) (drop at s) ∙ rw (ne-eqb count 0 n))
 
-  pub some-none : run (has c) (drop at s) ≡ 0 → (v : List ℕ) → Reads (some (byte c)) s (Going at) v (Stopped at)
+  some-none : count ≡ 0 → (v : List ℕ) → Reads (some (byte c)) s (Going at) v (Stopped at)
   unfolding readAt
   some-none n v =
       record {
-        reads = sym (rw (over-free (some (byte c)) refl (drop at s), some-bytes c (has c) (λ b. refl) (drop at s), eq-eqb count 0 n) (ap No (omega (arith, length-drop at s, h))));
+        reads = sym (rw (over-free (some (byte c)) refl (drop at s), some-bytes c (has c) (λ b. refl) (drop at s), eq-eqb count 0 n)
+            (ap No (omega (arith, length-drop at s, h))));
         inside = h;
       }
 
 -- the same by the place behind the run
 module _ (c : Class) (s : List ℕ) (at end : ℕ) (h : at ≤ length s) (e : end ≡ at + run (has c) (drop at s)) where
-  pub no-gap : end ≡ at → (v : List ℕ) → Reads (some (byte c)) s (Going at) v (Stopped at)
-  no-gap z v = some-none c s at h (omega (arith, z, e)) v
+  counted : run (has c) (drop at s) ≡ end - at
+  counted = omega (arith, e)
 
-  pub run-gap : (end ≡ at → ⊥) → Reads (some (byte c)) s (Going at) (take (run (has c) (drop at s)) (drop at s)) (Going end)
-  run-gap n = subst (λ (m : ℕ). Reads (some (byte c)) s (Going at) (take (run (has c) (drop at s)) (drop at s)) (Going m)) (sym e) (some-run c s at h (λ z. n (omega (arith, z, e))))
+  around : at + (end - at) ≡ end
+  around = omega (arith, e)
 
-  pub run-spaces : Reads (star (byte c)) s (Going at) (take (run (has c) (drop at s)) (drop at s)) (Going end)
-  run-spaces = subst (λ (m : ℕ). Reads (star (byte c)) s (Going at) (take (run (has c) (drop at s)) (drop at s)) (Going m)) (sym e) (star-run c s at h)
+  pub run-end : end ≤ length s
+  run-end = omega (arith, run-in c s at h, e)
+
+  pub run-none : end ≡ at → (v : List ℕ) → Reads (some (byte c)) s (Going at) v (Stopped at)
+  run-none z v = some-none c s at h (omega (arith, z, e)) v
+
+  pub run-some : (end ≡ at → ⊥) → Reads (some (byte c)) s (Going at) (take (end - at) (drop at s)) (Going end)
+  run-some n = rw (counted, around) at (some-run c s at h (λ z. n (omega (arith, z, e))))
+
+  pub run-any : Reads (star (byte c)) s (Going at) (take (end - at) (drop at s)) (Going end)
+  run-any = rw (counted, around) at (star-run c s at h)

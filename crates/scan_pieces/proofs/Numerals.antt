@@ -1,6 +1,6 @@
 -- A numeral is what a run of hex digits is behind `0x`, and else what a decimal number is.
 use mathlib.Core.Path.{_≡_, refl, sym, ap, _∙_}
-use mathlib.Core.Bool.{true, false, _&&_}
+use mathlib.Core.Bool.{Bool, true, false}
 use mathlib.Core.List.{List, [], _∷_}
 use Prim.Native.Nat.{ℕ, _+_, _-_, _≤_}
 use native.Mathlib.Omega.{arith}
@@ -14,7 +14,7 @@ use Rattle.forms.specs.Pieces.{skip, some}
 use Rattle.forms.proofs.Bools.{by-cases, both-left, both-right}
 use Rattle.forms.proofs.At.{alt-at, skip-at, made-at, pair-at, bound-at, byte-at, byte-end, mapped-both}
 use Rattle.definitions.specs.Numbers.{decimalDigits, hexDigits, digitValue, valueOf, number, eitherBase, numeral}
-use Rattle.scan_pieces.specs.Digits.{digitsWithin}
+use Rattle.scan_pieces.specs.Digits.{digitsWithin, hexMarked}
 use Rattle.scan_cursors.specs.declared.Cursor.{Cursor}
 use Rattle.scan_cursors.specs.declared.Cursor.the-variants.{Going}
 use Rattle.scan_cursors.specs.Reads.{Reads}
@@ -50,11 +50,21 @@ no-zero b e =
     (λ t. rw (t, le-leb 48 b (omega (arith, leb-true 49 b t))))
     (λ t. rw (t, lt-leb 48 b (omega (arith, leb-false 49 b t, n))))
 
-skip-stood : {A : Type 0} (c : List (ℕ × ℕ)) (g : Form A) (s : List ℕ) (at : ℕ) → begins c (drop at s) ≡ true → readAt (skip (byte c) g) s at ≡ readAt g s (at + 1)
-skip-stood c g s at e = let h = begins-in c s at e in skip-at (byte c) g s at (omega arith) ∙ rw (stood c s at e) (mapped-id (readAt g s (at + 1)))
+skip-stood : {A : Type 0} (c : List (ℕ × ℕ)) (g : Form A) (s : List ℕ) (at : ℕ) → begins c (drop at s) ≡ true
+    → readAt (skip (byte c) g) s at ≡ readAt g s (at + 1)
+skip-stood c g s at e =
+    let h = begins-in c s at e in
+    skip-at (byte c) g s at (omega arith) ∙ rw (stood c s at e) (mapped-id (readAt g s (at + 1)))
+
+-- decimal digits, with how many bytes stand before them
+abbrev plainly : List ℕ → ℕ × ℕ
+plainly l = (0, valueOf 10 0 l)
+
+abbrev joined : ℕ × List ℕ → List ℕ
+joined p = p .0 ∷ p .1
 
 -- a leading zero changes no number
-led-by-zero : (X : Read (List ℕ)) → mapped {B = ℕ × ℕ} (λ (l : List ℕ). (0, valueOf 10 0 l)) (mapped (λ (l : List ℕ). 48 ∷ l) X) ≡ mapped (λ (l : List ℕ). (0, valueOf 10 0 l)) X
+led-by-zero : (X : Read (List ℕ)) → mapped plainly (mapped (λ (l : List ℕ). 48 ∷ l) X) ≡ mapped plainly X
 unfolding valueOf digitValue
 led-by-zero (Is l n) = refl
 led-by-zero (Far p n) = refl
@@ -67,23 +77,33 @@ module _ (s : List ℕ) (at : ℕ) where
       → readAt eitherBase s at ≡ mapped (λ (l : List ℕ). (2, valueOf 16 0 l)) (readAt (some (byte hexDigits)) s (at + 2))
   either-hex z x =
       let e : at + 1 + 1 ≡ at + 2 = omega arith in
-      alt-at _ _ s at ∙ rw z (skip-stood zero-sign _ s at z ∙ alt-at _ _ s (at + 1) ∙ rw x (skip-stood x-sign _ s (at + 1) x ∙ made-at _ _ s (at + 1 + 1) ∙ rw e))
+      alt-at _ _ s at
+      ∙ rw z (skip-stood zero-sign _ s at z ∙ alt-at _ _ s (at + 1)
+      ∙ rw x (skip-stood x-sign _ s (at + 1) x ∙ made-at _ _ s (at + 1 + 1) ∙ rw e))
+
+  abbrev digits : ℕ → Read (List ℕ)
+  digits n = readAt (star (byte decimalDigits)) s n
 
   -- one digit, and the rest
-  some-at : at ≤ length s → readAt (some (byte decimalDigits)) s at ≡ both-read (λ (b : ℕ) (l : List ℕ). b ∷ l) (readAt (byte decimalDigits) s at) (λ n. readAt (star (byte decimalDigits)) s n)
-  some-at h = made-at _ _ s at ∙ ap (mapped (λ (p : ℕ × List ℕ). p .0 ∷ p .1)) (pair-at (byte decimalDigits) (star (byte decimalDigits)) s at h) ∙ mapped-both (λ (p : ℕ × List ℕ). p .0 ∷ p .1) (readAt (byte decimalDigits) s at) (λ n. readAt (star (byte decimalDigits)) s n)
+  some-at : at ≤ length s
+      → readAt (some (byte decimalDigits)) s at ≡ both-read (λ (b : ℕ) (l : List ℕ). b ∷ l) (readAt (byte decimalDigits) s at) digits
+  some-at h =
+      made-at _ _ s at ∙ ap (mapped joined) (pair-at (byte decimalDigits) (star (byte decimalDigits)) s at h)
+      ∙ mapped-both joined (readAt (byte decimalDigits) s at) digits
 
   zero-digit : begins zero-sign (drop at s) ≡ true → getD s at 0 ≡ 48
   zero-digit z = let h = begins-in zero-sign s at z in eqb-true _ _ (sym (has-one 48 (getD s at 0)) ∙ sym (begins-at zero-sign s at h) ∙ z)
 
   either-zero : begins zero-sign (drop at s) ≡ true → begins x-sign (drop (at + 1) s) ≡ false
-      → readAt eitherBase s at ≡ mapped (λ (l : List ℕ). (0, valueOf 10 0 l)) (readAt (some (byte decimalDigits)) s at)
+      → readAt eitherBase s at ≡ mapped plainly (readAt (some (byte decimalDigits)) s at)
   unfolding has
   either-zero z x =
       let h = begins-in zero-sign s at z in
       let d : readAt (byte decimalDigits) s at ≡ Is 48 (at + 1) = byte-at decimalDigits s at h ∙ rw (zero-digit z) in
-      alt-at _ _ s at ∙ rw z (skip-stood zero-sign _ s at z ∙ alt-at _ _ s (at + 1) ∙ rw x (made-at _ _ s (at + 1)
-      ∙ sym (ap (mapped (λ (l : List ℕ). (0, valueOf 10 0 l))) (some-at (omega arith) ∙ ap (λ (X : Read ℕ). both-read (λ (b : ℕ) (l : List ℕ). b ∷ l) X (λ n. readAt (star (byte decimalDigits)) s n)) d) ∙ led-by-zero (readAt (star (byte decimalDigits)) s (at + 1)))))
+      let e = some-at (omega arith) ∙ ap (λ (X : Read ℕ). both-read (λ (b : ℕ) (l : List ℕ). b ∷ l) X digits) d in
+      alt-at _ _ s at
+      ∙ rw z (skip-stood zero-sign _ s at z ∙ alt-at _ _ s (at + 1)
+      ∙ rw x (made-at _ _ s (at + 1) ∙ sym (ap (mapped plainly) e ∙ led-by-zero (digits (at + 1)))))
 
   -- a digit that is no zero, or no digit at all
   other-digit : at ≤ length s → begins zero-sign (drop at s) ≡ false → readAt (byte ((49, 57) ∷ [])) s at ≡ readAt (byte decimalDigits) s at
@@ -91,31 +111,39 @@ module _ (s : List ℕ) (at : ℕ) where
       by-cases (ltb at (length s))
       (λ t.
       let g = ltb-true at (length s) t in
-      byte-at ((49, 57) ∷ []) s at g ∙ rw (no-zero (getD s at 0) (sym (has-one 48 (getD s at 0)) ∙ sym (begins-at zero-sign s at g) ∙ z)) (sym (byte-at decimalDigits s at g)))
+      let n = no-zero (getD s at 0) (sym (has-one 48 (getD s at 0)) ∙ sym (begins-at zero-sign s at g) ∙ z) in
+      byte-at ((49, 57) ∷ []) s at g ∙ rw n (sym (byte-at decimalDigits s at g)))
       (λ t.
       let e : at ≡ length s = omega (arith, ltb-false at (length s) t) in
       rw e (byte-end ((49, 57) ∷ []) s ∙ sym (byte-end decimalDigits s)))
 
   either-other : at ≤ length s → begins zero-sign (drop at s) ≡ false
-      → readAt eitherBase s at ≡ mapped (λ (l : List ℕ). (0, valueOf 10 0 l)) (readAt (some (byte decimalDigits)) s at)
+      → readAt eitherBase s at ≡ mapped plainly (readAt (some (byte decimalDigits)) s at)
   either-other h z =
-      let K : ℕ → Read (List ℕ) = λ n. readAt (star (byte decimalDigits)) s n in
+      let of : ℕ × List ℕ → ℕ × ℕ = λ p. (0, valueOf 10 0 (p .0 ∷ p .1)) in
+      let X : Read ℕ = readAt (byte decimalDigits) s at in
+      let two : Read ℕ → Read (ℕ × List ℕ) = λ (Y : Read ℕ). both-read (λ (b : ℕ) (l : List ℕ). (b, l)) Y digits in
+      let one = pair-at (byte ((49, 57) ∷ [])) (star (byte decimalDigits)) s at h ∙ ap two (other-digit h z) in
+      let all = made-at _ _ s at ∙ ap (mapped joined) (pair-at (byte decimalDigits) (star (byte decimalDigits)) s at h) in
       alt-at _ _ s at
-      ∙ rw z (made-at (λ (p : ℕ × List ℕ). (0, valueOf 10 0 (p .0 ∷ p .1))) _ s at
-      ∙ ap (mapped (λ (p : ℕ × List ℕ). (0, valueOf 10 0 (p .0 ∷ p .1)))) (pair-at (byte ((49, 57) ∷ [])) (star (byte decimalDigits)) s at h ∙ ap (λ (X : Read ℕ). both-read (λ (b : ℕ) (l : List ℕ). (b, l)) X K) (other-digit h z))
-      ∙ mapped-both (λ (p : ℕ × List ℕ). (0, valueOf 10 0 (p .0 ∷ p .1))) (readAt (byte decimalDigits) s at) K
-      ∙ sym (ap (mapped (λ (l : List ℕ). (0, valueOf 10 0 l))) (made-at _ _ s at ∙ ap (mapped (λ (p : ℕ × List ℕ). p .0 ∷ p .1)) (pair-at (byte decimalDigits) (star (byte decimalDigits)) s at h))
-      ∙ mapped-twice (λ (l : List ℕ). (0, valueOf 10 0 l)) (λ (p : ℕ × List ℕ). p .0 ∷ p .1) (both-read (λ (b : ℕ) (l : List ℕ). (b, l)) (readAt (byte decimalDigits) s at) K)
-      ∙ mapped-both (λ (p : ℕ × List ℕ). (0, valueOf 10 0 (p .0 ∷ p .1))) (readAt (byte decimalDigits) s at) K))
+      ∙ rw z (made-at of _ s at ∙ ap (mapped of) one ∙ mapped-both of X digits
+      ∙ sym (ap (mapped plainly) all ∙ mapped-twice plainly joined (two X) ∙ mapped-both of X digits))
 
 -- ---- the number
 
+-- where a broken bound is placed, behind the first k bytes
+abbrev behind : List ℕ → ℕ → ℕ → ℕ
+behind s at k = length s - length (drop k (drop at s))
+
+abbrev within : ℕ → ℕ × ℕ → Bool
+within limit p = leb (p .1) limit
+
 -- bounds of the numeral and of its digits, over any reading of digits
 same-bound : (limit : ℕ) (s : List ℕ) (at here base k : ℕ) (X : Read (List ℕ)) → here ≡ at + k → here ≤ length s
-    → mapped (λ (p : ℕ × ℕ). p .1) (bounded (λ (p : ℕ × ℕ). leb (p .1) limit) (λ (p : ℕ × ℕ). length s - length (drop (p .0) (drop at s))) (mapped (λ (l : List ℕ). (k, valueOf base 0 l)) X))
-    ≡ bounded (λ (n : ℕ). leb n limit) (λ (n : ℕ). length s - length (drop 0 (drop here s))) (mapped (valueOf base 0) X)
+    → mapped (λ (p : ℕ × ℕ). p .1) (bounded (within limit) (λ (p : ℕ × ℕ). behind s at (p .0)) (mapped (λ (l : List ℕ). (k, valueOf base 0 l)) X))
+    ≡ bounded (λ (n : ℕ). leb n limit) (λ (n : ℕ). behind s here 0) (mapped (valueOf base 0) X)
 same-bound limit s at here base k (Is l n) e h =
-    let q : length s - length (drop k (drop at s)) ≡ length s - length (drop here s) = omega (arith, length-drop k (drop at s), length-drop at s, length-drop here s, h, e) in
+    let q : behind s at k ≡ behind s here 0 = omega (arith, length-drop k (drop at s), length-drop at s, length-drop here s, h, e) in
     by-cases (leb (valueOf base 0 l) limit) (λ t. rw t) (λ t. rw (t, q))
 same-bound limit s at here base k (Far p n) e h = refl
 same-bound limit s at here base k (No p) e h = refl
@@ -124,23 +152,26 @@ numeral-is : (limit : ℕ) (s : List ℕ) (at here k : ℕ) (c : Class) (base : 
     → readAt eitherBase s at ≡ mapped (λ (l : List ℕ). (k, valueOf base 0 l)) (readAt (some (byte c)) s here)
     → readAt (numeral limit) s at ≡ readAt (digitsWithin c base limit) s here
 numeral-is limit s at here k c base e h x =
-    made-at _ _ s at ∙ ap (mapped (λ (p : ℕ × ℕ). p .1)) (bound-at _ _ eitherBase s at ∙ ap (bounded (λ (p : ℕ × ℕ). leb (p .1) limit) (λ (p : ℕ × ℕ). length s - length (drop (p .0) (drop at s)))) x)
-    ∙ same-bound limit s at here base k (readAt (some (byte c)) s here) e h
-    ∙ sym (bound-at (λ (n : ℕ). leb n limit) (λ (n : ℕ). 0) (made (valueOf base 0) (some (byte c))) s here ∙ ap (bounded (λ (n : ℕ). leb n limit) (λ (n : ℕ). length s - length (drop 0 (drop here s)))) (made-at (valueOf base 0) (some (byte c)) s here))
+    let left = bound-at _ _ eitherBase s at ∙ ap (bounded (within limit) (λ (p : ℕ × ℕ). behind s at (p .0))) x in
+    let right =
+    bound-at (λ (n : ℕ). leb n limit) (λ (n : ℕ). 0) (made (valueOf base 0) (some (byte c))) s here
+    ∙ ap (bounded (λ (n : ℕ). leb n limit) (λ (n : ℕ). behind s here 0)) (made-at (valueOf base 0) (some (byte c)) s here) in
+    made-at _ _ s at ∙ ap (mapped (λ (p : ℕ × ℕ). p .1)) left ∙ same-bound limit s at here base k (readAt (some (byte c)) s here) e h ∙ sym right
+
+pub hex-inside : (s : List ℕ) (at : ℕ) → hexMarked s at ≡ true → at + 2 ≤ length s
+hex-inside s at e = omega (arith, begins-in x-sign s (at + 1) (both-right (begins zero-sign (drop at s)) (begins x-sign (drop (at + 1) s)) e))
 
 module _ (limit : ℕ) {s : List ℕ} {at : ℕ} {v : ℕ} {d : Cursor} where
-  pub hex-reads : (begins ((48, 48) ∷ []) (drop at s) && begins ((120, 120) ∷ (88, 88) ∷ []) (drop (at + 1) s)) ≡ true → Reads (digitsWithin hexDigits 16 limit) s (Going (at + 2)) v d → Reads (numeral limit) s (Going at) v d
+  pub hex-reads : hexMarked s at ≡ true → Reads (digitsWithin hexDigits 16 limit) s (Going (at + 2)) v d → Reads (numeral limit) s (Going at) v d
   hex-reads e r =
       let z = both-left (begins zero-sign (drop at s)) (begins x-sign (drop (at + 1) s)) e in
       let x = both-right (begins zero-sign (drop at s)) (begins x-sign (drop (at + 1) s)) e in
-      record { reads = r .reads ∙ sym (numeral-is limit s at (at + 2) 2 hexDigits 16 refl (omega (arith, begins-in x-sign s (at + 1) x)) (either-hex s at z x)); inside = r .inside }
+      let q = numeral-is limit s at (at + 2) 2 hexDigits 16 refl (hex-inside s at e) (either-hex s at z x) in
+      record { reads = r .reads ∙ sym q; inside = r .inside }
 
-  pub decimal-reads : at ≤ length s → (begins ((48, 48) ∷ []) (drop at s) && begins ((120, 120) ∷ (88, 88) ∷ []) (drop (at + 1) s)) ≡ false → Reads (number limit) s (Going at) v d → Reads (numeral limit) s (Going at) v d
+  pub decimal-reads : at ≤ length s → hexMarked s at ≡ false → Reads (number limit) s (Going at) v d → Reads (numeral limit) s (Going at) v d
   decimal-reads h e r =
       let q : at ≡ at + 0 = omega arith in
-      let w : readAt eitherBase s at ≡ mapped (λ (l : List ℕ). (0, valueOf 10 0 l)) (readAt (some (byte decimalDigits)) s at) =
+      let w : readAt eitherBase s at ≡ mapped plainly (readAt (some (byte decimalDigits)) s at) =
       by-cases (begins zero-sign (drop at s)) (λ z. either-zero s at z (rw z at e)) (λ z. either-other s at h z) in
       record { reads = r .reads ∙ sym (numeral-is limit s at at 0 decimalDigits 10 q h w); inside = r .inside }
-
-pub hex-inside : (s : List ℕ) (at : ℕ) → (begins ((48, 48) ∷ []) (drop at s) && begins ((120, 120) ∷ (88, 88) ∷ []) (drop (at + 1) s)) ≡ true → at + 2 ≤ length s
-hex-inside s at e = omega (arith, begins-in x-sign s (at + 1) (both-right (begins zero-sign (drop at s)) (begins x-sign (drop (at + 1) s)) e))

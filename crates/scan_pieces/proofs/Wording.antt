@@ -15,8 +15,8 @@ use Rattle.forms.proofs.Pieces.{skip-scan, over-free, free}
 use Rattle.scan_cursors.specs.declared.Cursor.{Cursor}
 use Rattle.scan_cursors.specs.declared.Cursor.the-variants.{Going, Stopped}
 use Rattle.scan.specs.Classes.{caseClass}
-use Rattle.scan_cursors.specs.Reads.{Reads}
-use Rattle.scan_cursors.proofs.Readings.{made-reads, skip-reads, tell-reads, stopped-reads}
+use Rattle.scan_cursors.specs.Reads.{Inside, Reads}
+use Rattle.scan_cursors.proofs.Readings.{alike-reads, made-reads, skip-reads, tell-reads, stopped-reads}
 use Rattle.scan_pieces.proofs.AtPlace.{byte-begun, byte-none, begins-in}
 
 -- what is still to come of a word
@@ -38,10 +38,11 @@ module _ (s : List ℕ) (at : ℕ) (w : List ℕ) (i here : ℕ) (u : Word s at 
   pub word-halt : i < length w → begins (caseClass (getD w i 0)) (drop here s) ≡ false → Reads (word w) s (Going at) 0 (Stopped here)
   word-halt h e =
       u .rest (Stopped here)
-      (rw (tail h) (skip-reads (u .inside) (byte-none (caseClass (getD w i 0)) s here (u .inside) e 0) (stopped-reads (word (drop (i + 1) w)) s here 0 (u .inside))))
+      (rw (tail h)
+      (skip-reads (u .inside) (byte-none (caseClass (getD w i 0)) s here (u .inside) e 0) (stopped-reads (word (drop (i + 1) w)) s here 0 (u .inside))))
 
   pub word-out : length w ≤ i → Reads (word w) s (Going at) 0 (Going here)
-  word-out h = u .rest (Going here) (rw (drop-of-length-le w h) (tell-reads 0 s here (u .inside)))
+  word-out h = u .rest (Going here) (rw (drop-of-length-le w h) (tell-reads 0 s (Going here) (u .inside)))
 
 -- ---- what a word says plays no part in how it is scanned
 
@@ -49,22 +50,23 @@ says-free : {A : Type 0} (w : List ℕ) (a : A) → free (says w a) ≡ true
 says-free [] a = refl
 says-free (b ∷ w) a = says-free w a
 
-says-on : {A : Type 0} (w : List ℕ) (a : A) (o : Scan ℕ) → ((l : List ℕ) → scan (says w a) l ≡ onGot (scan (word w) l) (λ n r. Got a r)) → onGot o (λ n r. scan (says w a) r) ≡ onGot (onGot o (λ n r. scan (word w) r)) (λ n r. Got a r)
-says-on w a (Got n r) h = h r
-says-on w a (Stop r) h = refl
+says-on : {A B : Type 0} (h : A → B) (w : List ℕ) (a : A) (o : Scan ℕ) → ((l : List ℕ) → scan (says w (h a)) l ≡ onGot (scan (says w a) l) (λ x r. Got (h x) r))
+    → onGot o (λ n r. scan (says w (h a)) r) ≡ onGot (onGot o (λ n r. scan (says w a) r)) (λ x r. Got (h x) r)
+says-on h w a (Got n r) e = e r
+says-on h w a (Stop r) e = refl
 
-says-scan : {A : Type 0} (w : List ℕ) (a : A) (l : List ℕ) → scan (says w a) l ≡ onGot (scan (word w) l) (λ n r. Got a r)
+says-scan : {A B : Type 0} (h : A → B) (w : List ℕ) (a : A) (l : List ℕ) → scan (says w (h a)) l ≡ onGot (scan (says w a) l) (λ x r. Got (h x) r)
 unfolding scan
-says-scan [] a l = refl
-says-scan (b ∷ w) a l =
-    skip-scan (anyCase b) (says w a) l ∙ says-on w a (scan (anyCase b) l) (λ m. says-scan w a m)
-    ∙ sym (ap (λ (o : Scan ℕ). onGot o (λ n r. Got a r)) (skip-scan (anyCase b) (word w) l))
+says-scan h [] a l = refl
+says-scan {A} h (b ∷ w) a l =
+    skip-scan (anyCase b) (says w (h a)) l ∙ says-on h w a (scan (anyCase b) l) (λ m. says-scan h w a m)
+    ∙ sym (ap (λ (o : Scan A). onGot o (λ x r. Got (h x) r)) (skip-scan (anyCase b) (says w a) l))
 
-says-at : {A : Type 0} (w : List ℕ) (a : A) (s : List ℕ) (i : ℕ) → readAt (says w a) s i ≡ readAt (made (λ (n : ℕ). a) (word w)) s i
+pub says-at : {A B : Type 0} (h : A → B) (w : List ℕ) (a : A) (s : List ℕ) (i : ℕ) → readAt (made h (says w a)) s i ≡ readAt (says w (h a)) s i
 unfolding readAt scan over
-says-at w a s i = rw (over-free (says w a) (says-free w a) (drop i s), over-free (word w) (says-free w 0) (drop i s), says-scan w a (drop i s))
+says-at h w a s i =
+    let l = drop i s in
+    sym (rw (over-free (says w (h a)) (says-free w (h a)) l, over-free (says w a) (says-free w a) l, says-scan h w a l))
 
-pub says-reads : {A : Type 0} (w : List ℕ) {s : List ℕ} {at : ℕ} {d : Cursor} (a : A) → Reads (word w) s (Going at) 0 d → Reads (says w a) s (Going at) a d
-says-reads w {s} {at} {d} a r =
-    let q = made-reads (λ (n : ℕ). a) r in
-    record { reads = q .reads ∙ sym (says-at w a s at); inside = q .inside }
+pub says-reads : {A : Type 0} (w : List ℕ) {s : List ℕ} {c d : Cursor} (a : A) → Inside s c → Reads (word w) s c 0 d → Reads (says w a) s c a d
+says-reads w {s} a i r = alike-reads (λ n h. says-at (λ (x : ℕ). a) w 0 s n) i (made-reads (λ (x : ℕ). a) r)

@@ -1,16 +1,13 @@
 // Numbers up to a limit, in decimal or hex.
-ghost use Prim.Native.Nat.{_+_, _≤_, _<_};
-ghost use lib.ListN.{length, drop};
+ghost use Prim.Native.Nat.{_≤_, _<_};
+ghost use lib.ListN.{length};
 ghost use mathlib.Core.Path.{_≡_};
-ghost use mathlib.Core.Bool.{_&&_};
-ghost use mathlib.Core.List.{_∷_, []};
-ghost use Rattle.forms.specs.Scan.{begins};
 ghost use Rattle.definitions.specs.Numbers.{number, numeral};
 ghost use Rattle.scan.specs.Classes.{classOf};
 ghost use Rattle.scan.specs.Capped.{farAbove};
 ghost use Rattle.scan_cursors.specs.Reads.{Reads};
 ghost use Rattle.scan_cursors.specs.declared.Cursor.the-variants.{Going};
-ghost use Rattle.scan_pieces.specs.Digits.{digitsWithin};
+ghost use Rattle.scan_pieces.specs.Digits.{digitsWithin, hexMarked};
 use crate::signs::stands;
 use crate::signs::starts;
 use scan::bytes::Class;
@@ -60,7 +57,7 @@ pub fn number_at(s: &[u8], at: usize, limit: u64) -> Numeric
 
 // Whether `0x` or `0X` stands at the place.
 fn is_hex_mark(s: &[u8], at: usize) -> bool
-    ensures { λ r. ⌜ r ≡ begins ((48, 48) ∷ []) (drop at (now (s .entry))) && begins ((120, 120) ∷ (88, 88) ∷ []) (drop (at + 1) (now (s .entry))) ⌝ }
+    ensures { λ r. ⌜ r ≡ hexMarked (now (s .entry)) at ⌝ }
 {
     if stands(s, at, b'0') {
         starts(s, at + 1, b'x')

@@ -10,6 +10,7 @@ ghost use Rattle.definitions.specs.Forms.{spaces, gap};
 ghost use Rattle.scan.specs.Classes.{caseClass};
 ghost use Rattle.scan_cursors.specs.Reads.{Reads, Skips};
 ghost use Rattle.scan_cursors.specs.declared.Cursor.the-variants.{Going};
+use crate::runs::run_at;
 use scan::bytes::Class;
 use scan::bytes::in_case;
 use scan::runs::run_of;
@@ -51,14 +52,11 @@ pub fn gap_at(s: &[u8], at: usize) -> Cursor
     requires { ⌜ at ≤ length (now s) ⌝ }
     ensures { λ r. ⌜ Skips gap (now (s .entry)) (Going at) r ⌝ }
 {
-    let end = run_of(s, at, Class::Space);
-    if end == at {
-        Cursor::Stopped(at)
-    } else {
-        Cursor::Going(end)
-    }
+    let run = run_at(s, at, Class::Space);
+    run.cursor
 }
 
+// Whether an optional byte stood there, and where scanning stands.
 pub struct Mark {
     pub yes: bool,
     pub cursor: Cursor,

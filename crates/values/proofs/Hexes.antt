@@ -19,9 +19,8 @@ use Rattle.scan_cursors.specs.declared.Cursor.the-variants.{Going, Stopped}
 use Rattle.definitions.specs.Limits.{byteMost}
 use Rattle.scan.specs.Capped.{farAbove, capped}
 use Rattle.scan_cursors.specs.Reads.{Reads}
-use Rattle.scan_cursors.proofs.Readings.{made-reads, pair-reads, stopped-reads}
-use Rattle.scan_pieces.proofs.AtPlace.{begins-at, begins-in, byte-begun, byte-none}
-use Rattle.values.proofs.Steps.{stopped-any, begun-in}
+use Rattle.scan_cursors.proofs.Readings.{made-reads, pair-reads, stopped-reads, stopped-any}
+use Rattle.scan_pieces.proofs.AtPlace.{begins-at, begins-in, begun-in, byte-begun, byte-none}
 
 digit-small : (b : ℕ) → has hexDigits b ≡ true → digitValue b ≤ 15
 unfolding has digitValue

@@ -6,22 +6,17 @@ use Prim.Native.Nat.{ℕ, _+_, _≤_}
 use lib.ListN.{length, drop}
 use Rattle.forms.specs.Form.{Form, pair, star}
 use Rattle.forms.specs.Scan.{empty, first, begins}
-use Rattle.forms.specs.Place.{Read, readAt, mapped, farther, both-read}
+use Rattle.forms.specs.Place.{readAt, mapped, both-read}
 use Rattle.forms.specs.Pieces.{some}
 use Rattle.forms.proofs.At.{pair-at, made-at, star-at, mapped-both}
 use Rattle.scan_cursors.specs.declared.Cursor.{Cursor}
 use Rattle.scan_cursors.specs.declared.Cursor.the-variants.{Going, Over, Stopped}
 use Rattle.scan_cursors.specs.Reads.{readBy, from, placeOf, Inside, Reads}
-use Rattle.scan_cursors.proofs.Readings.{made-reads, pair-reads, stopped-reads}
-
--- readings that agree at a cursor's place agree from the cursor on
-same-from : {A : Type 0} (c : Cursor) (j k : ℕ → Read A) → j (placeOf c) ≡ k (placeOf c) → from c j ≡ from c k
-same-from (Going n) j k e = e
-same-from (Over p n) j k e = ap (farther p) e
-same-from (Stopped p) j k e = refl
+use Rattle.scan_cursors.proofs.Readings.{from-at, made-reads, pair-reads, stopped-reads}
 
 module _ {A : Type 0} (f : Form A) (full : not (empty f) ≡ true) (s : List ℕ) where
-  some-at : (n : ℕ) → n ≤ length s → readAt (some f) s n ≡ both-read (λ (x : A) (xs : List A). x ∷ xs) (readAt f s n) (λ m. readAt (star f) s m)
+  some-at : (n : ℕ) → n ≤ length s
+      → readAt (some f) s n ≡ both-read (λ (x : A) (xs : List A). x ∷ xs) (readAt f s n) (λ m. readAt (star f) s m)
   some-at n h =
       made-at (λ (p : A × List A). p .0 ∷ p .1) (pair f (star f)) s n
       ∙ ap (mapped (λ (p : A × List A). p .0 ∷ p .1)) (pair-at f (star f) s n h)
@@ -31,18 +26,20 @@ module _ {A : Type 0} (f : Form A) (full : not (empty f) ≡ true) (s : List ℕ
   begun-at : (n : ℕ) → n ≤ length s → begins (first f) (drop n s) ≡ true → readAt (some f) s n ≡ readAt (star f) s n
   begun-at n h t = some-at n h ∙ sym (star-at f full s n h ∙ rw t)
 
-  star-begun : (c : Cursor) {d : Cursor} {vs : List A} → Inside s c → begins (first f) (drop (placeOf c) s) ≡ true → Reads (some f) s c vs d → Reads (star f) s c vs d
+  star-begun : (c : Cursor) {d : Cursor} {vs : List A} → Inside s c → begins (first f) (drop (placeOf c) s) ≡ true → Reads (some f) s c vs d
+      → Reads (star f) s c vs d
   star-begun c h t r =
       record {
-        reads = r .reads ∙ same-from c (λ n. readAt (some f) s n) (λ n. readAt (star f) s n) (begun-at (placeOf c) h t);
+        reads = r .reads ∙ from-at c (λ n. readAt (some f) s n) (λ n. readAt (star f) s n) (begun-at (placeOf c) h t);
         inside = r .inside;
       }
 
-  pub some-of : {c d e : Cursor} {v : A} {vs : List A} → Inside s c → Reads f s c v d → Reads (star f) s d vs e → Reads (some f) s c (v ∷ vs) e
+  some-of : {c d e : Cursor} {v : A} {vs : List A} → Inside s c → Reads f s c v d → Reads (star f) s d vs e → Reads (some f) s c (v ∷ vs) e
   some-of h r q = made-reads (λ (p : A × List A). p .0 ∷ p .1) (pair-reads h r q)
 
   -- one more
-  pub star-on : (c : Cursor) {d e : Cursor} {v : A} {vs : List A} → Inside s c → begins (first f) (drop (placeOf c) s) ≡ true → Reads f s c v d → Reads (star f) s d vs e → Reads (star f) s c (v ∷ vs) e
+  star-on : (c : Cursor) {d e : Cursor} {v : A} {vs : List A} → Inside s c → begins (first f) (drop (placeOf c) s) ≡ true → Reads f s c v d
+      → Reads (star f) s d vs e → Reads (star f) s c (v ∷ vs) e
   star-on c h t r q = star-begun c h t (some-of h r q)
 
   -- no more
@@ -76,7 +73,8 @@ module _ {A : Type 0} (f : Form A) (full : not (empty f) ≡ true) (s : List ℕ
           rest = λ ws d q. rw append-assoc (u .rest (v ∷ ws) d (some-of f full s (u .inside) r (star-begun f full s (Going n) (r .inside) t q)));
         }
 
-    pub some-last : {n : ℕ} → Reads f s (Going here) v (Going n) → begins (first f) (drop n s) ≡ false → Reads (some f) s (Going at) (vs ++ (v ∷ [])) (Going n)
+    pub some-last : {n : ℕ} → Reads f s (Going here) v (Going n) → begins (first f) (drop n s) ≡ false
+        → Reads (some f) s (Going at) (vs ++ (v ∷ [])) (Going n)
     some-last {n} r t = u .rest (v ∷ []) (Going n) (some-of f full s (u .inside) r (star-out f full s (Going n) (r .inside) t))
 
     pub some-stop : {p : ℕ} → Reads f s (Going here) v (Stopped p) → (ws : List A) → Reads (some f) s (Going at) (vs ++ (v ∷ ws)) (Stopped p)

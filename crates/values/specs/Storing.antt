@@ -10,7 +10,7 @@ use Rattle.definitions.specs.Forms.{spaces, hexPair, block, plainBytes, pattern
 use Rattle.entry.specs.Values.{Room, appended}
 use Rattle.scan_cursors.specs.declared.Cursor.{Cursor}
 use Rattle.scan_cursors.specs.declared.Cursor.the-variants.{Going}
-use Rattle.scan_cursors.specs.Reads.{Reads}
+use Rattle.scan_cursors.specs.Reads.{placeOf, Inside, Reads}
 
 -- as within Forms.block, Forms.patternBytes and Forms.patternForm
 abbrev pub spacedPair : Form ℕ
@@ -25,25 +25,26 @@ element = or (made (λ (b : ℕ). b ∷ []) (byte plainBytes)) block
 abbrev pub quotedBytes : Form (List ℕ)
 quotedBytes = skip (sign 34) (before patternBytes (sign 34))
 
--- no more bytes are in use than stand before the place, so that those from there on have room in the buffer
-pub record Ready (s : List ℕ) (at : ℕ) (room : Room) : Type 0 where
-  pub inside : at ≤ length s
+-- no more bytes are in use than stand before the cursor's place, so that those from there on have room in the buffer
+pub record Ready (s : List ℕ) (c : Cursor) (room : Room) : Type 0 where
+  pub inside : Inside s c
   pub short : length s ≤ limits01 .text
-  pub behind : room .used ≤ at
+  pub behind : room .used ≤ placeOf c
   pub full : length (room .bytes) ≡ limits01 .room
 
 -- the bytes b are read, and stand in the room behind those that were in use
-pub record Stored (f : Form (List ℕ)) (s : List ℕ) (at : ℕ) (room : Room) (b : List ℕ) (to : Room) (d : Cursor) : Type 0 where
-  pub read : Reads f s (Going at) b d
+pub record Stored (f : Form (List ℕ)) (s : List ℕ) (c : Cursor) (room : Room) (b : List ℕ) (to : Room) (d : Cursor) : Type 0 where
+  pub read : Reads f s c b d
   pub kept : to ≡ appended room b
-  pub grown : (n : ℕ) → d ≡ Going n → at + length b ≤ n
+  pub grown : (n : ℕ) → d ≡ Going n → placeOf c + length b ≤ n
 
-abbrev pub Stores : Form (List ℕ) → List ℕ → ℕ → Room → Room → Cursor → Type 0
-Stores f s at room to d = (b : List ℕ) × Stored f s at room b to d
+abbrev pub Stores : Form (List ℕ) → List ℕ → Cursor → Room → Room → Cursor → Type 0
+Stores f s c room to d = (b : List ℕ) × Stored f s c room b to d
 
-pub record PatternRead (s : List ℕ) (at : ℕ) (room : Room) (b : List ℕ) (to : Room) (len : ℕ) (d : Cursor) : Type 0 where
-  pub stored : Stored quotedBytes s at room b to d
+-- the pattern in quotes, and how many bytes it has
+pub record PatternRead (s : List ℕ) (c : Cursor) (room : Room) (b : List ℕ) (to : Room) (len : ℕ) (d : Cursor) : Type 0 where
+  pub stored : Stored quotedBytes s c room b to d
   pub counted : len ≡ length b
 
-abbrev pub PatternReads : List ℕ → ℕ → Room → Room → ℕ → Cursor → Type 0
-PatternReads s at room to len d = (b : List ℕ) × PatternRead s at room b to len d
+abbrev pub PatternReads : List ℕ → Cursor → Room → Room → ℕ → Cursor → Type 0
+PatternReads s c room to len d = (b : List ℕ) × PatternRead s c room b to len d

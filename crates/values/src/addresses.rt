@@ -1,23 +1,22 @@
 // Lists of addresses: all are counted, and the first are kept, as many as a test can hold.
 ghost use mathlib.Core.Path.{_≡_};
-ghost use Prim.Native.Nat.{_≤_};
 ghost use mathlib.Core.List.{_∷_, []};
-ghost use lib.ListN.{length, set};
+ghost use lib.ListN.{set};
 ghost use Rattle.definitions.specs.Limits.{addressesMost};
 ghost use Rattle.definitions.specs.Lists.{padded};
 ghost use Rattle.definitions.specs.Tables.{noAddress};
 ghost use Rattle.definitions.specs.Forms.{addresses};
-ghost use Rattle.values.specs.Listing.{listed, goesAt, Lists};
-use crate::dotted::address_at;
+ghost use Rattle.scan_cursors.specs.Reads.{Inside};
+ghost use Rattle.values.specs.Listing.{listed, Lists};
+use crate::dotted::then_address;
 use definitions::limits::ADDRESSES;
 use definitions::table::Address;
 use entry::no_addresses;
 use scan_cursors::Cursor;
-use scan_cursors::join;
-use scan_cursors::place;
-use scan_pieces::signs::sign_at;
-use scan_pieces::signs::stands;
+use scan_steps::signs::next_is;
+use scan_steps::signs::then_literal;
 
+// The addresses that are kept, how many there are, and where scanning stands behind them.
 pub struct AddressesAt {
     pub list: [Address; ADDRESSES],
     pub count: usize,
@@ -40,6 +39,7 @@ fn kept(row: Row, count: usize, a: Address) -> Row
     Row { list: list }
 }
 
+// One address alone.
 fn one_kept(a: Address) -> Row
     ensures { λ r. ⌜ r .list ≡ padded addressesMost noAddress (a ∷ []) ⌝ }
 {
@@ -47,73 +47,59 @@ fn one_kept(a: Address) -> Row
     kept(Row { list: list }, 0, a)
 }
 
-// Whether scanning goes on, with the byte.
-fn goes_with(s: &[u8], c: Cursor, b: u8) -> bool
-    ensures { λ r. ⌜ r ≡ goesAt (now (s .entry)) c b ⌝ }
-{
-    match c {
-        Cursor::Going(at) => stands(s, at, b),
-        Cursor::Over(_, at) => stands(s, at, b),
-        Cursor::Stopped(_) => false,
-    }
-}
-
 // One address or more, parted by commas.
-fn list_at(s: &[u8], at: usize) -> AddressesAt
-    requires { ⌜ at ≤ length (now s) ⌝ }
-    ensures { λ r. ⌜ Lists listed (now (s .entry)) at (r .list) (r .count) (r .cursor) ⌝ }
+fn then_list(s: &[u8], c: Cursor) -> AddressesAt
+    requires { ⌜ Inside (now s) c ⌝ }
+    ensures { λ r. ⌜ Lists listed (now (s .entry)) c (r .list) (r .count) (r .cursor) ⌝ }
 {
-    let first = address_at(s, at);
+    let first = then_address(s, c);
     let a = first.address;
     let mut row = one_kept(a);
     let mut count = 1;
-    let mut c = first.cursor;
+    let mut here = first.cursor;
     loop {
-        if !goes_with(s, c, b',') {
+        if !next_is(s, here, b',') {
             let list = row.list;
             return AddressesAt {
                 list: list,
                 count: count,
-                cursor: c,
+                cursor: here,
             };
         }
-        let from = place(c) + 1;
-        let next = address_at(s, from);
+        let comma = then_literal(s, here, b',');
+        let next = then_address(s, comma);
         let b = next.address;
-        let d = next.cursor;
         row = kept(row, count, b);
         count += 1;
-        c = join(c, d);
+        here = next.cursor;
     }
 }
 
 // One address, or one or more in brackets.
-pub fn addresses_at(s: &[u8], at: usize) -> AddressesAt
-    requires { ⌜ at ≤ length (now s) ⌝ }
-    ensures { λ r. ⌜ Lists addresses (now (s .entry)) at (r .list) (r .count) (r .cursor) ⌝ }
+pub fn then_addresses(s: &[u8], c: Cursor) -> AddressesAt
+    requires { ⌜ Inside (now s) c ⌝ }
+    ensures { λ r. ⌜ Lists addresses (now (s .entry)) c (r .list) (r .count) (r .cursor) ⌝ }
 {
-    if stands(s, at, b'[') {
-        let l = list_at(s, at + 1);
+    if next_is(s, c, b'[') {
+        let open = then_literal(s, c, b'[');
+        let l = then_list(s, open);
         let list = l.list;
-        let c1 = l.cursor;
-        let closing = place(c1);
-        let bracket = sign_at(s, closing, b']');
-        let c2 = join(c1, bracket);
+        let behind = l.cursor;
         AddressesAt {
             list: list,
             count: l.count,
-            cursor: c2,
+            cursor: then_literal(s, behind, b']'),
         }
     } else {
-        let first = address_at(s, at);
+        let first = then_address(s, c);
         let a = first.address;
         let row = one_kept(a);
         let list = row.list;
-        let c = first.cursor;
+        let cursor = first.cursor;
         AddressesAt {
             list: list,
             count: 1,
-            cursor: c,
+            cursor,
         }
     }
 }

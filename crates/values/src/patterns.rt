@@ -4,17 +4,19 @@ ghost use lib.ListN.{drop};
 ghost use Rattle.forms.specs.Scan.{first, begins};
 ghost use Rattle.definitions.specs.Forms.{plainBytes, patternBytes};
 ghost use Rattle.entry.specs.Values.{roomOf};
+ghost use Rattle.scan_cursors.specs.declared.Cursor.the-variants.{Going};
 ghost use Rattle.values.specs.Storing.{element, Ready, Stores, PatternReads};
-use crate::blocks::BytesAt;
-use crate::blocks::block_at;
-use crate::blocks::put;
+use crate::pattern_blocks::BytesAt;
+use crate::pattern_blocks::put;
+use crate::pattern_blocks::then_block;
 use scan::bytes::is_plain;
 use scan_cursors::Cursor;
 use scan_cursors::join;
 use scan_cursors::place;
-use scan_pieces::signs::sign_at;
 use scan_pieces::signs::stands;
+use scan_steps::signs::then_literal;
 
+// Whether a byte that stands for itself stands at the place.
 fn is_plain_at(s: &[u8], at: usize) -> bool
     ensures { λ r. ⌜ r ≡ begins plainBytes (drop at (now (s .entry))) ⌝ }
 {
@@ -38,8 +40,8 @@ fn goes_on(s: &[u8], at: usize) -> bool
 
 // A plain byte or a block.
 fn element_at(s: &[u8], at: usize, bytes: &mut [u8], used: usize) -> BytesAt
-    requires { ⌜ Ready (now s) at (roomOf (now bytes) used) ⌝ }
-    ensures { λ r. ⌜ Stores element (now (s .entry)) at (roomOf (now (bytes .entry)) used) (roomOf (now (bytes .exit)) (r .used)) (r .cursor) ⌝ }
+    requires { ⌜ Ready (now s) (Going at) (roomOf (now bytes) used) ⌝ }
+    ensures { λ r. ⌜ Stores element (now (s .entry)) (Going at) (roomOf (now (bytes .entry)) used) (roomOf (now (bytes .exit)) (r .used)) (r .cursor) ⌝ }
 {
     if is_plain_at(s, at) {
         let b = s[at];
@@ -49,14 +51,14 @@ fn element_at(s: &[u8], at: usize, bytes: &mut [u8], used: usize) -> BytesAt
             cursor: Cursor::Going(at + 1),
         }
     } else {
-        block_at(s, at, bytes, used)
+        then_block(s, Cursor::Going(at), bytes, used)
     }
 }
 
-// One or more elements.
+// One or more elements. The loop goes from place to place: a cursor for each byte would be tested at each.
 fn bytes_at(s: &[u8], at: usize, bytes: &mut [u8], used: usize) -> BytesAt
-    requires { ⌜ Ready (now s) at (roomOf (now bytes) used) ⌝ }
-    ensures { λ r. ⌜ Stores patternBytes (now (s .entry)) at (roomOf (now (bytes .entry)) used) (roomOf (now (bytes .exit)) (r .used)) (r .cursor) ⌝ }
+    requires { ⌜ Ready (now s) (Going at) (roomOf (now bytes) used) ⌝ }
+    ensures { λ r. ⌜ Stores patternBytes (now (s .entry)) (Going at) (roomOf (now (bytes .entry)) used) (roomOf (now (bytes .exit)) (r .used)) (r .cursor) ⌝ }
 {
     let mut here = at;
     let mut to = used;
@@ -80,6 +82,21 @@ fn bytes_at(s: &[u8], at: usize, bytes: &mut [u8], used: usize) -> BytesAt
     }
 }
 
+// The elements from any cursor on.
+fn then_bytes(s: &[u8], c: Cursor, bytes: &mut [u8], used: usize) -> BytesAt
+    requires { ⌜ Ready (now s) c (roomOf (now bytes) used) ⌝ }
+    ensures { λ r. ⌜ Stores patternBytes (now (s .entry)) c (roomOf (now (bytes .entry)) used) (roomOf (now (bytes .exit)) (r .used)) (r .cursor) ⌝ }
+{
+    let at = place(c);
+    let p = bytes_at(s, at, bytes, used);
+    let d = p.cursor;
+    BytesAt {
+        used: p.used,
+        cursor: join(c, d),
+    }
+}
+
+// How many bytes are in use, how many of them are the pattern's, and where scanning stands.
 pub struct PatternAt {
     pub used: usize,
     pub len: usize,
@@ -87,22 +104,18 @@ pub struct PatternAt {
 }
 
 // A pattern in quotes.
-pub fn pattern_at(s: &[u8], at: usize, bytes: &mut [u8], used: usize) -> PatternAt
-    requires { ⌜ Ready (now s) at (roomOf (now bytes) used) ⌝ }
-    ensures { λ r. ⌜ PatternReads (now (s .entry)) at (roomOf (now (bytes .entry)) used) (roomOf (now (bytes .exit)) (r .used)) (r .len) (r .cursor) ⌝ }
+pub fn then_pattern(s: &[u8], c: Cursor, bytes: &mut [u8], used: usize) -> PatternAt
+    requires { ⌜ Ready (now s) c (roomOf (now bytes) used) ⌝ }
+    ensures { λ r. ⌜ PatternReads (now (s .entry)) c (roomOf (now (bytes .entry)) used) (roomOf (now (bytes .exit)) (r .used)) (r .len) (r .cursor) ⌝ }
 {
-    let c1 = sign_at(s, at, b'"');
-    let from = place(c1);
-    let p = bytes_at(s, from, bytes, used);
-    let d = p.cursor;
-    let c2 = join(c1, d);
-    let closing = place(c2);
-    let quote = sign_at(s, closing, b'"');
-    let c3 = join(c2, quote);
+    let open = then_literal(s, c, b'"');
+    let p = then_bytes(s, open, bytes, used);
+    let behind = p.cursor;
+    let cursor = then_literal(s, behind, b'"');
     let to = p.used;
     PatternAt {
         used: to,
         len: to - used,
-        cursor: c3,
+        cursor,
     }
 }

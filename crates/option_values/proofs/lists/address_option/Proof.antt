@@ -2,10 +2,10 @@
 use mathlib.Core.Path.{refl}
 use mathlib.Core.List.{[]}
 use Rattle.entry.specs.Values.{roomOf, entryOf}
-use Rattle.scan_cursors.proofs.Readings.{made-reads, pair-reads, inside-at, joined-reads}
+use Rattle.scan_cursors.proofs.Readings.{made-reads, pair-reads}
 use Rattle.options.proofs.Closing.{valued-reads}
-use Rattle.option_values.proofs.EndPlaces.{grown-none}
 use Rattle.values.proofs.Rooms.{appended-none}
+use Rattle.option_values.proofs.EndPlaces.{grown-none}
 use borrow.Author.Needs.{needs}
 use Rattle.option_values.proofs.lists.address_option.Statement.{statement}
 use Rattle.option_values.proofs.lists.address_option.Tie as tie
@@ -13,53 +13,26 @@ use Rattle.option_values.proofs.lists.address_option.Tie as tie
 gap-at-requires : tie.Need-gap-at-requires
 gap-at-requires c κs = search needs
 
-place-requires : tie.Need-place-requires
-place-requires c κs = tt
+then-optional-literal-requires : tie.Need-then-optional-literal-requires
+then-optional-literal-requires c κs = search needs
 
-mark-at-requires : tie.Need-mark-at-requires
-mark-at-requires c κs = search needs
+then-addresses-requires : tie.Need-then-addresses-requires
+then-addresses-requires c κs = search needs
 
-join-requires : tie.Need-join-requires
-join-requires c κs = tt
-
-place-requires-2 : tie.Need-place-requires-2
-place-requires-2 c κs = tt
-
-addresses-at-requires : tie.Need-addresses-at-requires
-addresses-at-requires c κs =
-    let a = c .before .before .before in
-    let m = joined-reads (a .before .gap-at .ensures .1) (a .place .ensures) (c .before .join .ensures) (c .before .before .mark-at .ensures) in
-    inside-at (c .place2 .ensures) m
-
-join-requires-2 : tie.Need-join-requires-2
-join-requires-2 c κs = tt
-
-place-requires-3 : tie.Need-place-requires-3
-place-requires-3 c κs = tt
-
-closing-at-requires : tie.Need-closing-at-requires
-closing-at-requires c κs =
-    let l = c .before .before in
-    let a = l .before .before .before .before in
-    let m = joined-reads (a .before .gap-at .ensures .1) (a .place .ensures) (l .before .before .join .ensures) (l .before .before .before .mark-at .ensures) in
-    inside-at (c .place3 .ensures) (joined-reads m (l .before .place2 .ensures) (c .before .join2 .ensures) (l .addresses-at .ensures .1 .read))
-
-join-requires-3 : tie.Need-join-requires-3
-join-requires-3 c κs = tt
+then-closing-requires : tie.Need-then-closing-requires
+then-closing-requires c κs = search needs
 
 returns : tie.Need-returns
 unfolding entryOf
 returns c =
-    let l = c .before .before .before .before .before in
-    let a = l .before .before .before .before in
-    let g = a .before in
+    let k = c .before in
+    let l = k .before in
+    let m = l .before in
+    let g = m .before in
     let h = g .before .before .pre in
-    let q = l .addresses-at .ensures in
-    let s = g .gap-at .ensures in
-    let m = joined-reads (s .1) (a .place .ensures) (l .before .before .join .ensures) (l .before .before .before .mark-at .ensures) in
-    let b = joined-reads m (l .before .place2 .ensures) (c .before .before .before .before .join2 .ensures) (q .1 .read) in
-    let v = made-reads _ (pair-reads (s .1 .inside) m b) in
-    let r = valued-reads h s v (c .before .before .before .place3 .ensures) (c .before .before .closing-at .ensures) (c .before .join3 .ensures) in
+    let q = l .then-addresses .ensures in
+    let v = made-reads _ (pair-reads (g .gap-at .ensures .1 .inside) (m .then-optional-literal .ensures) (q .1 .read)) in
+    let r = valued-reads h (g .gap-at .ensures) v (k .then-closing .ensures) in
     λ bytes.
     record {
       al = q .0;
@@ -76,13 +49,7 @@ address-option-spec =
     tie.close
     (tie.spec
     gap-at-requires
-    place-requires
-    mark-at-requires
-    join-requires
-    place-requires-2
-    addresses-at-requires
-    join-requires-2
-    place-requires-3
-    closing-at-requires
-    join-requires-3
+    then-optional-literal-requires
+    then-addresses-requires
+    then-closing-requires
     returns)

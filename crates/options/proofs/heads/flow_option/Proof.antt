@@ -1,5 +1,5 @@
 use Rattle.entry.specs.Values.{entryOf}
-use Rattle.scan_cursors.proofs.Readings.{made-reads, inside-at, joined-reads}
+use Rattle.scan_cursors.proofs.Readings.{made-reads}
 use Rattle.options.proofs.Closing.{valued-reads}
 use borrow.Author.Needs.{needs}
 use Rattle.options.proofs.heads.flow_option.Statement.{statement}
@@ -8,37 +8,19 @@ use Rattle.options.proofs.heads.flow_option.Tie as tie
 gap-at-requires : tie.Need-gap-at-requires
 gap-at-requires c κs = search needs
 
-place-requires : tie.Need-place-requires
-place-requires c κs = tt
+then-flow-requires : tie.Need-then-flow-requires
+then-flow-requires c κs = search needs
 
-flow-at-requires : tie.Need-flow-at-requires
-flow-at-requires c κs = inside-at (c .place .ensures) (c .before .gap-at .ensures .1)
-
-join-requires : tie.Need-join-requires
-join-requires c κs = tt
-
-place-requires-2 : tie.Need-place-requires-2
-place-requires-2 c κs = tt
-
-closing-at-requires : tie.Need-closing-at-requires
-closing-at-requires c κs = inside-at (c .place2 .ensures) (joined-reads (c .before .before .before .before .gap-at .ensures .1) (c .before .before .before .place .ensures) (c .before .join .ensures) (c .before .before .flow-at .ensures))
-
-join-requires-2 : tie.Need-join-requires-2
-join-requires-2 c κs = tt
+then-closing-requires : tie.Need-then-closing-requires
+then-closing-requires c κs = search needs
 
 returns : tie.Need-returns
 unfolding entryOf
-returns c = (valued-reads (c .before .before .before .before .before .before .before .before .pre) (c .before .before .before .before .before .before .gap-at .ensures) (made-reads _ (joined-reads (c .before .before .before .before .before .before .gap-at .ensures .1) (c .before .before .before .before .before .place .ensures) (c .before .before .before .join .ensures) (c .before .before .before .before .flow-at .ensures))) (c .before .before .place2 .ensures) (c .before .closing-at .ensures) (c .join2 .ensures), tt)
+returns c =
+    let f = c .before in
+    let g = f .before in
+    (valued-reads (g .before .before .pre) (g .gap-at .ensures) (made-reads _ (f .then-flow .ensures)) (c .then-closing .ensures), tt)
 
 pub flow-option-spec : {M : Type 1} → statement M
 flow-option-spec =
-    tie.close
-    (tie.spec
-    gap-at-requires
-    place-requires
-    flow-at-requires
-    join-requires
-    place-requires-2
-    closing-at-requires
-    join-requires-2
-    returns)
+    tie.close (tie.spec gap-at-requires then-flow-requires then-closing-requires returns)

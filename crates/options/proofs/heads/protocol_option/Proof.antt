@@ -1,5 +1,5 @@
 use Rattle.entry.specs.Values.{entryOf}
-use Rattle.scan_cursors.proofs.Readings.{made-reads, inside-at, joined-reads}
+use Rattle.scan_cursors.proofs.Readings.{made-reads}
 use Rattle.options.proofs.Closing.{valued-reads}
 use borrow.Author.Needs.{needs}
 use Rattle.options.proofs.heads.protocol_option.Statement.{statement}
@@ -8,41 +8,24 @@ use Rattle.options.proofs.heads.protocol_option.Tie as tie
 gap-at-requires : tie.Need-gap-at-requires
 gap-at-requires c κs = search needs
 
-place-requires : tie.Need-place-requires
-place-requires c κs = tt
+then-protocol-requires : tie.Need-then-protocol-requires
+then-protocol-requires c κs = search needs
 
-protocol-at-requires : tie.Need-protocol-at-requires
-protocol-at-requires c κs = inside-at (c .place .ensures) (c .before .gap-at .ensures .1)
+then-closing-requires : tie.Need-then-closing-requires
+then-closing-requires c κs = search needs
 
-join-requires : tie.Need-join-requires
-join-requires c κs = tt
-
-place-requires-2 : tie.Need-place-requires-2
-place-requires-2 c κs = tt
-
-closing-at-requires : tie.Need-closing-at-requires
-closing-at-requires c κs = inside-at (c .place2 .ensures) (joined-reads (c .before .before .before .before .gap-at .ensures .1) (c .before .before .before .place .ensures) (c .before .join .ensures) (c .before .before .protocol-at .ensures .0))
-
-join-requires-2 : tie.Need-join-requires-2
-join-requires-2 c κs = tt
-
-cast-t11 : tie.Need-cast-t11
-cast-t11 c = search needs
+cast-t7 : tie.Need-cast-t7
+cast-t7 c = search needs
 
 returns : tie.Need-returns
 unfolding entryOf
-returns c = (valued-reads (c .before .before .before .before .before .before .before .before .before .pre) (c .before .before .before .before .before .before .before .gap-at .ensures) (made-reads _ (joined-reads (c .before .before .before .before .before .before .before .gap-at .ensures .1) (c .before .before .before .before .before .before .place .ensures) (c .before .before .before .before .join .ensures) (c .before .before .before .before .before .protocol-at .ensures .0))) (c .before .before .before .place2 .ensures) (c .before .before .closing-at .ensures) (c .before .join2 .ensures), tt)
+returns c =
+    let k = c .before in
+    let n = k .before in
+    let g = n .before in
+    (valued-reads (g .before .before .pre) (g .gap-at .ensures) (made-reads _ (n .then-protocol .ensures .0)) (k .then-closing .ensures), tt)
 
 pub protocol-option-spec : {M : Type 1} → statement M
 protocol-option-spec =
     tie.close
-    (tie.spec
-    gap-at-requires
-    place-requires
-    protocol-at-requires
-    join-requires
-    place-requires-2
-    closing-at-requires
-    join-requires-2
-    cast-t11
-    returns)
+    (tie.spec gap-at-requires then-protocol-requires then-closing-requires cast-t7 returns)

@@ -1,7 +1,6 @@
 use Rattle.options.proofs.Negation.{signed-kept}
-use native.Mathlib.Omega.{arith}
 use Rattle.entry.specs.Values.{entryOf}
-use Rattle.scan_cursors.proofs.Readings.{made-reads, pair-reads, inside-at, joined-reads}
+use Rattle.scan_cursors.proofs.Readings.{made-reads, pair-reads}
 use Rattle.options.proofs.Closing.{valued-reads}
 use borrow.Author.Needs.{needs}
 use Rattle.options.proofs.modifiers.distance_option.Statement.{statement}
@@ -10,65 +9,45 @@ use Rattle.options.proofs.modifiers.distance_option.Tie as tie
 gap-at-requires : tie.Need-gap-at-requires
 gap-at-requires c κs = search needs
 
-place-requires : tie.Need-place-requires
-place-requires c κs = tt
+then-optional-literal-requires : tie.Need-then-optional-literal-requires
+then-optional-literal-requires c κs = search needs
 
-mark-at-requires : tie.Need-mark-at-requires
-mark-at-requires c κs = inside-at (c .place .ensures) (c .before .gap-at .ensures .1)
+then-number-requires : tie.Need-then-number-requires
+then-number-requires c κs = search needs
 
-join-requires : tie.Need-join-requires
-join-requires c κs = tt
+then-directed-requires : tie.Need-then-directed-requires
+then-directed-requires c κs = search needs
 
-place-requires-2 : tie.Need-place-requires-2
-place-requires-2 c κs = tt
-
-number-at-requires : tie.Need-number-at-requires
-number-at-requires c κs = (inside-at (c .place2 .ensures) (joined-reads (c .before .before .before .before .gap-at .ensures .1) (c .before .before .before .place .ensures) (c .before .join .ensures) (c .before .before .mark-at .ensures)), omega arith)
-
-join-requires-2 : tie.Need-join-requires-2
-join-requires-2 c κs = tt
-
-place-requires-3 : tie.Need-place-requires-3
-place-requires-3 c κs = tt
-
-directed-at-requires : tie.Need-directed-at-requires
-directed-at-requires c κs = inside-at (c .place3 .ensures) (joined-reads (joined-reads (c .before .before .before .before .before .before .before .gap-at .ensures .1) (c .before .before .before .before .before .before .place .ensures) (c .before .before .before .before .join .ensures) (c .before .before .before .before .before .mark-at .ensures)) (c .before .before .before .place2 .ensures) (c .before .join2 .ensures) (c .before .before .number-at .ensures .0))
-
-join-requires-3 : tie.Need-join-requires-3
-join-requires-3 c κs = tt
-
-place-requires-4 : tie.Need-place-requires-4
-place-requires-4 c κs = tt
-
-closing-at-requires : tie.Need-closing-at-requires
-closing-at-requires c κs = inside-at (c .place4 .ensures) (joined-reads (joined-reads (joined-reads (c .before .before .before .before .before .before .before .before .before .before .gap-at .ensures .1) (c .before .before .before .before .before .before .before .before .before .place .ensures) (c .before .before .before .before .before .before .before .join .ensures) (c .before .before .before .before .before .before .before .before .mark-at .ensures)) (c .before .before .before .before .before .before .place2 .ensures) (c .before .before .before .before .join2 .ensures) (c .before .before .before .before .before .number-at .ensures .0)) (c .before .before .before .place3 .ensures) (c .before .join3 .ensures) (c .before .before .directed-at .ensures))
-
-join-requires-4 : tie.Need-join-requires-4
-join-requires-4 c κs = tt
+then-closing-requires : tie.Need-then-closing-requires
+then-closing-requires c κs = search needs
 
 signed-of-requires : tie.Need-signed-of-requires
 signed-of-requires c κs = search needs
 
 returns : tie.Need-returns
 unfolding entryOf
-returns c = (rw (c .signed-of .ensures, signed-kept (c .before .before .before .before .before .before .before .before .number-at .result .value) (c .before .before .before .before .before .before .before .before .number-at .ensures .1) (c .before .before .before .before .before .before .before .before .before .before .before .mark-at .result .yes)) (valued-reads (c .before .before .before .before .before .before .before .before .before .before .before .before .before .before .before .pre) (c .before .before .before .before .before .before .before .before .before .before .before .before .before .gap-at .ensures) (made-reads _ (pair-reads ((c .before .before .before .before .before .before .before .before .before .before .before .before .before .gap-at .ensures .1) .inside) (joined-reads (c .before .before .before .before .before .before .before .before .before .before .before .before .before .gap-at .ensures .1) (c .before .before .before .before .before .before .before .before .before .before .before .before .place .ensures) (c .before .before .before .before .before .before .before .before .before .before .join .ensures) (c .before .before .before .before .before .before .before .before .before .before .before .mark-at .ensures)) (pair-reads ((joined-reads (c .before .before .before .before .before .before .before .before .before .before .before .before .before .gap-at .ensures .1) (c .before .before .before .before .before .before .before .before .before .before .before .before .place .ensures) (c .before .before .before .before .before .before .before .before .before .before .join .ensures) (c .before .before .before .before .before .before .before .before .before .before .before .mark-at .ensures)) .inside) (joined-reads (joined-reads (c .before .before .before .before .before .before .before .before .before .before .before .before .before .gap-at .ensures .1) (c .before .before .before .before .before .before .before .before .before .before .before .before .place .ensures) (c .before .before .before .before .before .before .before .before .before .before .join .ensures) (c .before .before .before .before .before .before .before .before .before .before .before .mark-at .ensures)) (c .before .before .before .before .before .before .before .before .before .place2 .ensures) (c .before .before .before .before .before .before .before .join2 .ensures) (c .before .before .before .before .before .before .before .before .number-at .ensures .0)) (joined-reads (joined-reads (joined-reads (c .before .before .before .before .before .before .before .before .before .before .before .before .before .gap-at .ensures .1) (c .before .before .before .before .before .before .before .before .before .before .before .before .place .ensures) (c .before .before .before .before .before .before .before .before .before .before .join .ensures) (c .before .before .before .before .before .before .before .before .before .before .before .mark-at .ensures)) (c .before .before .before .before .before .before .before .before .before .place2 .ensures) (c .before .before .before .before .before .before .before .join2 .ensures) (c .before .before .before .before .before .before .before .before .number-at .ensures .0)) (c .before .before .before .before .before .before .place3 .ensures) (c .before .before .before .before .join3 .ensures) (c .before .before .before .before .before .directed-at .ensures))))) (c .before .before .before .place4 .ensures) (c .before .before .closing-at .ensures) (c .before .join4 .ensures)), tt)
+returns c =
+    let k = c .before in
+    let r = k .before in
+    let n = r .before in
+    let m = n .before in
+    let g = m .before in
+    let minus = m .then-optional-literal .ensures in
+    let number = n .then-number .ensures .0 in
+    let value = made-reads _ (pair-reads (g .gap-at .ensures .1 .inside) minus (pair-reads (minus .inside) number (r .then-directed .ensures))) in (
+      rw (c .signed-of .ensures, signed-kept (n .then-number .result .value) (n .then-number .ensures .1) (m .then-optional-literal .result .yes))
+          (valued-reads (g .before .before .pre) (g .gap-at .ensures) value (k .then-closing .ensures)),
+      tt,
+    )
 
 pub distance-option-spec : {M : Type 1} → statement M
 distance-option-spec =
     tie.close
     (tie.spec
     gap-at-requires
-    place-requires
-    mark-at-requires
-    join-requires
-    place-requires-2
-    number-at-requires
-    join-requires-2
-    place-requires-3
-    directed-at-requires
-    join-requires-3
-    place-requires-4
-    closing-at-requires
-    join-requires-4
+    then-optional-literal-requires
+    then-number-requires
+    then-directed-requires
+    then-closing-requires
     signed-of-requires
     returns)

@@ -1,6 +1,5 @@
-use native.Mathlib.Omega.{arith}
 use Rattle.entry.specs.Values.{entryOf}
-use Rattle.scan_cursors.proofs.Readings.{made-reads, inside-at, joined-reads}
+use Rattle.scan_cursors.proofs.Readings.{made-reads}
 use Rattle.options.proofs.Closing.{valued-reads}
 use borrow.Author.Needs.{needs}
 use Rattle.options.proofs.tests.number_option.Statement.{statement}
@@ -9,41 +8,24 @@ use Rattle.options.proofs.tests.number_option.Tie as tie
 gap-at-requires : tie.Need-gap-at-requires
 gap-at-requires c κs = search needs
 
-place-requires : tie.Need-place-requires
-place-requires c κs = tt
+then-number-requires : tie.Need-then-number-requires
+then-number-requires c κs = search needs
 
-number-at-requires : tie.Need-number-at-requires
-number-at-requires c κs = (inside-at (c .place .ensures) (c .before .gap-at .ensures .1), let l = c .before .before .before .pre .1 in omega arith)
-
-join-requires : tie.Need-join-requires
-join-requires c κs = tt
-
-place-requires-2 : tie.Need-place-requires-2
-place-requires-2 c κs = tt
-
-closing-at-requires : tie.Need-closing-at-requires
-closing-at-requires c κs = inside-at (c .place2 .ensures) (joined-reads (c .before .before .before .before .gap-at .ensures .1) (c .before .before .before .place .ensures) (c .before .join .ensures) (c .before .before .number-at .ensures .0))
-
-join-requires-2 : tie.Need-join-requires-2
-join-requires-2 c κs = tt
+then-closing-requires : tie.Need-then-closing-requires
+then-closing-requires c κs = search needs
 
 cast-number : tie.Need-cast-number
 cast-number c = search needs
 
 returns : tie.Need-returns
 unfolding entryOf
-returns c = (valued-reads (c .before .before .before .before .before .before .before .before .before .pre .0) (c .before .before .before .before .before .before .before .gap-at .ensures) (made-reads _ (joined-reads (c .before .before .before .before .before .before .before .gap-at .ensures .1) (c .before .before .before .before .before .before .place .ensures) (c .before .before .before .before .join .ensures) (c .before .before .before .before .before .number-at .ensures .0))) (c .before .before .before .place2 .ensures) (c .before .before .closing-at .ensures) (c .before .join2 .ensures), tt)
+returns c =
+    let k = c .before in
+    let n = k .before in
+    let g = n .before in
+    (valued-reads (g .before .before .pre .0) (g .gap-at .ensures) (made-reads _ (n .then-number .ensures .0)) (k .then-closing .ensures), tt)
 
 pub number-option-spec : {M : Type 1} → statement M
 number-option-spec =
     tie.close
-    (tie.spec
-    gap-at-requires
-    place-requires
-    number-at-requires
-    join-requires
-    place-requires-2
-    closing-at-requires
-    join-requires-2
-    cast-number
-    returns)
+    (tie.spec gap-at-requires then-number-requires then-closing-requires cast-number returns)

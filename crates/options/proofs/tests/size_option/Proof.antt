@@ -1,6 +1,5 @@
-use native.Mathlib.Omega.{arith}
 use Rattle.entry.specs.Values.{entryOf}
-use Rattle.scan_cursors.proofs.Readings.{made-reads, pair-reads, inside-at, joined-reads}
+use Rattle.scan_cursors.proofs.Readings.{made-reads, pair-reads}
 use Rattle.options.proofs.Closing.{valued-reads}
 use borrow.Author.Needs.{needs}
 use Rattle.options.proofs.tests.size_option.Statement.{statement}
@@ -9,65 +8,42 @@ use Rattle.options.proofs.tests.size_option.Tie as tie
 gap-at-requires : tie.Need-gap-at-requires
 gap-at-requires c κs = search needs
 
-place-requires : tie.Need-place-requires
-place-requires c κs = tt
+then-size-order-requires : tie.Need-then-size-order-requires
+then-size-order-requires c κs = search needs
 
-size-order-at-requires : tie.Need-size-order-at-requires
-size-order-at-requires c κs = inside-at (c .place .ensures) (c .before .gap-at .ensures .1)
+then-number-requires : tie.Need-then-number-requires
+then-number-requires c κs = search needs
 
-join-requires : tie.Need-join-requires
-join-requires c κs = tt
+then-size-field-requires : tie.Need-then-size-field-requires
+then-size-field-requires c κs = search needs
 
-place-requires-2 : tie.Need-place-requires-2
-place-requires-2 c κs = tt
-
-number-at-requires : tie.Need-number-at-requires
-number-at-requires c κs = (inside-at (c .place2 .ensures) (joined-reads (c .before .before .before .before .gap-at .ensures .1) (c .before .before .before .place .ensures) (c .before .join .ensures) (c .before .before .size-order-at .ensures)), omega arith)
-
-join-requires-2 : tie.Need-join-requires-2
-join-requires-2 c κs = tt
-
-place-requires-3 : tie.Need-place-requires-3
-place-requires-3 c κs = tt
-
-size-field-at-requires : tie.Need-size-field-at-requires
-size-field-at-requires c κs = inside-at (c .place3 .ensures) (joined-reads (joined-reads (c .before .before .before .before .before .before .before .gap-at .ensures .1) (c .before .before .before .before .before .before .place .ensures) (c .before .before .before .before .join .ensures) (c .before .before .before .before .before .size-order-at .ensures)) (c .before .before .before .place2 .ensures) (c .before .join2 .ensures) (c .before .before .number-at .ensures .0))
-
-join-requires-3 : tie.Need-join-requires-3
-join-requires-3 c κs = tt
-
-place-requires-4 : tie.Need-place-requires-4
-place-requires-4 c κs = tt
-
-closing-at-requires : tie.Need-closing-at-requires
-closing-at-requires c κs = inside-at (c .place4 .ensures) (joined-reads (joined-reads (joined-reads (c .before .before .before .before .before .before .before .before .before .before .gap-at .ensures .1) (c .before .before .before .before .before .before .before .before .before .place .ensures) (c .before .before .before .before .before .before .before .join .ensures) (c .before .before .before .before .before .before .before .before .size-order-at .ensures)) (c .before .before .before .before .before .before .place2 .ensures) (c .before .before .before .before .join2 .ensures) (c .before .before .before .before .before .number-at .ensures .0)) (c .before .before .before .place3 .ensures) (c .before .join3 .ensures) (c .before .before .size-field-at .ensures))
-
-join-requires-4 : tie.Need-join-requires-4
-join-requires-4 c κs = tt
+then-closing-requires : tie.Need-then-closing-requires
+then-closing-requires c κs = search needs
 
 cast-number : tie.Need-cast-number
 cast-number c = search needs
 
 returns : tie.Need-returns
 unfolding entryOf
-returns c = (valued-reads (c .before .before .before .before .before .before .before .before .before .before .before .before .before .before .before .pre) (c .before .before .before .before .before .before .before .before .before .before .before .before .before .gap-at .ensures) (made-reads _ (pair-reads ((c .before .before .before .before .before .before .before .before .before .before .before .before .before .gap-at .ensures .1) .inside) (joined-reads (c .before .before .before .before .before .before .before .before .before .before .before .before .before .gap-at .ensures .1) (c .before .before .before .before .before .before .before .before .before .before .before .before .place .ensures) (c .before .before .before .before .before .before .before .before .before .before .join .ensures) (c .before .before .before .before .before .before .before .before .before .before .before .size-order-at .ensures)) (pair-reads ((joined-reads (c .before .before .before .before .before .before .before .before .before .before .before .before .before .gap-at .ensures .1) (c .before .before .before .before .before .before .before .before .before .before .before .before .place .ensures) (c .before .before .before .before .before .before .before .before .before .before .join .ensures) (c .before .before .before .before .before .before .before .before .before .before .before .size-order-at .ensures)) .inside) (joined-reads (joined-reads (c .before .before .before .before .before .before .before .before .before .before .before .before .before .gap-at .ensures .1) (c .before .before .before .before .before .before .before .before .before .before .before .before .place .ensures) (c .before .before .before .before .before .before .before .before .before .before .join .ensures) (c .before .before .before .before .before .before .before .before .before .before .before .size-order-at .ensures)) (c .before .before .before .before .before .before .before .before .before .place2 .ensures) (c .before .before .before .before .before .before .before .join2 .ensures) (c .before .before .before .before .before .before .before .before .number-at .ensures .0)) (joined-reads (joined-reads (joined-reads (c .before .before .before .before .before .before .before .before .before .before .before .before .before .gap-at .ensures .1) (c .before .before .before .before .before .before .before .before .before .before .before .before .place .ensures) (c .before .before .before .before .before .before .before .before .before .before .join .ensures) (c .before .before .before .before .before .before .before .before .before .before .before .size-order-at .ensures)) (c .before .before .before .before .before .before .before .before .before .place2 .ensures) (c .before .before .before .before .before .before .before .join2 .ensures) (c .before .before .before .before .before .before .before .before .number-at .ensures .0)) (c .before .before .before .before .before .before .place3 .ensures) (c .before .before .before .before .join3 .ensures) (c .before .before .before .before .before .size-field-at .ensures))))) (c .before .before .before .place4 .ensures) (c .before .before .closing-at .ensures) (c .before .join4 .ensures), tt)
+returns c =
+    let k = c .before in
+    let f = k .before in
+    let n = f .before in
+    let o = n .before in
+    let g = o .before in
+    let order = o .then-size-order .ensures in
+    let number = n .then-number .ensures .0 in
+    let value = made-reads _ (pair-reads (g .gap-at .ensures .1 .inside) order (pair-reads (order .inside) number (f .then-size-field .ensures))) in
+    (valued-reads (g .before .before .pre) (g .gap-at .ensures) value (k .then-closing .ensures), tt)
 
 pub size-option-spec : {M : Type 1} → statement M
 size-option-spec =
     tie.close
     (tie.spec
     gap-at-requires
-    place-requires
-    size-order-at-requires
-    join-requires
-    place-requires-2
-    number-at-requires
-    join-requires-2
-    place-requires-3
-    size-field-at-requires
-    join-requires-3
-    place-requires-4
-    closing-at-requires
-    join-requires-4
+    then-size-order-requires
+    then-number-requires
+    then-size-field-requires
+    then-closing-requires
     cast-number
     returns)

@@ -1,7 +1,7 @@
+use mathlib.Core.List.{[], _∷_}
 use mathlib.Core.Path.{sym, _∙_}
 use native.Mathlib.Omega.{arith}
-use mathlib.Core.List.{[], _∷_}
-use Rattle.scan_pieces.proofs.AtPlace.{begins-in}
+use Rattle.scan_pieces.proofs.AtPlace.{begun-in}
 use Rattle.scan_pieces.proofs.numbers.is_hex_mark.Statement.{statement}
 use Rattle.scan_pieces.proofs.numbers.is_hex_mark.Tie as tie
 
@@ -9,7 +9,9 @@ stands-requires : tie.Need-stands-requires
 stands-requires c κs = tt
 
 add-starts : tie.Need-add-starts
-add-starts c = omega (arith, begins-in ((48, 48) ∷ []) (c .before .before .before .args .s .now) (c .before .before .before .args .at) (sym (c .before .stands .ensures) ∙ c .if1 .taken))
+add-starts c =
+    let f = c .before .before .before in
+    omega (arith, begun-in ((48, 48) ∷ []) (f .args .s .now) (f .args .at) (sym (c .before .stands .ensures) ∙ c .if1 .taken))
 
 starts-requires : tie.Need-starts-requires
 starts-requires c κs = tt

@@ -1,7 +1,7 @@
-use mathlib.Core.Path.{sym, _∙_}
-use Rattle.scan_pieces.proofs.AtPlace.{begins-in, mark-yes, mark-no}
-use native.Mathlib.Omega.{arith}
 use mathlib.Core.List.{[], _∷_}
+use mathlib.Core.Path.{sym, _∙_}
+use Rattle.scan_pieces.proofs.AtPlace.{begun-in, mark-yes, mark-no}
+use native.Mathlib.Omega.{arith}
 use Rattle.scan_pieces.proofs.signs.mark_at.Statement.{statement}
 use Rattle.scan_pieces.proofs.signs.mark_at.Tie as tie
 
@@ -9,13 +9,16 @@ stands-requires : tie.Need-stands-requires
 stands-requires c κs = tt
 
 add-t6 : tie.Need-add-t6
-add-t6 c = omega (arith, begins-in ((c .before .before .before .args .b, c .before .before .before .args .b) ∷ []) (c .before .before .before .args .s .now) (c .before .before .before .args .at) (sym (c .before .stands .ensures) ∙ c .if1 .taken))
+add-t6 c =
+    let f = c .before .before .before in
+    let b = f .args .b in
+    omega (arith, begun-in ((b, b) ∷ []) (f .args .s .now) (f .args .at) (sym (c .before .stands .ensures) ∙ c .if1 .taken))
 
 returns : tie.Need-returns
-returns c = mark-yes _ _ _ _ _ (sym (c .before .stands .ensures) ∙ c .if1 .taken)
+returns c = mark-yes _ _ _ (sym (c .before .stands .ensures) ∙ c .if1 .taken)
 
 returns-2 : tie.Need-returns-2
-returns-2 c = mark-no _ _ _ _ _ (c .before .before .before .pre) (sym (c .before .stands .ensures) ∙ c .if1 .left)
+returns-2 c = mark-no _ _ _ (c .before .before .before .pre) (sym (c .before .stands .ensures) ∙ c .if1 .left)
 
 pub mark-at-spec : {M : Type 1} → statement M
 mark-at-spec = tie.close (tie.spec stands-requires add-t6 returns returns-2)

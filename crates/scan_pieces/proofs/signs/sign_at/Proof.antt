@@ -1,6 +1,6 @@
 use mathlib.Core.List.{[], _∷_}
 use mathlib.Core.Path.{sym, _∙_}
-use Rattle.scan_pieces.proofs.AtPlace.{byte-none, sign-begun, begins-in}
+use Rattle.scan_pieces.proofs.AtPlace.{begun-in, byte-none, sign-begun}
 use native.Mathlib.Omega.{arith}
 use Rattle.scan_pieces.proofs.signs.sign_at.Statement.{statement}
 use Rattle.scan_pieces.proofs.signs.sign_at.Tie as tie
@@ -9,7 +9,10 @@ stands-requires : tie.Need-stands-requires
 stands-requires c κs = tt
 
 add-t6 : tie.Need-add-t6
-add-t6 c = omega (arith, begins-in ((c .before .before .before .args .b, c .before .before .before .args .b) ∷ []) (c .before .before .before .args .s .now) (c .before .before .before .args .at) (sym (c .before .stands .ensures) ∙ c .if1 .taken))
+add-t6 c =
+    let f = c .before .before .before in
+    let b = f .args .b in
+    omega (arith, begun-in ((b, b) ∷ []) (f .args .s .now) (f .args .at) (sym (c .before .stands .ensures) ∙ c .if1 .taken))
 
 returns : tie.Need-returns
 returns c = sign-begun _ _ _ (sym (c .before .stands .ensures) ∙ c .if1 .taken)

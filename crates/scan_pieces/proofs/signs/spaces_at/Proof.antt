@@ -1,4 +1,4 @@
-use Rattle.scan_pieces.proofs.Gaps.{run-spaces}
+use Rattle.scan_pieces.proofs.Gaps.{run-any}
 use borrow.Author.Needs.{needs}
 use Rattle.scan_pieces.proofs.signs.spaces_at.Statement.{statement}
 use Rattle.scan_pieces.proofs.signs.spaces_at.Tie as tie
@@ -7,7 +7,7 @@ run-of-requires : tie.Need-run-of-requires
 run-of-requires c κs = search needs
 
 returns : tie.Need-returns
-returns c = (_, run-spaces _ _ _ _ (c .before .before .pre) (c .run-of .ensures))
+returns c = (_, run-any _ _ _ _ (c .before .before .pre) (c .run-of .ensures))
 
 pub spaces-at-spec : {M : Type 1} → statement M
 spaces-at-spec = tie.close (tie.spec run-of-requires returns)

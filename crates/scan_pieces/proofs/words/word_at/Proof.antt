@@ -26,10 +26,16 @@ starts-requires : tie.Need-starts-requires Inv-loop μ-loop
 starts-requires c κs = tt
 
 returns : tie.Need-returns Inv-loop μ-loop
-returns c = word-halt _ _ _ _ _ (c .before .before .before .before .loop .inv) (c .before .before .before .loop-test .taken) (sym (c .before .starts .ensures) ∙ not-true _ (c .if1 .taken))
+returns c =
+    let l = c .before .before .before in
+    word-halt _ _ _ _ _ (l .before .loop .inv) (l .loop-test .taken) (sym (c .before .starts .ensures) ∙ not-true _ (c .if1 .taken))
 
 add-from : tie.Need-add-from Inv-loop μ-loop
-add-from c = omega (arith, begins-in (caseClass (getD (c .before .before .before .before .before .before .before .args .w .now) (c .before .before .before .before .loop .i) 0)) (c .before .before .before .before .before .before .before .args .s .now) (c .before .before .before .before .loop .from) (sym (c .before .starts .ensures) ∙ not-false _ (c .if1 .left)))
+add-from c =
+    let l = c .before .before .before .before in
+    let f = l .before .before .before in
+    let stood = sym (c .before .starts .ensures) ∙ not-false _ (c .if1 .left) in
+    omega (arith, begins-in (caseClass (getD (f .args .w .now) (l .loop .i) 0)) (f .args .s .now) (l .loop .from) stood)
 
 add-i : tie.Need-add-i Inv-loop μ-loop
 add-i c = omega arith
@@ -38,7 +44,9 @@ loop-less : tie.Need-loop-less Inv-loop μ-loop
 loop-less c = omega arith
 
 loop-again : tie.Need-loop-again Inv-loop μ-loop
-loop-again c = word-on _ _ _ _ _ (c .before .before .before .before .loop .inv) (c .before .before .before .loop-test .taken) (sym (c .before .starts .ensures) ∙ not-false _ (c .if1 .left))
+loop-again c =
+    let l = c .before .before .before in
+    word-on _ _ _ _ _ (l .before .loop .inv) (l .loop-test .taken) (sym (c .before .starts .ensures) ∙ not-false _ (c .if1 .left))
 
 returns-2 : tie.Need-returns-2 Inv-loop μ-loop
 returns-2 c = word-out _ _ _ _ _ (c .before .loop .inv) (c .loop-test .left)

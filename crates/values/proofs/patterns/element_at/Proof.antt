@@ -21,8 +21,8 @@ put-requires c κs =
 add-t13 : tie.Need-add-t13
 add-t13 c = search needs
 
-block-at-requires : tie.Need-block-at-requires
-block-at-requires c κs = search needs
+then-block-requires : tie.Need-then-block-requires
+then-block-requires c κs = search needs
 
 same-length : tie.Need-same-length
 same-length c = search needs
@@ -38,7 +38,7 @@ same-length-2 c = search needs
 returns-2 : tie.Need-returns-2
 returns-2 c =
     let p = c .before .before .before .before in
-    block-stored _ _ _ (sym (p .before .is-plain-at .ensures) ∙ p .if1 .left) (c .before .before .block-at .ensures)
+    block-stored _ _ _ (sym (p .before .is-plain-at .ensures) ∙ p .if1 .left) (c .before .before .then-block .ensures)
 
 pub element-at-spec : {M : Type 1} → statement M
 element-at-spec =
@@ -48,7 +48,7 @@ element-at-spec =
     shared-slice-read-b
     put-requires
     add-t13
-    block-at-requires
+    then-block-requires
     same-length
     returns
     same-length-2

@@ -1,3 +1,0 @@
--- How choices among single bytes are read, and the operators by them.
-pub mod Choices
-pub mod Ordering

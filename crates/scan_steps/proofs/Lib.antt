@@ -1,0 +1,2 @@
+-- How two words are told apart.
+pub mod EitherWord

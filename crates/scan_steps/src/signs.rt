@@ -1,0 +1,84 @@
+// Single bytes and spaces from a cursor on.
+ghost use mathlib.Core.Path.{_≡_};
+ghost use mathlib.Core.List.{_∷_, []};
+ghost use mathlib.Core.Bool.{true, false};
+ghost use Rattle.forms.specs.Pieces.{skip, opt, sign, mark};
+ghost use Rattle.definitions.specs.Forms.{spaces};
+ghost use Rattle.scan.specs.Classes.{caseClass};
+ghost use Rattle.scan_cursors.specs.Reads.{Inside, nextIn, Reads, Skips};
+use scan_cursors::Cursor;
+use scan_cursors::join;
+use scan_cursors::place;
+use scan_pieces::signs::Mark;
+use scan_pieces::signs::closing_at;
+use scan_pieces::signs::mark_at;
+use scan_pieces::signs::sign_at;
+use scan_pieces::signs::spaces_at;
+use scan_pieces::signs::stands;
+use scan_pieces::signs::starts;
+
+// Whether scanning goes on, with the byte.
+pub fn next_is(s: &[u8], c: Cursor, b: u8) -> bool
+    ensures { λ r. ⌜ r ≡ nextIn ((b, b) ∷ []) (now (s .entry)) c ⌝ }
+{
+    match c {
+        Cursor::Going(at) => stands(s, at, b),
+        Cursor::Over(_, at) => stands(s, at, b),
+        Cursor::Stopped(_) => false,
+    }
+}
+
+// Whether scanning goes on, with the byte of a word in either letter case.
+pub fn next_is_letter(s: &[u8], c: Cursor, y: u8) -> bool
+    ensures { λ r. ⌜ r ≡ nextIn (caseClass y) (now (s .entry)) c ⌝ }
+{
+    match c {
+        Cursor::Going(at) => starts(s, at, y),
+        Cursor::Over(_, at) => starts(s, at, y),
+        Cursor::Stopped(_) => false,
+    }
+}
+
+// The byte, which must stand there.
+pub fn then_literal(s: &[u8], c: Cursor, b: u8) -> Cursor
+    requires { ⌜ Inside (now s) c ⌝ }
+    ensures { λ r. ⌜ Reads (sign b) (now (s .entry)) c b r ⌝ }
+{
+    let at = place(c);
+    let d = sign_at(s, at, b);
+    join(c, d)
+}
+
+// Whether the byte stands there, and the cursor behind it.
+pub fn then_optional_literal(s: &[u8], c: Cursor, b: u8) -> Mark
+    requires { ⌜ Inside (now s) c ⌝ }
+    ensures { λ r. ⌜ Reads (opt false (mark b true)) (now (s .entry)) c (r .yes) (r .cursor) ⌝ }
+{
+    let at = place(c);
+    let m = mark_at(s, at, b);
+    let d = m.cursor;
+    Mark {
+        yes: m.yes,
+        cursor: join(c, d),
+    }
+}
+
+// Any spaces.
+pub fn then_spaces(s: &[u8], c: Cursor) -> Cursor
+    requires { ⌜ Inside (now s) c ⌝ }
+    ensures { λ r. ⌜ Skips spaces (now (s .entry)) c r ⌝ }
+{
+    let at = place(c);
+    let end = spaces_at(s, at);
+    join(c, Cursor::Going(end))
+}
+
+// Any spaces and `;`: the end of an option.
+pub fn then_closing(s: &[u8], c: Cursor) -> Cursor
+    requires { ⌜ Inside (now s) c ⌝ }
+    ensures { λ r. ⌜ Skips (skip spaces (sign 59)) (now (s .entry)) c r ⌝ }
+{
+    let at = place(c);
+    let d = closing_at(s, at);
+    join(c, d)
+}
