@@ -23,8 +23,8 @@ use Rattle.references.proofs.Firsts.{first-here, first-out}
 use Rattle.output.specs.Puts.{puts, Puts}
 use Rattle.output.proofs.Putting.{then, onward}
 use Rattle.match_starts.specs.StartTexts.{startText}
-use Rattle.search_outcomes.specs.declared.Outcome.{Outcome}
-use Rattle.search_outcomes.specs.Outcomes.{outcomeOf}
+use Rattle.search_state.specs.declared.outcomes.Outcome.{Outcome}
+use Rattle.search_state.specs.Outcomes.{outcomeOf}
 use Rattle.case_lists.specs.AnswerTexts.{startsAfter, startsText, placementText, placementsAfter, afterMost, listText, dueText, answerText}
 use Rattle.case_lists.proofs.Rest.{starts-back, Ordered, first-rest, list-rest}
 

@@ -1,6 +1,5 @@
 -- From the refusal that is due, or the answer by facts and payload, to the answer of an entry.
-use mathlib.Core.Path.{_≡_, refl, sym, _∙_}
-use mathlib.Core.Bool.{false}
+use mathlib.Core.Path.{_≡_, refl}
 use mathlib.Core.List.{List, [], _∷_}
 use Prim.Native.Nat.{ℕ}
 use Rattle.definitions.specs.declared.table.Table.{Table}
@@ -14,33 +13,14 @@ use Rattle.definitions.specs.declared.answers.Due.{Due}
 use Rattle.definitions.specs.declared.answers.Due.the-variants.{Fine, No}
 use Rattle.definitions.specs.declared.answers.PacketAnswer.{PacketAnswer}
 use Rattle.definitions.specs.declared.answers.PacketAnswer.the-variants as packet
-use Rattle.definitions.specs.declared.answers.Verdict.{Verdict}
 use Rattle.definitions.specs.declared.answers.Verdict.the-variants as verdict
 use Rattle.definitions.specs.declared.answers.Answer.{Answer}
-use Rattle.definitions.specs.Lists.{keep}
 use Rattle.definitions.specs.Fields.{fieldsDue}
-use Rattle.definitions.specs.Answers.{refusedAnswer, verdictBy, verdictAnswer, firstAnswer, nextAnswer}
-use Rattle.search_outcomes.specs.declared.Outcome.{Outcome}
-use Rattle.search_outcomes.specs.Outcomes.{outcomeOf, metBy}
-use Rattle.search_chosen.specs.Choosing.{afterIf}
+use Rattle.definitions.specs.Answers.{refusedAnswer, headOf, unless, verdictBy, verdictAnswer, firstAnswer, nextAnswer}
 use Rattle.verdict_due.specs.Clearing.{clearance}
 use Rattle.placement_list.specs.Listing.{listIn, firstIn, nextIn}
 use Rattle.placement_list.proofs.Cleared.{Cleared, refused-due, due-here, list-here}
-use Rattle.placement_list.proofs.Answering.{keep-every}
-
--- ---- the verdict by facts and payload; w is what the test of the fields says
-
-met-head : (l : List (List Start)) → metBy (outcomeOf l .found) ≡ verdictBy Fine l
-met-head [] = refl
-met-head (q ∷ l) = refl
-
-module _ (t : Table) (f : Facts) (s d : List ℕ) (dir : Direction) (m : FieldMap) {w : Due} (ew : w ≡ fieldsDue s d m) where
-  pub fields-refused : {r : Refusal} → w ≡ No r → verdict.Refused r ≡ verdictBy (fieldsDue s d m) (listIn t f s d dir m)
-  fields-refused k = rw (sym ew ∙ k)
-
-  pub verdict-found : w ≡ Fine → (b : List Start) {x : Outcome} → x ≡ outcomeOf (keep (afterIf false b) (listIn t f s d dir m))
-      → {v : Verdict} → v ≡ metBy (x .found) → v ≡ verdictBy (fieldsDue s d m) (listIn t f s d dir m)
-  verdict-found k b e g = g ∙ rw (sym ew ∙ k, e, keep-every b (listIn t f s d dir m)) (met-head (listIn t f s d dir m))
+use Rattle.matcher.specs.Verdicts.{verdictOf}
 
 -- ---- a refusal is due: a is what was cleared, x the answer given
 
@@ -59,10 +39,15 @@ module _ (t : Table) (p d : List ℕ) (dir : Direction) (m : FieldMap) {a : Pack
 
 -- ---- the packet is cleared: f and s are its facts and payload
 
+verdict-head : (w : Due) (l : List (List Start)) → verdictOf (unless w (headOf l) .found) ≡ verdictBy w l
+verdict-head Fine [] = refl
+verdict-head Fine (q ∷ l) = refl
+verdict-head (No r) l = refl
+
 module _ {t : Table} {p d : List ℕ} {f : Facts} {s : List ℕ} (c : Cleared t p d f s) (dir : Direction) (m : FieldMap) where
-  pub verdict-here : verdictBy (fieldsDue s d m) (listIn t f s d dir m) ≡ verdictAnswer t p d dir m
-  unfolding verdictAnswer
-  verdict-here = rw (due-here c dir m, list-here c dir m)
+  pub verdict-here : verdictOf (firstIn t f s d dir m .found) ≡ verdictAnswer t p d dir m
+  unfolding firstIn verdictAnswer
+  verdict-here = rw (due-here c dir m, list-here c dir m) (verdict-head (fieldsDue s d m) (listIn t f s d dir m))
 
   pub first-here : firstIn t f s d dir m ≡ firstAnswer t p d dir m
   unfolding firstIn firstAnswer

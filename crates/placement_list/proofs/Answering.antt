@@ -25,16 +25,16 @@ use Rattle.definitions.specs.Answers.{refusedAnswer, headOf}
 use Rattle.laws.proofs.Rising.{keep-take}
 use Rattle.laws.proofs.Listing.{listed-length}
 use Rattle.fields.specs.Seen.{seen}
-use Rattle.search_outcomes.specs.declared.Outcome.{Outcome}
-use Rattle.search_outcomes.specs.Outcomes.{outcomeOf, answerOf}
-use Rattle.search_chosen.specs.Choosing.{afterIf}
-use Rattle.placement_list.specs.Listing.{listIn, firstIn, nextIn}
+use Rattle.search_state.specs.declared.outcomes.Outcome.{Outcome}
+use Rattle.search_state.specs.Outcomes.{outcomeOf}
+use Rattle.search_state.specs.Choosing.{afterIf}
+use Rattle.placement_list.specs.Listing.{answerOf, listIn, firstIn, nextIn}
 
 answer-head : (l : List (List Start)) → answerOf (outcomeOf l) ≡ headOf l
 answer-head [] = refl
 answer-head (q ∷ l) = refl
 
-pub keep-every : (b : List Start) (l : List (List Start)) → keep (afterIf false b) l ≡ l
+keep-every : (b : List Start) (l : List (List Start)) → keep (afterIf false b) l ≡ l
 unfolding keep
 keep-every b [] = refl
 keep-every b (q ∷ l) = ap (λ (k : List (List Start)). q ∷ k) (keep-every b l)

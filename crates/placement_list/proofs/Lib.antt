@@ -1,3 +1,4 @@
--- What a cleared packet hands on, and the answers of "first" and "next".
+-- What a cleared packet hands on, the answers of "first" and "next", and the number of positive patterns.
 pub mod Cleared
 pub mod Answering
+pub mod PositiveCounts

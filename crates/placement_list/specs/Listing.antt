@@ -1,6 +1,7 @@
 -- The list of placements, its first and its next, by what is left of a packet once 20 and 30 to 34 are tested: its facts f, its payload s and the decoded
 -- buffer d. Document 01, section "Meaning".
 use mathlib.Core.List.{List}
+use Rattle.forms.specs.Bytes.{if_then_else_}
 use Prim.Native.Nat.{ℕ}
 use Rattle.definitions.specs.declared.table.Table.{Table}
 use Rattle.definitions.specs.declared.packet.Direction.{Direction}
@@ -8,6 +9,7 @@ use Rattle.definitions.specs.declared.packet.Facts.{Facts}
 use Rattle.definitions.specs.declared.packet.FieldMap.{FieldMap}
 use Rattle.definitions.specs.declared.packet.Start.{Start}
 use Rattle.definitions.specs.declared.packet.Placement.{Placement}
+use Rattle.definitions.specs.declared.answers.Found.the-variants.{Placed, Nothing}
 use Rattle.definitions.specs.declared.answers.Answer.{Answer}
 use Rattle.definitions.specs.Lists.{keep}
 use Rattle.definitions.specs.Refusals.{orElse}
@@ -15,6 +17,11 @@ use Rattle.definitions.specs.Fields.{fieldsDue}
 use Rattle.definitions.specs.Placements.{lexLess, listed}
 use Rattle.definitions.specs.Answers.{startsOf, headOf, unless, earlierDue}
 use Rattle.fields.specs.Seen.{seen}
+use Rattle.search_state.specs.declared.outcomes.Outcome.{Outcome}
+
+-- what a search has found, as an answer
+abbrev pub answerOf : Outcome → Answer
+answerOf x = record { found = if x .found then Placed else Nothing; placement = x .placement }
 
 module _ (t : Table) (f : Facts) (s d : List ℕ) (dir : Direction) (m : FieldMap) where
   abbrev pub listIn : List (List Start)

@@ -1,8 +1,14 @@
 // The list of placements by a datagram's facts and payload: its first, and the least after a placement held. Refusals 35 and 36 come first, in this
 // order; those before them the caller has tested.
+pub mod answers;
+mod positives;
+
 ghost use mathlib.Core.Path.{_≡_};
 ghost use Rattle.search.specs.Searching.{Searchable};
 ghost use Rattle.placement_list.specs.Listing.{firstIn, nextIn};
+use crate::answers::answered;
+use crate::answers::refused;
+use crate::positives::positive_count;
 use definitions::answers::Answer;
 use definitions::answers::Due;
 use definitions::answers::Refusal;
@@ -14,10 +20,7 @@ use definitions::packet::Placement;
 use definitions::packet::Start;
 use definitions::table::Table;
 use fields::fields_due;
-use positive_counts::positive_count;
 use search::find;
-use search_outcomes::answered;
-use search_outcomes::refused;
 
 // Refusal 35, or the first of the list, or none.
 pub fn first_in<'a>(

@@ -28,15 +28,16 @@ use Rattle.laws.proofs.Keep.{keep-in}
 use Rattle.laws.proofs.Listing.{placements-meet, meets-length}
 use Rattle.formed.proofs.Forming as forming
 use Rattle.window_spans.specs.Spans.{sizeBound}
-use Rattle.search_outcomes.specs.declared.Outcome.{Outcome}
-use Rattle.search_outcomes.specs.Outcomes.{nothing, outcomeOf}
-use Rattle.search_chosen.specs.Choosing.{answer, afterIf}
-use Rattle.search_chosen.proofs.Extending.{first-outcome}
+use Rattle.search_state.specs.declared.outcomes.Outcome.{Outcome}
+use Rattle.search_state.specs.Outcomes.{nothing, outcomeOf}
+use Rattle.search_state.specs.Choosing.{answer, afterIf}
+use Rattle.search_state.proofs.Extending.{first-outcome}
 use Rattle.search_items.specs.Items.{Ready}
 
 -- ---- no more positive patterns than patterns
 
-positives-by : (k : Kind) (it : Item) (al : List Address) (b : List ℕ) (n : ℕ) (ps : List Pattern) → n ≤ length ps → positiveIn (wantedBy k it al b) + n ≤ length (patternFirst k ps)
+positives-by : (k : Kind) (it : Item) (al : List Address) (b : List ℕ) (n : ℕ) (ps : List Pattern) → n ≤ length ps
+    → positiveIn (wantedBy k it al b) + n ≤ length (patternFirst k ps)
 positives-by unused it al b n ps h = omega arith
 positives-by (addressed a) it al b n ps h = omega arith
 positives-by (patterned p) it al b n ps h = by-cases (p .negated) (λ t. rw t (omega arith)) (λ f. rw f (omega arith))
@@ -75,14 +76,16 @@ module _ (t : Table) (formed : wellFormed t ≡ true) where
   unfolding bytesFit
   stored =
       let used = eqb-true (t .used) (bytesOf (patternsOf (slotsOf t))) (both-left (eqb (t .used) (bytesOf (patternsOf (slotsOf t)))) _ bytes-fit) in
-      let room = leb-true (t .used) (length (t .bytes)) (both-left (leb (t .used) (length (t .bytes))) _ (both-right (eqb (t .used) (bytesOf (patternsOf (slotsOf t)))) _ bytes-fit)) in
+      let more = both-right (eqb (t .used) (bytesOf (patternsOf (slotsOf t)))) _ bytes-fit in
+      let room = leb-true (t .used) (length (t .bytes)) (both-left (leb (t .used) (length (t .bytes))) _ more) in
       omega arith
 
   few-positives : positives (itemsOf t) ≤ patternsMost
   unfolding itemsOf
   few-positives = omega (arith, positives-few (slotsOf t) (t .bytes), few-patterns)
 
-  pub ready-first : (s d : List ℕ) → length (t .bytes) < sizeBound → length s < sizeBound → length d < sizeBound → Ready (slotsOf t) (t .bytes) s d Nothing (placementOf [])
+  pub ready-first : (s d : List ℕ) → length (t .bytes) < sizeBound → length s < sizeBound → length d < sizeBound
+      → Ready (slotsOf t) (t .bytes) s d Nothing (placementOf [])
   unfolding itemsOf
   ready-first s d b h k =
       record {
@@ -97,15 +100,18 @@ module _ (t : Table) (formed : wellFormed t ≡ true) where
     short : (q : List Start) → Mem q (placements v (itemsOf t) Nothing) → length q ≤ patternsMost
     short q m = let e = meets-length v (itemsOf t) Nothing q (placements-meet v (itemsOf t) Nothing q m) in omega (arith, few-positives)
 
-    module _ (dir : Direction) (tight : Bool) (p : List Start) where
-      pub found-first : (h : Bool) → h ≡ headHolds t v dir → not h ≡ false → (x : Outcome) → x ≡ answer (placementOf []) tight p (placements v (wanted (slotsOf t) (t .bytes)) Nothing)
-          → x ≡ outcomeOf (keep (afterIf tight p) (listed t v dir))
+    module _ (dir : Direction) (on-bound : Bool) (p : List Start) where
+      pub found-first : (h : Bool) → h ≡ headHolds t v dir → not h ≡ false → (x : Outcome)
+          → x ≡ answer (placementOf []) on-bound p (placements v (wanted (slotsOf t) (t .bytes)) Nothing)
+          → x ≡ outcomeOf (keep (afterIf on-bound p) (listed t v dir))
       unfolding answer listed itemsOf
       found-first b e n x h =
-          h ∙ first-outcome (keep (afterIf tight p) (placements v (itemsOf t) Nothing)) (λ q m. short q (keep-in (afterIf tight p) q (placements v (itemsOf t) Nothing) m .0))
+          h ∙ first-outcome (keep (afterIf on-bound p) (placements v (itemsOf t) Nothing))
+          (λ q m. short q (keep-in (afterIf on-bound p) q (placements v (itemsOf t) Nothing) m .0))
           ∙ rw (sym e ∙ not-false b n)
 
-pub found-none : (t : Table) (v : View) (dir : Direction) (tight : Bool) (p : List Start) (h : Bool) → h ≡ headHolds t v dir → not h ≡ true → (x : Outcome) → x ≡ nothing
-    → x ≡ outcomeOf (keep (afterIf tight p) (listed t v dir))
+pub found-none : (t : Table) (v : View) (dir : Direction) (on-bound : Bool) (p : List Start) (h : Bool) → h ≡ headHolds t v dir → not h ≡ true
+    → (x : Outcome) → x ≡ nothing
+    → x ≡ outcomeOf (keep (afterIf on-bound p) (listed t v dir))
 unfolding listed keep
-found-none t v dir tight p h e n x i = rw (sym e ∙ not-true h n) i
+found-none t v dir on-bound p h e n x i = rw (sym e ∙ not-true h n) i

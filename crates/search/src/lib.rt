@@ -3,8 +3,8 @@ ghost use mathlib.Core.Path.{_≡_};
 ghost use Rattle.definitions.specs.Lists.{keep};
 ghost use Rattle.definitions.specs.Placements.{listed};
 ghost use Rattle.fields.specs.Seen.{seen};
-ghost use Rattle.search_outcomes.specs.Outcomes.{outcomeOf};
-ghost use Rattle.search_chosen.specs.Choosing.{afterIf};
+ghost use Rattle.search_state.specs.Outcomes.{outcomeOf};
+ghost use Rattle.search_state.specs.Choosing.{afterIf};
 ghost use Rattle.search.specs.Searching.{Searchable};
 use definitions::limits::PATTERNS;
 use definitions::packet::Direction;
@@ -15,12 +15,12 @@ use definitions::packet::Start;
 use definitions::table::Table;
 use meaning::heads::head_holds;
 use search_items::from_item;
-use search_outcomes::Outcome;
-use search_outcomes::empty;
-use search_outcomes::no_match;
-use search_question::Question;
+use search_state::input::SearchInput;
+use search_state::outcomes::Outcome;
+use search_state::outcomes::empty;
+use search_state::outcomes::no_match;
 
-// THE SEARCH: the first of the list of placements; where `tight`, the first after the one with the starts in `bound`.
+// THE SEARCH: the first of the list of placements; where `on_bound`, the first after the one with the starts in `bound`.
 pub fn find<'a>(
     t: Table,
     facts: Facts,
@@ -29,10 +29,10 @@ pub fn find<'a>(
     dir: Direction,
     m: FieldMap,
     bound: [Start; PATTERNS],
-    tight: bool,
+    on_bound: bool,
 ) -> Outcome
     requires { ⌜ Searchable t (now payload) (now decoded) ⌝ }
-    ensures { λ r. ⌜ r ≡ outcomeOf (keep (afterIf tight bound) (listed t (seen facts (now (payload .entry)) (now (decoded .entry)) m) dir)) ⌝ }
+    ensures { λ r. ⌜ r ≡ outcomeOf (keep (afterIf «on_bound» bound) (listed t (seen facts (now (payload .entry)) (now (decoded .entry)) m) dir)) ⌝ }
 {
     let flow = t.flow;
     if !head_holds(t.protocol, flow, facts, dir) {
@@ -41,12 +41,21 @@ pub fn find<'a>(
     let items = t.items;
     let bytes = t.bytes;
     let all = &bytes[..];
-    let q = Question {
+    let input = SearchInput {
         items,
         count: t.count,
         facts,
         map: m,
         bound,
     };
-    from_item(q, 0, all, payload, decoded, Last::Nothing, empty(), tight)
+    from_item(
+        input,
+        0,
+        all,
+        payload,
+        decoded,
+        Last::Nothing,
+        empty(),
+        on_bound,
+    )
 }

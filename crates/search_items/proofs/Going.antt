@@ -13,16 +13,17 @@ use Rattle.definitions.specs.declared.table.Slot.{Slot}
 use Rattle.definitions.specs.declared.packet.Last.{Last}
 use Rattle.definitions.specs.declared.packet.Start.{Start}
 use Rattle.definitions.specs.declared.packet.Placement.{Placement}
+use Rattle.definitions.specs.Limits.{itemsMost}
 use Rattle.definitions.specs.Fields.{View}
 use Rattle.definitions.specs.Tests.{testHolds}
 use Rattle.definitions.specs.Placements.{Wanted, placed, nowhere, tested, wanted, nowhereHolds, placements}
 use Rattle.fields.specs.Seen.{seen}
 use Rattle.meaning.specs.Bounds.{Bounded}
-use Rattle.search_outcomes.specs.declared.Outcome.{Outcome}
-use Rattle.search_outcomes.specs.Outcomes.{nothing}
-use Rattle.search_chosen.specs.Choosing.{answer}
-use Rattle.search_question.specs.declared.Question.{Question}
-use Rattle.search_question.specs.Questions.{itemsLeft, slot0}
+use Rattle.search_state.specs.declared.outcomes.Outcome.{Outcome}
+use Rattle.search_state.specs.Outcomes.{nothing}
+use Rattle.search_state.specs.Choosing.{answer}
+use Rattle.search_state.specs.declared.input.SearchInput.{SearchInput}
+use Rattle.search_state.specs.Inputs.{itemsLeft, slot0}
 use Rattle.search_items.specs.Items.{Ready, Trying}
 use Rattle.search_items.proofs.Stepping as stepping
 use Rattle.search_items.proofs.Stepping.{NoPattern}
@@ -42,27 +43,30 @@ module _ (b : List ℕ) (from n : ℕ) where
   rest-is = take-all (length b - (from + n)) (drop (from + n) b) (omega (arith, length-drop (from + n) b)) ∙ sym (drop-drop n from b)
 
 -- what the search answers for some items wanted
-abbrev pub found : Question → List ℕ → List ℕ → Last → Placement → Bool → List Wanted → Outcome
-found q s d l acc tight ws = answer acc tight (drop (acc .count) (q .bound)) (placements (seen (q .facts) s d (q .map)) ws l)
+abbrev pub found : SearchInput → List ℕ → List ℕ → Last → Placement → Bool → List Wanted → Outcome
+found q s d l chosen on-bound ws = answer chosen on-bound (drop (chosen .count) (q .bound)) (placements (seen (q .facts) s d (q .map)) ws l)
 
--- the items from the k-th up to the i-th are gone over, and of the pattern bytes b those up to `from`: the items from the i-th on decide
-pub record Gone (q : Question) (k : ℕ) (b s d : List ℕ) (l : Last) (acc : Placement) (tight : Bool) (i from : ℕ) : Type 0 where
+-- what is known at each turn: the items from the k-th up to the i-th are gone over, and of the pattern bytes b those up to `from`; the items from the i-th on
+-- decide
+pub record Gone (q : SearchInput) (k : ℕ) (b s d : List ℕ) (l : Last) (chosen : Placement) (on-bound : Bool) (i from : ℕ) : Type 0 where
+  pub few : q .count ≤ itemsMost
   pub held : q .count ≤ length (q .items)
   pub on : k ≤ i
   pub inside : from ≤ length b
-  pub ready : Ready (itemsLeft q i) (drop from b) s d l acc
-  pub same : found q s d l acc tight (wanted (itemsLeft q k) b) ≡ found q s d l acc tight (wanted (itemsLeft q i) (drop from b))
+  pub ready : Ready (itemsLeft q i) (drop from b) s d l chosen
+  pub same : found q s d l chosen on-bound (wanted (itemsLeft q k) b) ≡ found q s d l chosen on-bound (wanted (itemsLeft q i) (drop from b))
 
-pub gone-none : {q : Question} {k : ℕ} {b s d : List ℕ} {l : Last} {acc : Placement} {tight : Bool} → q .count ≤ length (q .items)
-    → Ready (itemsLeft q k) b s d l acc → Gone q k b s d l acc tight k 0
-gone-none h rd = record { held = h; on = omega arith; inside = omega arith; ready = rd; same = refl }
+pub gone-none : {q : SearchInput} {k : ℕ} {b s d : List ℕ} {l : Last} {chosen : Placement} {on-bound : Bool} → q .count ≤ itemsMost
+    → q .count ≤ length (q .items) → Ready (itemsLeft q k) b s d l chosen → Gone q k b s d l chosen on-bound k 0
+gone-none few h rd = record { few = few; held = h; on = omega arith; inside = omega arith; ready = rd; same = refl }
 
-module _ {q : Question} {k : ℕ} {b s d : List ℕ} {l : Last} {acc : Placement} {tight : Bool} {i from : ℕ} (g : Gone q k b s d l acc tight i from) where
+module _ {q : SearchInput} {k : ℕ} {b s d : List ℕ} {l : Last} {chosen : Placement} {on-bound : Bool} {i from : ℕ}
+    (g : Gone q k b s d l chosen on-bound i from) where
   abbrev view : View
   view = seen (q .facts) s d (q .map)
 
   abbrev passed : List Start
-  passed = drop (acc .count) (q .bound)
+  passed = drop (chosen .count) (q .bound)
 
   abbrev all : List Slot
   all = itemsLeft q i
@@ -71,10 +75,10 @@ module _ {q : Question} {k : ℕ} {b s d : List ℕ} {l : Last} {acc : Placement
   left = drop from b
 
   -- behind the last item
-  pub gone-out : q .count ≤ i → (r : Outcome) → r ≡ answer acc tight passed ([] ∷ []) → r ≡ found q s d l acc tight (wanted (itemsLeft q k) b)
+  pub gone-out : q .count ≤ i → (r : Outcome) → r ≡ answer chosen on-bound passed ([] ∷ []) → r ≡ found q s d l chosen on-bound (wanted (itemsLeft q k) b)
   gone-out h r e =
-      let none = ap (λ (sls : List Slot). found q s d l acc tight (wanted sls left)) (stepping.left-out q i h) in
-      e ∙ sym (g .same ∙ none ∙ stepping.after-last view l acc tight passed left)
+      let none = ap (λ (sls : List Slot). found q s d l chosen on-bound (wanted sls left)) (stepping.left-out q i h) in
+      e ∙ sym (g .same ∙ none ∙ stepping.after-last view l chosen on-bound passed left)
 
   -- the i-th item, and those behind it
   module _ (more : i < q .count) where
@@ -88,38 +92,41 @@ module _ {q : Question} {k : ℕ} {b s d : List ℕ} {l : Last} {acc : Placement
     here = stepping.left-here q i more (g .held)
 
     module _ (no : NoPattern (sl .item)) {t : Bool} (e : t ≡ testHolds view (sl .item) (sl .addresses) l) where
-      test-first : found q s d l acc tight (wanted (itemsLeft q k) b) ≡ found q s d l acc tight (tested (sl .item) (sl .addresses) ∷ wanted sls left)
-      test-first = g .same ∙ ap (found q s d l acc tight) (stepping.wanted-test all sl sls here left no)
+      test-first : found q s d l chosen on-bound (wanted (itemsLeft q k) b)
+          ≡ found q s d l chosen on-bound (tested (sl .item) (sl .addresses) ∷ wanted sls left)
+      test-first = g .same ∙ ap (found q s d l chosen on-bound) (stepping.wanted-test all sl sls here left no)
 
-      pub gone-test : not t ≡ false → Gone q k b s d l acc tight (i + 1) from
+      pub gone-test : not t ≡ false → Gone q k b s d l chosen on-bound (i + 1) from
       gone-test n =
           record {
+            few = g .few;
             held = g .held;
             on = omega (arith, g .on);
             inside = g .inside;
-            ready = stepping.ready-test all sl sls here left s d l acc (g .ready) no;
-            same = test-first ∙ stepping.test-yes view l acc tight passed (wanted sls left) (sl .item) (sl .addresses) (sym e ∙ not-false t n);
+            ready = stepping.ready-test all sl sls here left s d l chosen (g .ready) no;
+            same = test-first ∙ stepping.test-yes view l chosen on-bound passed (wanted sls left) (sl .item) (sl .addresses) (sym e ∙ not-false t n);
           }
 
-      pub stop-test : not t ≡ true → (r : Outcome) → r ≡ nothing → r ≡ found q s d l acc tight (wanted (itemsLeft q k) b)
-      stop-test n r h = h ∙ sym (test-first ∙ stepping.test-no view l acc tight passed (wanted sls left) (sl .item) (sl .addresses) (sym e ∙ not-true t n))
+      pub stop-test : not t ≡ true → (r : Outcome) → r ≡ nothing → r ≡ found q s d l chosen on-bound (wanted (itemsLeft q k) b)
+      stop-test n r h =
+          h ∙ sym (test-first ∙ stepping.test-no view l chosen on-bound passed (wanted sls left) (sl .item) (sl .addresses) (sym e ∙ not-true t n))
 
     module _ {p : Pattern} (e : sl .item ≡ item.Pattern p) where
       pub pattern-inside : from + p .len ≤ length b
-      pattern-inside = omega (arith, stepping.pattern-stored all sl sls here left s d l acc (g .ready) p e, g .inside, length-drop from b)
+      pattern-inside = omega (arith, stepping.pattern-stored all sl sls here left s d l chosen (g .ready) p e, g .inside, length-drop from b)
 
       pub pattern-bounded : Bounded s d p (ownOf b from (p .len)) l
-      pattern-bounded = rw (own-is b from (p .len)) (stepping.pattern-bounded all sl sls here left s d l acc (g .ready) p e)
+      pattern-bounded = rw (own-is b from (p .len)) (stepping.pattern-bounded all sl sls here left s d l chosen (g .ready) p e)
 
       module _ (n : p .negated ≡ false) where
-        pub pattern-trying : Trying sls (restOf b (from + p .len)) p (ownOf b from (p .len)) s d l acc
-        pattern-trying = rw (own-is b from (p .len), rest-is b from (p .len)) (stepping.ready-placed all sl sls here left s d l acc (g .ready) p e n)
+        pub pattern-trying : Trying sls (restOf b (from + p .len)) p (ownOf b from (p .len)) s d l chosen
+        pattern-trying = rw (own-is b from (p .len), rest-is b from (p .len)) (stepping.ready-placed all sl sls here left s d l chosen (g .ready) p e n)
 
-        pub placed-first : (r : Outcome) → r ≡ found q s d l acc tight (placed p (ownOf b from (p .len)) ∷ wanted sls (restOf b (from + p .len)))
-            → r ≡ found q s d l acc tight (wanted (itemsLeft q k) b)
+        pub placed-first : (r : Outcome) → r ≡ found q s d l chosen on-bound (placed p (ownOf b from (p .len)) ∷ wanted sls (restOf b (from + p .len)))
+            → r ≡ found q s d l chosen on-bound (wanted (itemsLeft q k) b)
         placed-first r h =
             (rw (own-is b from (p .len), rest-is b from (p .len)) at h)
-            ∙ sym (g .same ∙ ap (found q s d l acc tight) (stepping.wanted-placed all sl sls here left p e n))
+            ∙ sym (g .same ∙ ap (found q s d l chosen on-bound) (stepping.wanted-placed all sl sls here left p e n))
 
       module _ (n : p .negated ≡ true) {t : Bool} (h : t ≡ nowhereHolds view p (ownOf b from (p .len)) l) where
         abbrev own : List ℕ
@@ -131,18 +138,19 @@ module _ {q : Question} {k : ℕ} {b s d : List ℕ} {l : Last} {acc : Placement
         holds : t ≡ nowhereHolds view p own l
         holds = rw (own-is b from (p .len)) at h
 
-        nowhere-first : found q s d l acc tight (wanted (itemsLeft q k) b) ≡ found q s d l acc tight (nowhere p own ∷ wanted sls rest)
-        nowhere-first = g .same ∙ ap (found q s d l acc tight) (stepping.wanted-nowhere all sl sls here left p e n)
+        nowhere-first : found q s d l chosen on-bound (wanted (itemsLeft q k) b) ≡ found q s d l chosen on-bound (nowhere p own ∷ wanted sls rest)
+        nowhere-first = g .same ∙ ap (found q s d l chosen on-bound) (stepping.wanted-nowhere all sl sls here left p e n)
 
-        pub gone-nowhere : not t ≡ false → Gone q k b s d l acc tight (i + 1) (from + p .len)
+        pub gone-nowhere : not t ≡ false → Gone q k b s d l chosen on-bound (i + 1) (from + p .len)
         gone-nowhere y =
             record {
+              few = g .few;
               held = g .held;
               on = omega (arith, g .on);
               inside = pattern-inside;
-              ready = rw drop-drop at (stepping.ready-nowhere all sl sls here left s d l acc (g .ready) p e n);
-              same = rw drop-drop at (nowhere-first ∙ stepping.nowhere-yes view l acc tight passed (wanted sls rest) p own (sym holds ∙ not-false t y));
+              ready = rw drop-drop at (stepping.ready-nowhere all sl sls here left s d l chosen (g .ready) p e n);
+              same = rw drop-drop at (nowhere-first ∙ stepping.nowhere-yes view l chosen on-bound passed (wanted sls rest) p own (sym holds ∙ not-false t y));
             }
 
-        pub stop-nowhere : not t ≡ true → (r : Outcome) → r ≡ nothing → r ≡ found q s d l acc tight (wanted (itemsLeft q k) b)
-        stop-nowhere y r z = z ∙ sym (nowhere-first ∙ stepping.nowhere-no view l acc tight passed (wanted sls rest) p own (sym holds ∙ not-true t y))
+        pub stop-nowhere : not t ≡ true → (r : Outcome) → r ≡ nothing → r ≡ found q s d l chosen on-bound (wanted (itemsLeft q k) b)
+        stop-nowhere y r z = z ∙ sym (nowhere-first ∙ stepping.nowhere-no view l chosen on-bound passed (wanted sls rest) p own (sym holds ∙ not-true t y))

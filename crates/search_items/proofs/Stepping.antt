@@ -28,11 +28,11 @@ use Rattle.references.proofs.OtherItems.{other-kind}
 use Rattle.references.proofs.Firsts.{first-here, first-out}
 use Rattle.window_spans.specs.Spans.{sizeBound}
 use Rattle.meaning.specs.Bounds.{Bounded}
-use Rattle.search_outcomes.specs.Outcomes.{nothing}
-use Rattle.search_chosen.specs.Choosing.{push, answer}
-use Rattle.search_chosen.proofs.Answering.{answer-nothing}
-use Rattle.search_question.specs.declared.Question.{Question}
-use Rattle.search_question.specs.Questions.{itemsLeft, slot0}
+use Rattle.search_state.specs.Outcomes.{nothing}
+use Rattle.search_state.specs.Choosing.{push, answer}
+use Rattle.search_state.proofs.Answering.{answer-nothing}
+use Rattle.search_state.specs.declared.input.SearchInput.{SearchInput}
+use Rattle.search_state.specs.Inputs.{itemsLeft, slot0}
 use Rattle.search_items.specs.Items.{Small, Ready, Trying}
 
 -- ---- what is wanted
@@ -73,10 +73,10 @@ module _ (all : List Slot) (sl : Slot) (sls : List Slot) (u : all ≡ sl ∷ sls
 pub length-mapped : {A B : Type 0} (f : A → B) (l : List A) (n : ℕ) → length (map f l) ≡ n → length l ≡ n
 length-mapped f l n e = sym (length-map l f) ∙ e
 
-pub left-here : (q : Question) (k : ℕ) → k < q .count → q .count ≤ length (q .items) → itemsLeft q k ≡ getD (q .items) k slot0 ∷ itemsLeft q (k + 1)
+pub left-here : (q : SearchInput) (k : ℕ) → k < q .count → q .count ≤ length (q .items) → itemsLeft q k ≡ getD (q .items) k slot0 ∷ itemsLeft q (k + 1)
 left-here q k h g = first-here (q .items) (q .count) k slot0 h g
 
-pub left-out : (q : Question) (k : ℕ) → q .count ≤ k → itemsLeft q k ≡ []
+pub left-out : (q : SearchInput) (k : ℕ) → q .count ≤ k → itemsLeft q k ≡ []
 left-out q k h = first-out (q .items) (q .count) k h
 
 -- ---- what the search rests on
@@ -93,8 +93,9 @@ positives-placed : (p : Pattern) (b : List ℕ) (ws : List Wanted) → positives
 unfolding positives
 positives-placed p b ws = refl
 
-module _ (all : List Slot) (sl : Slot) (sls : List Slot) (u : all ≡ sl ∷ sls) (b s d : List ℕ) (l : Last) (acc : Placement) (rd : Ready all b s d l acc) where
-  pub ready-test : NoPattern (sl .item) → Ready sls b s d l acc
+module _ (all : List Slot) (sl : Slot) (sls : List Slot) (u : all ≡ sl ∷ sls) (b s d : List ℕ) (l : Last) (chosen : Placement)
+    (rd : Ready all b s d l chosen) where
+  pub ready-test : NoPattern (sl .item) → Ready sls b s d l chosen
   ready-test k =
       let room : positives (wanted all b) ≡ positives (wanted sls b) = ap positives (wanted-test all sl sls u b k) ∙ positives-test _ _ _ in
       record { small = rd .small; stored = omega (arith, rd .stored, bytes-test all sl sls u b k); room = omega (arith, rd .room, room) }
@@ -125,13 +126,13 @@ module _ (all : List Slot) (sl : Slot) (sls : List Slot) (u : all ≡ sl ∷ sls
           last = rd .small .last;
         }
 
-    pub ready-nowhere : p .negated ≡ true → Ready sls (drop (p .len) b) s d l acc
+    pub ready-nowhere : p .negated ≡ true → Ready sls (drop (p .len) b) s d l chosen
     ready-nowhere n =
         let rest = wanted sls (drop (p .len) b) in
         let room : positives (wanted all b) ≡ positives rest = ap positives (wanted-nowhere all sl sls u b p e n) ∙ positives-nowhere p _ _ in
         record { small = rest-small; stored = omega (arith, length-drop (p .len) b, pattern-stored); room = omega (arith, rd .room, room) }
 
-    pub ready-placed : p .negated ≡ false → Trying sls (drop (p .len) b) p (take (p .len) b) s d l acc
+    pub ready-placed : p .negated ≡ false → Trying sls (drop (p .len) b) p (take (p .len) b) s d l chosen
     ready-placed n =
         let rest = wanted sls (drop (p .len) b) in
         let room : positives (wanted all b) ≡ 1 + positives rest = ap positives (wanted-placed all sl sls u b p e n) ∙ positives-placed p _ _ in
@@ -144,14 +145,15 @@ module _ (all : List Slot) (sl : Slot) (sls : List Slot) (u : all ≡ sl ∷ sls
         }
 
 -- a pattern that is to be placed, and the items behind it with its start chosen
-module _ (sls : List Slot) (b : List ℕ) (p : Pattern) (own s d : List ℕ) (l : Last) (acc : Placement) (tr : Trying sls b p own s d l acc) where
+module _ (sls : List Slot) (b : List ℕ) (p : Pattern) (own s d : List ℕ) (l : Last) (chosen : Placement) (tr : Trying sls b p own s d l chosen) where
   pub trying-bounded : Bounded s d p own l
   trying-bounded = record { payload = tr .small .payload; decoded = tr .small .decoded; last = tr .small .last; pattern = tr .len; own = tr .own }
 
   last-small : (at : Start) → at .at + p .len < sizeBound → lastEnd (lastAfter l p at) < sizeBound
   last-small at h = by-cases (p .negated) (λ t. rw t (tr .small .last)) (λ t. rw t h)
 
-  pub ready-next : (at : Start) (next : Last) (ws : Placement) → at .at + p .len < sizeBound → next ≡ lastAfter l p at → ws ≡ push acc at → Ready sls b s d next ws
+  pub ready-next : (at : Start) (next : Last) (ws : Placement) → at .at + p .len < sizeBound → next ≡ lastAfter l p at → ws ≡ push chosen at
+      → Ready sls b s d next ws
   ready-next at next ws h en ew =
       record {
         small = record { bytes = tr .small .bytes; payload = tr .small .payload; decoded = tr .small .decoded; last = rw en (last-small at h) };
@@ -161,26 +163,26 @@ module _ (sls : List Slot) (b : List ℕ) (p : Pattern) (own s d : List ℕ) (l 
 
 -- ---- what it answers: an item that holds leaves the answer to those behind it
 
-module _ (v : View) (l : Last) (acc : Placement) (tight : Bool) (q : List Start) (ws : List Wanted) where
+module _ (v : View) (l : Last) (chosen : Placement) (on-bound : Bool) (q : List Start) (ws : List Wanted) where
   module _ (it : Item) (al : List Address) where
-    pub test-yes : testHolds v it al l ≡ true → answer acc tight q (placements v (tested it al ∷ ws) l) ≡ answer acc tight q (placements v ws l)
+    pub test-yes : testHolds v it al l ≡ true → answer chosen on-bound q (placements v (tested it al ∷ ws) l) ≡ answer chosen on-bound q (placements v ws l)
     unfolding placements
     test-yes h = rw h
 
-    pub test-no : testHolds v it al l ≡ false → answer acc tight q (placements v (tested it al ∷ ws) l) ≡ nothing
+    pub test-no : testHolds v it al l ≡ false → answer chosen on-bound q (placements v (tested it al ∷ ws) l) ≡ nothing
     unfolding placements
-    test-no h = rw h (answer-nothing acc tight q)
+    test-no h = rw h (answer-nothing chosen on-bound q)
 
   module _ (p : Pattern) (b : List ℕ) where
-    pub nowhere-yes : nowhereHolds v p b l ≡ true → answer acc tight q (placements v (nowhere p b ∷ ws) l) ≡ answer acc tight q (placements v ws l)
+    pub nowhere-yes : nowhereHolds v p b l ≡ true → answer chosen on-bound q (placements v (nowhere p b ∷ ws) l) ≡ answer chosen on-bound q (placements v ws l)
     unfolding placements
     nowhere-yes h = rw h
 
-    pub nowhere-no : nowhereHolds v p b l ≡ false → answer acc tight q (placements v (nowhere p b ∷ ws) l) ≡ nothing
+    pub nowhere-no : nowhereHolds v p b l ≡ false → answer chosen on-bound q (placements v (nowhere p b ∷ ws) l) ≡ nothing
     unfolding placements
-    nowhere-no h = rw h (answer-nothing acc tight q)
+    nowhere-no h = rw h (answer-nothing chosen on-bound q)
 
-pub after-last : (v : View) (l : Last) (acc : Placement) (tight : Bool) (q : List Start) (b : List ℕ)
-    → answer acc tight q (placements v (wanted [] b) l) ≡ answer acc tight q ([] ∷ [])
+pub after-last : (v : View) (l : Last) (chosen : Placement) (on-bound : Bool) (q : List Start) (b : List ℕ)
+    → answer chosen on-bound q (placements v (wanted [] b) l) ≡ answer chosen on-bound q ([] ∷ [])
 unfolding placements wanted
-after-last v l acc tight q b = refl
+after-last v l chosen on-bound q b = refl

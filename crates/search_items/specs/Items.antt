@@ -22,15 +22,15 @@ pub record Small (b s d : List ℕ) (l : Last) : Type 0 where
   pub last : lastEnd l < sizeBound
 
 -- the items sls are left: their patterns' bytes are there, and room for the starts of the positive ones
-pub record Ready (sls : List Slot) (b s d : List ℕ) (l : Last) (acc : Placement) : Type 0 where
+pub record Ready (sls : List Slot) (b s d : List ℕ) (l : Last) (chosen : Placement) : Type 0 where
   pub small : Small b s d l
   pub stored : bytesOf (patternsOf sls) ≤ length b
-  pub room : acc .count + positives (wanted sls b) ≤ patternsMost
+  pub room : chosen .count + positives (wanted sls b) ≤ patternsMost
 
 -- the positive pattern p with the bytes o is to be placed before them
-pub record Trying (sls : List Slot) (b : List ℕ) (p : Pattern) (o s d : List ℕ) (l : Last) (acc : Placement) : Type 0 where
+pub record Trying (sls : List Slot) (b : List ℕ) (p : Pattern) (o s d : List ℕ) (l : Last) (chosen : Placement) : Type 0 where
   pub small : Small b s d l
   pub len : p .len < sizeBound
   pub own : length o ≡ p .len
   pub stored : bytesOf (patternsOf sls) ≤ length b
-  pub room : acc .count + 1 + positives (wanted sls b) ≤ patternsMost
+  pub room : chosen .count + 1 + positives (wanted sls b) ≤ patternsMost

@@ -6,8 +6,8 @@ ghost use lib.ListN.{drop};
 ghost use Rattle.definitions.specs.Limits.{itemsMost};
 ghost use Rattle.definitions.specs.Placements.{placed, wanted, placements};
 ghost use Rattle.fields.specs.Seen.{seen};
-ghost use Rattle.search_chosen.specs.Choosing.{answer};
-ghost use Rattle.search_question.specs.Questions.{itemsLeft};
+ghost use Rattle.search_state.specs.Choosing.{answer};
+ghost use Rattle.search_state.specs.Inputs.{itemsLeft};
 ghost use Rattle.search_items.specs.Items.{Ready, Trying};
 use definitions::packet::Last;
 use definitions::packet::Placement;
@@ -18,40 +18,40 @@ use fields::is_present;
 use match_starts::start_at;
 use meaning::negated::negated_holds;
 use meaning::test_holds;
-use search_chosen::at_end;
-use search_chosen::last_at;
-use search_chosen::start_from;
-use search_chosen::stays;
-use search_chosen::with_start;
-use search_outcomes::Outcome;
-use search_outcomes::no_match;
-use search_question::Question;
+use search_state::chosen::finish;
+use search_state::chosen::last_after;
+use search_state::chosen::start_from;
+use search_state::chosen::still_on_bound;
+use search_state::chosen::with_start;
+use search_state::input::SearchInput;
+use search_state::outcomes::Outcome;
+use search_state::outcomes::no_match;
 use window_spans::starts::window;
 use windows::bytes::stands_at;
 
-// The first placement of the items from k on, after the starts in acc; where `tight`, the first after those to pass. `bytes` are the pattern
+// The first placement of the items from k on, after the starts chosen; where `on_bound`, the first after those to pass. `bytes` are the pattern
 // bytes from item k's on, `last` is the last positive pattern before it.
 pub fn from_item<'a>(
-    q: Question,
+    input: SearchInput,
     k: usize,
     bytes: &[u8],
     payload: &'a [u8],
     decoded: &'a [u8],
     last: Last,
-    acc: Placement,
-    tight: bool,
+    chosen: Placement,
+    on_bound: bool,
 ) -> Outcome
-    requires { ⌜ (q .count ≤ itemsMost) × Ready (itemsLeft q k) (now bytes) (now payload) (now decoded) last acc ⌝ }
-    ensures { λ r. ⌜ r ≡ answer acc tight (drop (acc .count) (q .bound)) (placements (seen (q .facts) (now (payload .entry)) (now (decoded .entry)) (q .map)) (wanted (itemsLeft q k) (now (bytes .entry))) last) ⌝ }
+    requires { ⌜ (input .count ≤ itemsMost) × Ready (itemsLeft input k) (now bytes) (now payload) (now decoded) last chosen ⌝ }
+    ensures { λ r. ⌜ r ≡ answer chosen «on_bound» (drop (chosen .count) (input .bound)) (placements (seen (input .facts) (now (payload .entry)) (now (decoded .entry)) (input .map)) (wanted (itemsLeft input k) (now (bytes .entry))) last) ⌝ }
 {
-    let count = q.count;
-    let facts = q.facts;
-    let map = q.map;
+    let count = input.count;
+    let facts = input.facts;
+    let map = input.map;
     let mut i = k;
     // The pattern bytes from item i's on begin here.
     let mut from = 0;
     while i < count {
-        let slot = q.items[i];
+        let slot = input.items[i];
         let item = slot.item;
         let Item::Pattern(p) = item else {
             let addresses = slot.addresses;
@@ -66,7 +66,18 @@ pub fn from_item<'a>(
         let own = &bytes[from..to];
         if !p.negated {
             let rest = &bytes[to..];
-            return try_starts(q, i, p, own, rest, payload, decoded, last, acc, tight);
+            return try_starts(
+                input,
+                i,
+                p,
+                own,
+                rest,
+                payload,
+                decoded,
+                last,
+                chosen,
+                on_bound,
+            );
         }
         // A negated pattern moves no reference.
         if !negated_holds(payload, decoded, map, p, own, last) {
@@ -75,12 +86,12 @@ pub fn from_item<'a>(
         from = to;
         i += 1;
     }
-    at_end(acc, tight)
+    finish(chosen, on_bound)
 }
 
 // Tries the starts of the pattern p, which is item k and has the bytes `own`, each with the items left, whose pattern bytes are `rest`.
 fn try_starts<'a>(
-    q: Question,
+    input: SearchInput,
     k: usize,
     p: Pattern,
     own: &[u8],
@@ -88,32 +99,32 @@ fn try_starts<'a>(
     payload: &'a [u8],
     decoded: &'a [u8],
     last: Last,
-    acc: Placement,
-    tight: bool,
+    chosen: Placement,
+    on_bound: bool,
 ) -> Outcome
-    requires { ⌜ (k < q .count) × (q .count ≤ itemsMost) × Trying (itemsLeft q (k + 1)) (now rest) p (now own) (now payload) (now decoded) last acc ⌝ }
-    ensures { λ r. ⌜ r ≡ answer acc tight (drop (acc .count) (q .bound)) (placements (seen (q .facts) (now (payload .entry)) (now (decoded .entry)) (q .map)) (placed p (now (own .entry)) ∷ wanted (itemsLeft q (k + 1)) (now (rest .entry))) last) ⌝ }
+    requires { ⌜ (k < input .count) × (input .count ≤ itemsMost) × Trying (itemsLeft input (k + 1)) (now rest) p (now own) (now payload) (now decoded) last chosen ⌝ }
+    ensures { λ r. ⌜ r ≡ answer chosen «on_bound» (drop (chosen .count) (input .bound)) (placements (seen (input .facts) (now (payload .entry)) (now (decoded .entry)) (input .map)) (placed p (now (own .entry)) ∷ wanted (itemsLeft input (k + 1)) (now (rest .entry))) last) ⌝ }
 {
-    let map = q.map;
+    let map = input.map;
     let c = p.context;
     if !is_present(map, c) {
         return no_match();
     }
     let f = field_of(payload, decoded, map, c);
     let w = window(p, last, f.len());
-    let j = acc.count;
-    let bound = q.bound;
+    let j = chosen.count;
+    let bound = input.bound;
     let b = bound[j];
     let nocase = p.nocase;
     let to = w.to;
-    let mut at = start_from(tight, b, w.from);
+    let mut at = start_from(on_bound, b, w.from);
     while at < to {
         if stands_at(nocase, own, f, at) {
             let s = start_at(at);
-            let next = last_at(last, p, s);
-            let more = with_start(acc, s);
-            let still = stays(tight, s, b);
-            let x = from_item(q, k + 1, rest, payload, decoded, next, more, still);
+            let next = last_after(last, p, s);
+            let more = with_start(chosen, s);
+            let still = still_on_bound(on_bound, s, b);
+            let x = from_item(input, k + 1, rest, payload, decoded, next, more, still);
             if x.found {
                 return x;
             }

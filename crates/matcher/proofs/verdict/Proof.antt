@@ -1,6 +1,8 @@
--- A refusal is the first due of 20 and 30 to 34; else the verdict goes by facts and payload.
-use mathlib.Core.Path.{_∙_}
+-- A refusal is the first due of 20 and 30 to 34; else the verdict is what the first by facts and payload comes to.
+use mathlib.Core.Path.{ap, _∙_}
+use Rattle.definitions.specs.declared.answers.Answer.{Answer}
 use Rattle.placement_list.proofs.Cleared.{seen-cleared, searchable}
+use Rattle.matcher.specs.Verdicts.{verdictOf}
 use Rattle.matcher.proofs.Answering.{verdict-refused, verdict-here}
 use Rattle.matcher.proofs.verdict.Statement.{statement}
 use Rattle.matcher.proofs.verdict.Tie as tie
@@ -17,12 +19,15 @@ enum-known-seen-2 c = c .match .keys2
 payload-of-requires : tie.Need-payload-of-requires
 payload-of-requires c κs = tt
 
-verdict-in-requires : tie.Need-verdict-in-requires
-verdict-in-requires c κs =
+first-in-requires : tie.Need-first-in-requires
+first-in-requires c κs =
     let a = c .before .before .before .before in
     let x = a .before .before .before .args in
     let ok = seen-cleared (x .t) (x .p .now) (x .decoded .now) (a .cleared .ensures) (c .before .before .seen2 .given .1) (c .payload-of .ensures .0) in
     searchable ok
+
+verdict-of-requires : tie.Need-verdict-of-requires
+verdict-of-requires c κs = tt
 
 returns : tie.Need-returns
 returns c =
@@ -31,11 +36,12 @@ returns c =
 
 returns-2 : tie.Need-returns-2
 returns-2 c =
-    let s = c .before in
+    let first = c .before in
+    let s = first .before in
     let a = s .before .before .before .before in
     let x = a .before .before .before .args in
     let ok = seen-cleared (x .t) (x .p .now) (x .decoded .now) (a .cleared .ensures) (s .before .before .seen2 .given .1) (s .payload-of .ensures .0) in
-    c .verdict-in .ensures ∙ verdict-here ok (x .dir) (x .m)
+    c .verdict-of .ensures ∙ ap (λ (y : Answer). verdictOf (y .found)) (first .first-in .ensures) ∙ verdict-here ok (x .dir) (x .m)
 
 pub verdict-spec : {M : Type 1} → statement M
 verdict-spec =
@@ -45,6 +51,7 @@ verdict-spec =
     enum-known-seen
     enum-known-seen-2
     payload-of-requires
-    verdict-in-requires
+    first-in-requires
+    verdict-of-requires
     returns
     returns-2)

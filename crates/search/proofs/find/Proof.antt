@@ -18,7 +18,7 @@ no-match-requires c κs = tt
 returns : tie.Need-returns
 returns c =
     let x = c .before .before .before .before .before .args in
-    found-none (x .t) (seen (x .facts) (x .payload .now) (x .decoded .now) (x .m)) (x .dir) (x .tight) (x .bound)
+    found-none (x .t) (seen (x .facts) (x .payload .now) (x .decoded .now) (x .m)) (x .dir) (x .on-bound) (x .bound)
     (c .before .before .head-holds .result) (c .before .before .head-holds .ensures) (c .before .if1 .taken) (c .no-match .result) (c .no-match .ensures)
 
 slice-aggregate-all : tie.Need-slice-aggregate-all
@@ -32,16 +32,17 @@ from-item-requires c κs =
     let a = c .before .before .before .before .before .before .before .before in
     let x = a .args in
     let room : length (x .t .bytes) ≡ limits01 .room = length-unmapped _ (x .t .bytes) (limits01 .room) (a .good .0 .1 .1 .1 .1 .1 .1 .0 .1 .0 .1) in
-    rw (c .empty .ensures)
-    (few-items (x .t) (a .pre .formed), ready-first (x .t) (a .pre .formed) (x .payload .now) (x .decoded .now) (omega arith) (a .pre .payload) (a .pre .decoded))
+    let first = ready-first (x .t) (a .pre .formed) (x .payload .now) (x .decoded .now) (omega arith) (a .pre .payload) (a .pre .decoded) in
+    rw (c .empty .ensures) (few-items (x .t) (a .pre .formed), first)
 
 returns-2 : tie.Need-returns-2
 returns-2 c =
-    let a = c .before .before .before .before .before .before .before .before .before in
+    let i = c .before .before .before .before .before in
+    let head = i .before .head-holds in
+    let a = i .before .before .before .before in
     let x = a .args in
-    found-first (x .t) (a .pre .formed) (seen (x .facts) (x .payload .now) (x .decoded .now) (x .m)) (x .dir) (x .tight) (x .bound)
-    (c .before .before .before .before .before .before .head-holds .result) (c .before .before .before .before .before .before .head-holds .ensures) (c .before .before .before .before .before .if1 .left)
-    (c .from-item .result) (rw (c .before .empty .ensures) at (c .from-item .ensures))
+    found-first (x .t) (a .pre .formed) (seen (x .facts) (x .payload .now) (x .decoded .now) (x .m)) (x .dir) (x .on-bound) (x .bound)
+    (head .result) (head .ensures) (i .if1 .left) (c .from-item .result) (rw (c .before .empty .ensures) at (c .from-item .ensures))
 
 pub find-spec : {M : Type 1} → statement M
 find-spec =

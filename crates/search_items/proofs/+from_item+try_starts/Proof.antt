@@ -7,14 +7,14 @@ use lib.ListN.{length}
 use borrow.Author.Tests.{not-true, not-false}
 use Rattle.definitions.specs.Limits.{itemsMost, patternsMost}
 use Rattle.definitions.specs.Placements.{wanted}
-use Rattle.window_spans.specs.Spans.{sizeBound, Measured}
+use Rattle.window_spans.specs.Spans.{Measured}
 use Rattle.meaning.proofs.Placing.{measured}
-use Rattle.search_question.specs.Questions.{itemsLeft}
-use Rattle.search_items.proofs.Stepping.{length-mapped, trying-bounded, ready-next}
+use Rattle.search_state.specs.Inputs.{itemsLeft}
+use Rattle.search_items.proofs.Stepping.{length-mapped, trying-bounded}
 use Rattle.search_items.proofs.Going.{Gone, gone-none, gone-out, gone-test, stop-test, gone-nowhere, stop-nowhere, placed-first}
 use Rattle.search_items.proofs.Going.{pattern-inside, pattern-bounded, pattern-trying}
-use Rattle.search_items.proofs.Trials.{try-absent, Tried, tried-none, tried-out, tried-past, tried-found, tried-vain}
-use Prim.Native.Nat.{ℕ, _+_, _-_, _≤_, _<_}
+use Rattle.search_items.proofs.Trials.{try-absent, Tried, tried-none, own-fits, chosen-small, chosen-ready, tried-out, tried-past, tried-found, tried-vain}
+use Prim.Native.Nat.{ℕ, _+_, _-_, _<_}
 use borrow.Fn.Kinds.{In}
 use borrow.Fn.PlainCycle.{Measures, is, falls, and}
 use Rattle.search_items.proofs.from_item.Reads as from-item
@@ -27,12 +27,12 @@ use Rattle.fields.proofs.field_of.Reads as field-of-reads
 use Rattle.fields.proofs.is_present.Reads as is-present-reads
 use Rattle.meaning.proofs.negated.negated_holds.Reads as negated-holds-reads
 use Rattle.meaning.proofs.test_holds.Reads as test-holds-reads
-use Rattle.search_chosen.proofs.at_end.Reads as at-end-reads
-use Rattle.search_chosen.proofs.last_at.Reads as last-at-reads
-use Rattle.search_outcomes.proofs.no_match.Reads as no-match-reads
-use Rattle.search_chosen.proofs.start_from.Reads as start-from-reads
-use Rattle.search_chosen.proofs.stays.Reads as stays-reads
-use Rattle.search_chosen.proofs.with_start.Reads as with-start-reads
+use Rattle.search_state.proofs.chosen.finish.Reads as finish-reads
+use Rattle.search_state.proofs.chosen.last_after.Reads as last-after-reads
+use Rattle.search_state.proofs.outcomes.no_match.Reads as no-match-reads
+use Rattle.search_state.proofs.chosen.start_from.Reads as start-from-reads
+use Rattle.search_state.proofs.chosen.still_on_bound.Reads as still-on-bound-reads
+use Rattle.search_state.proofs.chosen.with_start.Reads as with-start-reads
 use Rattle.match_starts.proofs.start_at.Reads as start-at-reads
 use Rattle.windows.proofs.bytes.stands_at.Reads as stands-at-reads
 use Rattle.window_spans.proofs.starts.window.Reads as window-reads
@@ -71,8 +71,8 @@ from-item-claims t = (
   try-starts.Post,
   negated-holds-reads.Asked,
   negated-holds-reads.Learnt,
-  at-end-reads.Asked,
-  at-end-reads.Learnt,
+  finish-reads.Asked,
+  finish-reads.Learnt,
 )
 
 abbrev try-starts-claims : ℕ → try-starts-lts.Claims
@@ -91,12 +91,12 @@ try-starts-claims t = (
   stands-at-reads.Learnt,
   start-at-reads.Asked,
   start-at-reads.Learnt,
-  last-at-reads.Asked,
-  last-at-reads.Learnt,
+  last-after-reads.Asked,
+  last-after-reads.Learnt,
   with-start-reads.Asked,
   with-start-reads.Learnt,
-  stays-reads.Asked,
-  stays-reads.Learnt,
+  still-on-bound-reads.Asked,
+  still-on-bound-reads.Learnt,
   from-item-below t,
   from-item.Post,
 )
@@ -104,24 +104,24 @@ try-starts-claims t = (
 -- In the answers below `s` is the place where a turn begins, `m` the one where the item's kind is known, `a` the function's entry.
 
 abbrev from-item-Inv-loop : from-item-lts.InvT-loop
-from-item-Inv-loop k bytes payload decoded last acc tight q count facts map i₀ from₀ i from = Gone q k bytes payload decoded last acc tight i from
+from-item-Inv-loop k bytes payload decoded last chosen on-bound q count facts map i₀ from₀ i from = Gone q k bytes payload decoded last chosen on-bound i from
 
 abbrev from-item-μ-loop : from-item-lts.MeasureT-loop
-from-item-μ-loop k bytes payload decoded last acc tight q count facts map i₀ from₀ i from = count - i
+from-item-μ-loop k bytes payload decoded last chosen on-bound q count facts map i₀ from₀ i from = count - i
 
 from-item-loop-holds : (t : ℕ) → from-item-lts.Need-loop-holds (from-item-claims t) (from-item-at t) from-item.Post from-item-Inv-loop from-item-μ-loop
 from-item-loop-holds t c =
     let a = c .before .before .before .before .before in
     let q = a .args .t1 in
     let long : length (q .items) ≡ itemsMost = length-mapped _ (q .items) itemsMost (a .good .0 .1 .1 .0 .1 .0 .1) in
-    gone-none (omega (arith, a .pre .1 .0, long)) (a .pre .1 .1)
+    gone-none (a .pre .1 .0) (omega (arith, a .pre .1 .0, long)) (a .pre .1 .1)
 
 from-item-mul-slot : (t : ℕ) → from-item-lts.Need-mul-slot (from-item-claims t) (from-item-at t) from-item.Post from-item-Inv-loop from-item-μ-loop
-from-item-mul-slot t c = omega (arith, c .before .before .before .before .before .before .before .pre .1 .0, c .loop-test .taken)
+from-item-mul-slot t c = omega (arith, c .before .loop .inv .few, c .loop-test .taken)
 
 from-item-element-copy-out-slot : (t : ℕ)
     → from-item-lts.Need-element-copy-out-slot (from-item-claims t) (from-item-at t) from-item.Post from-item-Inv-loop from-item-μ-loop
-from-item-element-copy-out-slot t c = omega (arith, c .before .before .before .before .before .before .before .pre .1 .0, c .loop-test .taken)
+from-item-element-copy-out-slot t c = omega (arith, c .before .loop .inv .few, c .loop-test .taken)
 
 from-item-enum-known-item : (t : ℕ)
     → from-item-lts.Need-enum-known-item (from-item-claims t) (from-item-at t) from-item.Post from-item-Inv-loop from-item-μ-loop
@@ -145,7 +145,7 @@ from-item-returns t c =
 from-item-add-i : (t : ℕ) → from-item-lts.Need-add-i (from-item-claims t) (from-item-at t) from-item.Post from-item-Inv-loop from-item-μ-loop
 from-item-add-i t c =
     let s = c .before .before .before .before .before in
-    omega (arith, s .before .before .before .before .before .before .before .pre .1 .0, s .loop-test .taken)
+    omega (arith, s .before .loop .inv .few, s .loop-test .taken)
 
 from-item-loop-less : (t : ℕ) → from-item-lts.Need-loop-less (from-item-claims t) (from-item-at t) from-item.Post from-item-Inv-loop from-item-μ-loop
 from-item-loop-less t c = omega (arith, c .before .before .before .before .before .loop-test .taken)
@@ -198,7 +198,7 @@ from-item-try-starts-requires t c κs =
     let a = s .before .before .before .before .before .before .before in
     let g = s .before .loop .inv in
     let more = s .loop-test .taken in
-    (omega (arith, a .pre .0, g .on), (more, a .pre .1 .0, pattern-trying g more (m .item .given .1) (not-true _ (c .before .if2 .taken))))
+    (omega (arith, a .pre .0, g .on), (more, g .few, pattern-trying g more (m .item .given .1) (not-true _ (c .before .if2 .taken))))
 
 from-item-returns-2 : (t : ℕ) → from-item-lts.Need-returns-2 (from-item-claims t) (from-item-at t) from-item.Post from-item-Inv-loop from-item-μ-loop
 from-item-returns-2 t c =
@@ -230,7 +230,7 @@ from-item-returns-3 t c =
 from-item-add-i-2 : (t : ℕ) → from-item-lts.Need-add-i-2 (from-item-claims t) (from-item-at t) from-item.Post from-item-Inv-loop from-item-μ-loop
 from-item-add-i-2 t c =
     let s = c .before .before .before .before .before .before .before .before .before in
-    omega (arith, s .before .before .before .before .before .before .before .pre .1 .0, s .loop-test .taken)
+    omega (arith, s .before .loop .inv .few, s .loop-test .taken)
 
 from-item-loop-less-2 : (t : ℕ) → from-item-lts.Need-loop-less-2 (from-item-claims t) (from-item-at t) from-item.Post from-item-Inv-loop from-item-μ-loop
 from-item-loop-less-2 t c = omega (arith, c .before .before .before .before .before .before .before .before .before .loop-test .taken)
@@ -243,19 +243,19 @@ from-item-loop-again-2 t c =
     let negated = not-false _ (c .before .before .if2 .left) in
     gone-nowhere (s .before .loop .inv) (s .loop-test .taken) (m .item .given .1) negated holds (c .if3 .left)
 
-from-item-at-end-requires : (t : ℕ)
-    → from-item-lts.Need-at-end-requires (from-item-claims t) (from-item-at t) from-item.Post from-item-Inv-loop from-item-μ-loop
-from-item-at-end-requires t c κs = tt
+from-item-finish-requires : (t : ℕ)
+    → from-item-lts.Need-finish-requires (from-item-claims t) (from-item-at t) from-item.Post from-item-Inv-loop from-item-μ-loop
+from-item-finish-requires t c κs = tt
 
 from-item-returns-4 : (t : ℕ) → from-item-lts.Need-returns-4 (from-item-claims t) (from-item-at t) from-item.Post from-item-Inv-loop from-item-μ-loop
-from-item-returns-4 t c = gone-out (c .before .before .loop .inv) (c .before .loop-test .left) (c .at-end .result) (c .at-end .ensures _)
+from-item-returns-4 t c = gone-out (c .before .before .loop .inv) (c .before .loop-test .left) (c .finish .result) (c .finish .ensures _)
 
 abbrev try-starts-Inv-loop : try-starts-lts.InvT-loop
-try-starts-Inv-loop q k p own rest payload decoded last acc tight f j b nocase to at₀ at =
-    Tried q payload decoded last acc tight (wanted (itemsLeft q (k + 1)) rest) p own f to at
+try-starts-Inv-loop q k p own rest payload decoded last chosen on-bound f j b nocase to at₀ at =
+    Tried q k rest payload decoded last chosen on-bound p own f to at
 
 abbrev try-starts-μ-loop : try-starts-lts.MeasureT-loop
-try-starts-μ-loop q k p own rest payload decoded last acc tight f j b nocase to at₀ at = to - at
+try-starts-μ-loop q k p own rest payload decoded last chosen on-bound f j b nocase to at₀ at = to - at
 
 -- the field is no longer than its buffer
 field-sizes : (t : ℕ) (c : try-starts-lts.After-field-of (try-starts-claims t) (try-starts-at t) try-starts.Post try-starts-Inv-loop try-starts-μ-loop)
@@ -265,18 +265,8 @@ field-sizes t c =
     let x = a .args in
     let s = x .payload .now in
     let d = x .decoded .now in
-    let bounds = trying-bounded (itemsLeft (x .q) (x .k + 1)) (x .rest .now) (x .p) (x .own .now) s d (x .last) (x .acc) (a .pre .1 .2) in
-    measured s d (x .q .map) (x .p) (x .own .now) (x .last) (c .field-of .result .now) bounds (c .field-of .ensures .0)
-
--- at a start of the window the pattern ends inside the field, far below what a number holds
-end-inside : (t : ℕ) (c : try-starts-lts.In-loop (try-starts-claims t) (try-starts-at t) try-starts.Post try-starts-Inv-loop try-starts-μ-loop)
-    → let f = c .before .before .before .before .before .before in
-    let end = c .before .loop .at + f .before .before .before .before .before .before .before .before .args .p .len in
-    (end ≤ length (f .field-of .result .now)) × (end < sizeBound)
-end-inside t c =
-    let w = c .before .before .before .before .before in
-    let inside = w .window .ensures .inside (c .before .loop .at) (c .loop-test .taken) in
-    (inside, omega (arith, inside, (field-sizes t (w .before)) .field))
+    let bounds = trying-bounded (itemsLeft (x .input) (x .k + 1)) (x .rest .now) (x .p) (x .own .now) s d (x .last) (x .chosen) (a .pre .1 .2) in
+    measured s d (x .input .map) (x .p) (x .own .now) (x .last) (c .field-of .result .now) bounds (c .field-of .ensures .0)
 
 try-starts-is-present-requires : (t : ℕ)
     → try-starts-lts.Need-is-present-requires (try-starts-claims t) (try-starts-at t) try-starts.Post try-starts-Inv-loop try-starts-μ-loop
@@ -289,9 +279,9 @@ try-starts-no-match-requires t c κs = tt
 try-starts-returns : (t : ℕ) → try-starts-lts.Need-returns (try-starts-claims t) (try-starts-at t) try-starts.Post try-starts-Inv-loop try-starts-μ-loop
 try-starts-returns t c =
     let x = c .before .before .before .before .before .before .before .before .args in
-    let ws = wanted (itemsLeft (x .q) (x .k + 1)) (x .rest .now) in
+    let ws = wanted (itemsLeft (x .input) (x .k + 1)) (x .rest .now) in
     let there = c .before .before .is-present in
-    try-absent (x .q .facts) (x .payload .now) (x .decoded .now) (x .q .map) (x .p) (x .own .now) (x .last) ws (x .acc) (x .tight) _
+    try-absent (x .input .facts) (x .payload .now) (x .decoded .now) (x .input .map) (x .p) (x .own .now) (x .last) ws (x .chosen) (x .on-bound) _
     (there .result) (there .ensures) (c .before .if1 .taken) (c .no-match .result) (c .no-match .ensures)
 
 try-starts-field-of-requires : (t : ℕ)
@@ -318,55 +308,51 @@ try-starts-loop-holds t c =
     let w = c .before .before .before in
     let p = w .before .before in
     let a = p .before .before .before .before .before .before .before in
-    let bound = a .args .q .bound in
+    let bound = a .args .input .bound in
     let long : length bound ≡ patternsMost = length-mapped _ bound patternsMost (a .good .0 .1 .1 .1 .1 .1 .1 .0 .1 .0 .1) in
-    tried-none (omega (arith, a .pre .1 .2 .room, long)) (w .window .ensures) (w .before .field-of .ensures .0) (p .before .is-present .ensures) (p .if1 .left)
+    let small = field-sizes t (w .before) .field in
+    tried-none (a .pre .1 .0, a .pre .1 .1) (a .pre .1 .2) small (omega (arith, a .pre .1 .2 .room, long)) (w .window .ensures)
+    (w .before .field-of .ensures .0) (p .before .is-present .ensures) (p .if1 .left)
     (c .start-from .ensures)
 
 try-starts-stands-at-requires : (t : ℕ)
     → try-starts-lts.Need-stands-at-requires (try-starts-claims t) (try-starts-at t) try-starts.Post try-starts-Inv-loop try-starts-μ-loop
-try-starts-stands-at-requires t c κs =
-    let f = c .before .before .before .before .before .before in
-    omega (arith, f .before .before .before .before .before .before .before .before .pre .1 .2 .own, end-inside t c .0)
+try-starts-stands-at-requires t c κs = own-fits (c .before .loop .inv) (c .loop-test .taken)
 
 try-starts-start-at-requires : (t : ℕ)
     → try-starts-lts.Need-start-at-requires (try-starts-claims t) (try-starts-at t) try-starts.Post try-starts-Inv-loop try-starts-μ-loop
 try-starts-start-at-requires t c κs = tt
 
-try-starts-last-at-requires : (t : ℕ)
-    → try-starts-lts.Need-last-at-requires (try-starts-claims t) (try-starts-at t) try-starts.Post try-starts-Inv-loop try-starts-μ-loop
-try-starts-last-at-requires t c κs = rw (c .start-at .ensures) (end-inside t (c .before .before .before) .1)
+try-starts-last-after-requires : (t : ℕ)
+    → try-starts-lts.Need-last-after-requires (try-starts-claims t) (try-starts-at t) try-starts.Post try-starts-Inv-loop try-starts-μ-loop
+try-starts-last-after-requires t c κs =
+    let s = c .before .before .before in
+    chosen-small (s .before .loop .inv) (s .loop-test .taken) (c .start-at .ensures)
 
 try-starts-with-start-requires : (t : ℕ)
     → try-starts-lts.Need-with-start-requires (try-starts-claims t) (try-starts-at t) try-starts.Post try-starts-Inv-loop try-starts-μ-loop
-try-starts-with-start-requires t c κs =
-    let f = c .before .before .before .before .before .before .before .before .before .before in
-    omega (arith, f .before .before .before .before .before .before .before .before .pre .1 .2 .room)
+try-starts-with-start-requires t c κs = omega (arith, c .before .before .before .before .before .loop .inv .trying .room)
 
-try-starts-stays-requires : (t : ℕ)
-    → try-starts-lts.Need-stays-requires (try-starts-claims t) (try-starts-at t) try-starts.Post try-starts-Inv-loop try-starts-μ-loop
-try-starts-stays-requires t c κs = tt
+try-starts-still-on-bound-requires : (t : ℕ)
+    → try-starts-lts.Need-still-on-bound-requires (try-starts-claims t) (try-starts-at t) try-starts.Post try-starts-Inv-loop try-starts-μ-loop
+try-starts-still-on-bound-requires t c κs = tt
 
 try-starts-add-from-item : (t : ℕ)
     → try-starts-lts.Need-add-from-item (try-starts-claims t) (try-starts-at t) try-starts.Post try-starts-Inv-loop try-starts-μ-loop
 try-starts-add-from-item t c =
-    let f = c .before .before .before .before .before .before .before .before .before .before .before .before in
-    let a = f .before .before .before .before .before .before .before .before in
-    omega (arith, a .pre .1 .0, a .pre .1 .1)
+    let o = c .before .before .before .before .before .before .before .loop .inv in
+    omega (arith, o .few .0, o .few .1)
 
 try-starts-from-item-requires : (t : ℕ)
     → try-starts-lts.Need-from-item-requires (try-starts-claims t) (try-starts-at t) try-starts.Post try-starts-Inv-loop try-starts-μ-loop
 try-starts-from-item-requires t c κs =
-    let start = c .before .before .before .start-at in
     let s = c .before .before .before .before .before .before in
+    let o = s .before .loop .inv in
     let f = s .before .before .before .before .before .before in
     let a = f .before .before .before .before .before .before .before .before in
-    let x = a .args in
-    let next = c .before .before .last-at in
-    let more = c .before .with-start in
-    let sls = itemsLeft (x .q) (x .k + 1) in
-    let ready = ready-next sls (x .rest .now) (x .p) (x .own .now) (x .payload .now) (x .decoded .now) (x .last) (x .acc) (a .pre .1 .2) (start .result) in
-    (omega (arith, a .pre .0, a .pre .1 .0), (a .pre .1 .1, ready (next .result) (more .result) (rw (start .ensures) (end-inside t s .1)) (next .ensures) (more .ensures)))
+    let start = c .before .before .before .start-at .ensures in
+    let ready = chosen-ready o (s .loop-test .taken) start (c .before .before .last-after .ensures) (c .before .with-start .ensures) in
+    (omega (arith, a .pre .0, o .few .0), (o .few .1, ready))
 
 try-starts-returns-2 : (t : ℕ) → try-starts-lts.Need-returns-2 (try-starts-claims t) (try-starts-at t) try-starts.Post try-starts-Inv-loop try-starts-μ-loop
 try-starts-returns-2 t c =
@@ -374,9 +360,9 @@ try-starts-returns-2 t c =
     let s = w .before .before in
     let lies = sym (w .before .stands-at .ensures) ∙ w .if2 .taken in
     let start = c .before .before .before .before .before .start-at .ensures in
-    let chosen = c .before .before .before .before .last-at .ensures in
-    tried-found (s .before .loop .inv) (s .loop-test .taken) lies start chosen (c .before .before .before .with-start .ensures) (c .before .before .stays .ensures)
-    (c .before .from-item .ensures) (c .if3 .taken)
+    let last = c .before .before .before .before .last-after .ensures in
+    tried-found (s .before .loop .inv) (s .loop-test .taken) start last (c .before .before .before .with-start .ensures) lies
+    (c .before .before .still-on-bound .ensures) (c .before .from-item .ensures) (c .if3 .taken)
 
 try-starts-add-at : (t : ℕ) → try-starts-lts.Need-add-at (try-starts-claims t) (try-starts-at t) try-starts.Post try-starts-Inv-loop try-starts-μ-loop
 try-starts-add-at t c = omega arith
@@ -390,7 +376,8 @@ try-starts-loop-again t c =
     let o = s .before .loop .inv in
     let stands = sym (c .before .stands-at .ensures) in
     ⊎-elim
-    (λ w. tried-vain o (s .loop-test .taken) (stands ∙ w .0 .taken) (w .1 .ensures) (w .2 .ensures) (w .3 .ensures) (w .4 .ensures) (w .5 .ensures) (w .6 .left))
+    (λ w.
+    tried-vain o (s .loop-test .taken) (w .1 .ensures) (w .2 .ensures) (w .3 .ensures) (stands ∙ w .0 .taken) (w .4 .ensures) (w .5 .ensures) (w .6 .left))
     (λ w. tried-past o (stands ∙ w .left))
     (c .if2 .came)
 
@@ -432,7 +419,7 @@ pub +from-item+try-starts-spec : {M : Type 1} → statement M
     (from-item-add-i-2 t)
     (from-item-loop-less-2 t)
     (from-item-loop-again-2 t)
-    (from-item-at-end-requires t)
+    (from-item-finish-requires t)
     (from-item-returns-4 t))
     λ t. try-starts-lts.spec (try-starts-claims t)
     (try-starts-at t)
@@ -450,9 +437,9 @@ pub +from-item+try-starts-spec : {M : Type 1} → statement M
     (try-starts-loop-holds t)
     (try-starts-stands-at-requires t)
     (try-starts-start-at-requires t)
-    (try-starts-last-at-requires t)
+    (try-starts-last-after-requires t)
     (try-starts-with-start-requires t)
-    (try-starts-stays-requires t)
+    (try-starts-still-on-bound-requires t)
     (try-starts-add-from-item t)
     (try-starts-from-item-requires t)
     (try-starts-returns-2 t)

@@ -1,0 +1,2 @@
+-- What the contracts of `matcher` cite besides the definitions.
+pub mod Verdicts

@@ -1,2 +1,0 @@
--- The number of positive patterns, slot by slot.
-pub mod Counts

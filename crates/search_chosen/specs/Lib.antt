@@ -1,2 +1,0 @@
--- What the contracts of `chosen` cite besides the definitions.
-pub mod Choosing

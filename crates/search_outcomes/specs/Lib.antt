@@ -1,2 +1,0 @@
--- What the contracts of `outcomes` cite besides the definitions.
-pub mod Outcomes
