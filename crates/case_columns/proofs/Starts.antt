@@ -12,7 +12,7 @@ use Rattle.definitions.specs.Limits.{patternsMost}
 use Rattle.definitions.specs.Lists.{all?, none?, padded}
 use Rattle.definitions.specs.Starts.{startAt}
 use Rattle.definitions.specs.Answers.{placementOf}
-use Rattle.laws.proofs.Padded.{padded-one}
+use Rattle.list_laws.proofs.Padded.{padded-one}
 use Rattle.line_parts.specs.Parts.{partBefore, parts}
 use Rattle.line_parts.proofs.PartsFrom.{partsFrom, from-start, from-step, from-end}
 use Rattle.line_numbers.specs.declared.decimals.NumberResult.{NumberResult}

@@ -19,7 +19,7 @@ use Rattle.definitions.specs.Starts.{startAt}
 use Rattle.definitions.specs.Lists.{keep}
 use Rattle.definitions.specs.Placements.{lexLess}
 use Rattle.definitions.specs.Answers.{startsOf, headOf, unless}
-use Rattle.references.proofs.Firsts.{first-here, first-out}
+use Rattle.list_laws.proofs.Firsts.{first-here, first-out}
 use Rattle.output.specs.Puts.{puts, Puts}
 use Rattle.output.proofs.Putting.{then, onward}
 use Rattle.match_starts.specs.StartTexts.{startText}

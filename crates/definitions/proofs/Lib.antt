@@ -4,3 +4,4 @@ pub mod LeftOut
 pub mod Tables
 pub mod Fair
 pub mod Sample
+pub mod OtherItems

@@ -16,7 +16,7 @@ use Rattle.definitions.specs.Tables.{slotsIn, slotOf, noSlot, modified, with}
 use Rattle.definitions.specs.Standing.{isPattern}
 use Rattle.reader_state.specs.State.{lastPlace}
 use Rattle.enter_modifiers.specs.Modifying.{slotWith, patternOf}
-use Rattle.laws.proofs.Padded.{padded-one, padded-set, padded-at, padded-full}
+use Rattle.list_laws.proofs.Padded.{padded-one, padded-set, padded-at, padded-full}
 use Rattle.enter.proofs.LastPattern.{LastIs, last-is}
 use Rattle.enter.proofs.Alike.{slots-same, slots-new}
 

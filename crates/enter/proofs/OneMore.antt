@@ -19,7 +19,7 @@ use Rattle.reader_state.specs.State.{dashesOf, lastPlace, stateFrom, saidAlso, 
 use Rattle.reader_state.specs.Sound.{Sound}
 use Rattle.enter.proofs.Behind.{keep-append, slots-length, last-none}
 use Rattle.enter.proofs.LastPattern.{last-is}
-use Rattle.laws.proofs.Padded.{padded-full}
+use Rattle.list_laws.proofs.Padded.{padded-full}
 use Rattle.enter.proofs.Items.{itemsOf}
 
 -- ---- a test that some element passes, and how many do

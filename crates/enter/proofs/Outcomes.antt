@@ -37,7 +37,7 @@ use Rattle.enter_modifiers.specs.Modifying.{withGiven, modifierBy, modifierEnte
 use Rattle.enter.proofs.Behind.{slots-length, name-behind, name-first}
 use Rattle.enter.proofs.Alike.{count-same, count-new, bytes-same}
 use Rattle.enter.proofs.Steps.{bytes-also, name-step, protocol-step, flow-step, test-step, pattern-step, modifier-step}
-use Rattle.laws.proofs.Padded.{padded-more}
+use Rattle.list_laws.proofs.Padded.{padded-more}
 use Rattle.enter.proofs.Items.{itemsOf, items-same, items-new, items-changed}
 use Rattle.enter.proofs.OneMore.{count-none, dashes-same, dashes-new, dashes-length, holds-also}
 

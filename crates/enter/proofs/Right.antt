@@ -32,7 +32,7 @@ use Rattle.reader_state.specs.State.{dashesOf, stateFrom, stateOf, Holds, lastS
 use Rattle.enter.specs.Entering.{valueEntered}
 use Rattle.enter.specs.Judging.{tableIn, usableHeld, judgedIn}
 use Rattle.enter.proofs.Choosing.{if-or}
-use Rattle.laws.proofs.Padded.{padded-at}
+use Rattle.list_laws.proofs.Padded.{padded-at}
 use Rattle.enter.proofs.OneMore.{count-none, dashes-length}
 use Rattle.enter.proofs.Outcomes.{Outcome, name-outcome, protocol-outcome, flow-outcome}
 use Rattle.enter.proofs.Outcomes.{test-outcome, addresses-outcome, pattern-outcome, modifier-outcome}

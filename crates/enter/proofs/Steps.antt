@@ -20,7 +20,7 @@ use Rattle.reader_state.specs.State.{lastPlace, givenIn, stateFrom}
 use Rattle.enter.specs.Entering.{withName, withProtocol, withFlow}
 use Rattle.enter_counted.specs.Counting.{withTest, withNewPattern}
 use Rattle.enter_modifiers.specs.Modifying.{withGiven, givenAlso}
-use Rattle.laws.proofs.Padded.{padded-one}
+use Rattle.list_laws.proofs.Padded.{padded-one}
 use Rattle.enter.proofs.Behind.{name-behind, name-first, protocol-behind, protocol-first, flow-behind, flow-first, bytes-append, last-behind, last-new}
 use Rattle.enter.proofs.LastPattern.{LastIs, last-is}
 use Rattle.enter.proofs.Alike.{alike, given-now, given-kept, any-same, any-new, count-same, count-new, bytes-same, slots-same, slots-new}

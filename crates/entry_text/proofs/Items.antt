@@ -5,7 +5,7 @@ use Prim.Native.Nat.{ℕ, _+_, _-_, _≤_, _<_}
 use native.Mathlib.Omega.{arith}
 use lib.ListN.{length, take, drop, getD, length-drop}
 use lib.Seq.{drop-drop}
-use Rattle.references.proofs.Firsts.{first-here, first-out}
+use Rattle.list_laws.proofs.Firsts.{first-here, first-out}
 use Rattle.definitions.specs.declared.table.AddressTest.{AddressTest}
 use Rattle.definitions.specs.declared.table.Item.{Item}
 use Rattle.definitions.specs.declared.table.Item.the-variants as item

@@ -9,7 +9,7 @@ use Rattle.definitions.specs.declared.table.Context.the-variants as context
 use Rattle.definitions.specs.declared.packet.FieldMap.{FieldMap}
 use Rattle.definitions.specs.Fields.{bufferOf, spanOf, shown, cut, fieldSpan, fieldOf, passes, fieldPasses}
 use Rattle.field_parts.specs.Parts.{PartOf}
-use Rattle.field_places.specs.Places.{lentOf}
+use Rattle.fields.specs.Places.{lentOf}
 
 -- `lentOf` takes of any two the one that `bufferOf` takes
 pub lent-buffer : {A : Type 0} (f : A → List ℕ) (payload decoded : A) (c : Context) → f (lentOf payload decoded c) ≡ bufferOf (f payload) (f decoded) c

@@ -1,16 +1,18 @@
 // The fields of a packet: whether one is there, its bytes as the caller's own part of a lent buffer, and refusal 35.
+pub mod places;
+
 ghost use mathlib.Core.Path.{_≡_};
 ghost use Rattle.definitions.specs.Fields.{present, fieldOf, fieldSpan, fieldsDue, fieldPasses};
 ghost use Rattle.field_parts.specs.Parts.{PartOf};
-ghost use Rattle.field_places.specs.Places.{lentOf};
+ghost use Rattle.fields.specs.Places.{lentOf};
+use crate::places::part_of_one;
+use crate::places::passes_one;
+use crate::places::place_of;
 use definitions::answers::Due;
 use definitions::answers::Refusal;
 use definitions::packet::FieldMap;
 use definitions::table::Context;
 use field_parts::is_at;
-use field_places::part_of_one;
-use field_places::passes_one;
-use field_places::place_of;
 
 // Whether the field is present.
 pub fn is_present(m: FieldMap, c: Context) -> bool

@@ -19,7 +19,7 @@ use Rattle.definitions.specs.Items.{Kind, unused, addressed, patterned, plainTe
 use Rattle.definitions.specs.Starts.{startAt}
 use Rattle.definitions.specs.References.{lastAfter, usable, usableRun}
 use Rattle.definitions.specs.WellFormed.{slotFits, bytesOf}
-use Rattle.references.proofs.Firsts.{first-here, first-out}
+use Rattle.list_laws.proofs.Firsts.{first-here, first-out}
 use Rattle.formed.specs.declared.walking.Walk.{Walk}
 use Rattle.formed.specs.Walking.{started, mayFollow, kindPasses, mayPass, pastKind, pastItem, endsWell, slotsFit}
 

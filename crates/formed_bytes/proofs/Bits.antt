@@ -10,7 +10,7 @@ use lib.ListN.{length, getD, drop, drop-of-length-le}
 use borrow.Author.Tests.{eqb-true, eqb-false, eq-eqb, ne-eqb}
 use Rattle.definitions.specs.Lists.{all?}
 use Rattle.definitions.specs.WellFormed.{isZero}
-use Rattle.list_walks.proofs.Passing.{drop-here}
+use Rattle.list_laws.proofs.Every.{drop-here}
 
 pub no-bits : (a b : ℕ) → eqb (bitOr a b) 0 ≡ (eqb a 0 && eqb b 0)
 no-bits a b = go (eqb a 0) refl (eqb b 0) refl

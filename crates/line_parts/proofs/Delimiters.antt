@@ -10,7 +10,7 @@ use lib.Seq.{length-take-le}
 use lib.Dec.{eqb}
 use borrow.Author.Tests.{ltb-false}
 use Rattle.forms.specs.Bytes.{run}
-use Rattle.scan.proofs.Running.{run-le}
+use Rattle.list_laws.proofs.Runs.{run-le}
 use Rattle.line_parts.specs.Parts.{find, contains, partBefore, partAfter, afterParts, part}
 
 module _ (d : ℕ) (l : List ℕ) where

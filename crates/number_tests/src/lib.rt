@@ -12,7 +12,7 @@ use definitions::table::NumberTest;
 use definitions::table::Operator;
 use definitions::table::Order;
 use definitions::table::TtlTest;
-use protocols::has_ports;
+use packet_header::protocols::has_ports;
 
 // A port test on other protocols doesn't hold.
 fn port_holds(protocol: u8, port: u16, n: u16) -> bool

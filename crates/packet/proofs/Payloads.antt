@@ -20,7 +20,7 @@ use Rattle.definitions.specs.Limits.{packetMost, decodedMost}
 use Rattle.definitions.specs.Refusals.{refuseIf}
 use Rattle.definitions.specs.Packet.{versionOf, isFragment, headerWords, headerLength, totalLength, protocolOf, datagramOf, behindHeader, isTcp, isUdp, isIcmp, tcpWords, tcpShort, transportLength, transportShort, factsOf, payloadOf, packetDue, packetBy, packetAnswer}
 use Rattle.packet.specs.Datagram.{payloadPart}
-use Rattle.header_numbers.proofs.Widths.{wide-take}
+use Rattle.packet_header.proofs.Widths.{wide-take}
 use Rattle.packet.proofs.Passed.{neither-right, Lengths, lengths}
 
 drop-take : (k n : ℕ) (l : List ℕ) → drop k (take n l) ≡ take (n - k) (drop k l)

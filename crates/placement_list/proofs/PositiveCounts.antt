@@ -10,7 +10,7 @@ use Rattle.definitions.specs.declared.table.Address.{Address}
 use Rattle.definitions.specs.declared.table.Slot.{Slot}
 use Rattle.definitions.specs.Items.{Kind, unused, addressed, patterned, plainTest, kindOf, behindItem}
 use Rattle.definitions.specs.Placements.{wantedBy, wanted, positiveIn, positives}
-use Rattle.references.proofs.Firsts.{first-here, first-out}
+use Rattle.list_laws.proofs.Firsts.{first-here, first-out}
 
 -- what one slot adds, with no pattern bytes
 abbrev pub positiveOf : Slot → ℕ

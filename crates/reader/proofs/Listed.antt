@@ -6,7 +6,7 @@ use native.Mathlib.Omega.{arith}
 use lib.ListN.{length, take, drop, length-drop}
 use Rattle.forms.specs.Bytes.{run}
 use Rattle.definitions.specs.Options.{inName, nameLength, optionAt}
-use Rattle.scan.proofs.Running.{run-le}
+use Rattle.list_laws.proofs.Runs.{run-le}
 use Rattle.read_names.specs.declared.options.Lookup.{Lookup}
 use Rattle.read_names.specs.Names.{optionNames, optionOrder, optionNamed, parsedAs}
 use Rattle.read_names.proofs.Rows.{parsed-named}

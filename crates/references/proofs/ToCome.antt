@@ -14,8 +14,8 @@ use Rattle.definitions.specs.declared.table.Slot.{Slot}
 use Rattle.definitions.specs.Items.{Kind, unused, addressed, patterned, plainTest, kindOf, patternFirst, patternsOf}
 use Rattle.definitions.specs.References.{usable, usableRun}
 use Rattle.references.specs.declared.counting.Run.{Run}
-use Rattle.references.proofs.Choosing.{if-true, if-false}
-use Rattle.references.proofs.Firsts.{first-here, first-out}
+use Rattle.list_laws.proofs.Choices.{if-true, if-false}
+use Rattle.list_laws.proofs.Firsts.{first-here, first-out}
 use Rattle.references.specs.Counting.{onward, past, pastOpen, toCome}
 
 pub none-passed : (sls : List Slot) → toCome (record { count = 0; last = Nothing; ended = false }) sls ≡ usableRun Nothing (patternsOf sls)

@@ -25,7 +25,7 @@ use Rattle.syntax.proofs.Exact.{syntax-exactly, read-exactly}
 use Rattle.roundtrip.proofs.Counts.{few-addresses}
 use Rattle.roundtrip.proofs.Formed.{options-fit, options-bytes, Entries, entries-formed, entries-named, entries-slotted}
 use Rattle.roundtrip.proofs.Shape.{table-shaped}
-use Rattle.laws.proofs.Padded.{padded-holds}
+use Rattle.list_laws.proofs.Padded.{padded-holds}
 
 -- ---- texts of the grammar
 

@@ -14,7 +14,7 @@ use Rattle.definitions.specs.Lists.{all?, padded}
 use Rattle.definitions.specs.Entries.{Entry, Name, Protocol, Flow, Test, Pattern, Modified}
 use Rattle.definitions.specs.Tables.{nameIn, noAddress, slotOf, noSlot, slotsIn, bytesIn, tableOf}
 use Rattle.definitions.specs.WellFormed.{Shaped}
-use Rattle.laws.proofs.Padded.{padded-full}
+use Rattle.list_laws.proofs.Padded.{padded-full}
 use Rattle.roundtrip.proofs.Alls.{all-none, all-more, all-head, all-tail, all-append, all-replicate, all-of, all-each}
 use Rattle.roundtrip.proofs.Counts.{fewAddresses}
 

@@ -1,5 +1,4 @@
 -- Classes, runs and sums of digits.
 pub mod Tests
 pub mod Cases
-pub mod Running
 pub mod Counting

@@ -13,7 +13,7 @@ use Rattle.forms.specs.Pieces.{some}
 use Rattle.forms.proofs.Pieces.{star-bytes, some-bytes, over-free}
 use Rattle.scan_cursors.specs.declared.Cursor.the-variants.{Going, Stopped}
 use Rattle.scan_cursors.specs.Reads.{Reads}
-use Rattle.scan.proofs.Running.{run-le, run-in}
+use Rattle.list_laws.proofs.Runs.{run-le, run-in}
 
 -- the readings of a run
 module _ (c : Class) (s : List ℕ) (at : ℕ) (h : at ≤ length s) where

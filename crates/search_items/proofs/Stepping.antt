@@ -24,8 +24,8 @@ use Rattle.definitions.specs.Fields.{View}
 use Rattle.definitions.specs.Tests.{testHolds}
 use Rattle.definitions.specs.Placements.{Wanted, placed, nowhere, tested, wantedPattern, wantedBy, wanted, positives, nowhereHolds, placements}
 use Rattle.definitions.proofs.table.Item as item-type
-use Rattle.references.proofs.OtherItems.{other-kind}
-use Rattle.references.proofs.Firsts.{first-here, first-out}
+use Rattle.definitions.proofs.OtherItems.{other-kind}
+use Rattle.list_laws.proofs.Firsts.{first-here, first-out}
 use Rattle.window_spans.specs.Spans.{sizeBound}
 use Rattle.meaning.specs.Bounds.{Bounded}
 use Rattle.search_state.specs.Outcomes.{nothing}

@@ -19,7 +19,7 @@ use Rattle.definitions.specs.Fields.{present, fieldOf}
 use Rattle.definitions.specs.Placements.{Wanted, placed, wanted, startsTo, spread, liesIn, starts, placements}
 use Rattle.laws.proofs.StartOrder.{number-not-before}
 use Rattle.laws.proofs.Keep.{keep-none}
-use Rattle.list_walks.proofs.Passing.{drop-here}
+use Rattle.list_laws.proofs.Every.{drop-here}
 use Rattle.window_spans.specs.declared.Window.{Window}
 use Rattle.window_spans.specs.Spans.{sizeBound, Spans, placesOf}
 use Rattle.windows.proofs.Listing.{standing, places-window}

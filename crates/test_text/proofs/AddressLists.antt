@@ -10,7 +10,7 @@ use lib.Seq.{length-take-le}
 use lib.Dec.{ltb}
 use borrow.Author.Tests.{lt-ltb, le-ltb}
 use Rattle.forms.specs.Bytes.{text}
-use Rattle.references.proofs.Firsts.{first-here, first-out}
+use Rattle.list_laws.proofs.Firsts.{first-here, first-out}
 use Rattle.definitions.specs.declared.table.Address.{Address}
 use Rattle.definitions.specs.House.{textIf, addressText, addressesText, bracketed}
 

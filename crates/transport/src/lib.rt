@@ -3,13 +3,13 @@ ghost use mathlib.Core.Path.{_≡_};
 ghost use Prim.Native.Nat.{_≤_};
 ghost use lib.ListN.{length};
 ghost use Rattle.definitions.specs.Packet.{protocolOf, behindHeader, tcpWords, transportLength, portAt, tcpShort, transportShort};
-use header_numbers::wide8;
-use header_numbers::wide16;
-use headers::header_length;
-use protocols::ICMP;
-use protocols::TCP;
-use protocols::UDP;
-use protocols::has_ports;
+use packet_header::big_endian::wide8;
+use packet_header::big_endian::wide16;
+use packet_header::ip::header_length;
+use packet_header::protocols::ICMP;
+use packet_header::protocols::TCP;
+use packet_header::protocols::UDP;
+use packet_header::protocols::has_ports;
 
 // The datagram's protocol.
 pub fn protocol_of(d: &[u8]) -> u8

@@ -3,7 +3,7 @@ use mathlib.Core.Path.{_≡_, refl, _∙_}
 use Rattle.definitions.specs.Tables.{bare}
 use Rattle.definitions.specs.Items.{Kind}
 use mathlib.Core.Bool.{false}
-use Rattle.references.proofs.OtherItems.{other-kind}
+use Rattle.definitions.proofs.OtherItems.{other-kind}
 use Rattle.enter_modifiers.specs.Modifying.{patternOf, patternIn}
 use borrow.Author.Needs.{needs}
 use Rattle.enter_modifiers.proofs.pattern_of.Statement.{statement}

@@ -2,7 +2,7 @@ use mathlib.Core.Path.{_≡_, refl, ap}
 use Prim.Native.Nat.{_-_}
 use native.Mathlib.Omega.{arith}
 use Rattle.definitions.specs.Items.{Kind, kindOf}
-use Rattle.references.proofs.OtherItems.{other-kind}
+use Rattle.definitions.proofs.OtherItems.{other-kind}
 use Rattle.entry_text.specs.Parts.{placeBehind}
 use Rattle.output.proofs.Clipping.{at-most-le}
 use borrow.Author.Needs.{needs}

@@ -8,7 +8,7 @@ use borrow.Author.Tests.{le-leb, lt-leb, not-true, not-false}
 use Rattle.definitions.specs.Limits.{itemsMost}
 use Rattle.definitions.specs.Lists.{all?}
 use Rattle.definitions.specs.WellFormed.{slotUnused}
-use Rattle.list_walks.proofs.Passing.{rest-on, rest-not, rest-out}
+use Rattle.list_laws.proofs.Every.{rest-on, rest-not, rest-out}
 use Rattle.formed.specs.Walking.{itemsWell}
 use Rattle.formed.proofs.ToEnd.{Walked, walked-in, walked-on, walked-not, walked-out}
 use Rattle.formed.proofs.items_fit.Statement.{statement}

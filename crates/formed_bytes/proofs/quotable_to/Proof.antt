@@ -8,7 +8,7 @@ use borrow.Author.Needs.{needs}
 use Rattle.forms.specs.Form.{has}
 use Rattle.definitions.specs.Lists.{all?}
 use Rattle.definitions.specs.Forms.{quotable}
-use Rattle.list_walks.proofs.Passing.{first-on, first-not, first-all}
+use Rattle.list_laws.proofs.Every.{first-on, first-not, first-all}
 use Rattle.formed_bytes.proofs.quotable_to.Statement.{statement}
 use Rattle.formed_bytes.proofs.quotable_to.Tie as tie
 

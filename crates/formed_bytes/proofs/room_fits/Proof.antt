@@ -6,7 +6,7 @@ use lib.Dec.{leb}
 use borrow.Author.Tests.{le-leb, lt-leb}
 use borrow.Author.Needs.{needs}
 use Rattle.definitions.specs.Limits.{byteMost}
-use Rattle.list_walks.proofs.Passing.{first-fit}
+use Rattle.list_laws.proofs.Every.{first-fit}
 use Rattle.formed_bytes.proofs.room_fits.Statement.{statement}
 use Rattle.formed_bytes.proofs.room_fits.Tie as tie
 

@@ -6,7 +6,7 @@ use native.Mathlib.Omega.{arith}
 use lib.ListN.{length}
 use lib.Dec.{eqb}
 use borrow.Author.Tests.{eq-eqb, ne-eqb}
-use Rattle.scan.proofs.Running.{Run, run-on, run-halt, run-out}
+use Rattle.list_laws.proofs.Runs.{Run, run-on, run-halt, run-out}
 use Rattle.line_parts.proofs.Delimiters.{find-is}
 use Rattle.line_parts.proofs.find.Statement.{statement}
 use Rattle.line_parts.proofs.find.Tie as tie

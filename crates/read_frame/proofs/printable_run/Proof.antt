@@ -7,7 +7,7 @@ use Rattle.forms.proofs.Bools.{or-false}
 use Rattle.definitions.specs.Options.{printable}
 use Rattle.scan.specs.Classes.{classOf}
 use Rattle.scan.specs.declared.bytes.Class.the-variants.{Printable}
-use Rattle.scan.proofs.Running.{run-same}
+use Rattle.list_laws.proofs.Runs.{run-same}
 use borrow.Author.Needs.{needs}
 use Rattle.read_frame.proofs.printable_run.Statement.{statement}
 use Rattle.read_frame.proofs.printable_run.Tie as tie

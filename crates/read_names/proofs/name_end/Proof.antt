@@ -6,7 +6,7 @@ use Rattle.forms.specs.Form.{has}
 use Rattle.definitions.specs.Options.{inName}
 use Rattle.scan.specs.Classes.{classOf}
 use Rattle.scan.specs.declared.bytes.Class.the-variants.{NameByte}
-use Rattle.scan.proofs.Running.{run-same}
+use Rattle.list_laws.proofs.Runs.{run-same}
 use Rattle.read_names.proofs.NameBytes.{name-bytes}
 use borrow.Author.Needs.{needs}
 use Rattle.read_names.proofs.name_end.Statement.{statement}

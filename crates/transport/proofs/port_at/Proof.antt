@@ -1,7 +1,7 @@
 -- Each return rewrites with the test of the protocol; behind the header is so many bytes later in the datagram.
 use native.Mathlib.Omega.{arith}
 use Rattle.definitions.specs.Packet.{headerLength}
-use Rattle.header_numbers.proofs.Widths.{wide-drop}
+use Rattle.packet_header.proofs.Widths.{wide-drop}
 use mathlib.Core.Path.{sym, _∙_}
 use borrow.Author.Needs.{needs}
 use Rattle.transport.proofs.port_at.Statement.{statement}

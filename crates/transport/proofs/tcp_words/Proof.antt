@@ -1,6 +1,6 @@
 -- Behind the header is so many bytes later in the datagram.
 use Rattle.definitions.specs.Packet.{headerLength}
-use Rattle.header_numbers.proofs.Widths.{wide-drop}
+use Rattle.packet_header.proofs.Widths.{wide-drop}
 use native.Mathlib.Omega.{arith}
 use borrow.Author.Needs.{needs}
 use Rattle.transport.proofs.tcp_words.Statement.{statement}

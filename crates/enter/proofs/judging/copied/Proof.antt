@@ -5,7 +5,7 @@ use native.Mathlib.Omega.{arith}
 use lib.ListN.{take, drop}
 use Rattle.definitions.specs.Limits.{nameMost}
 use Rattle.definitions.specs.Lists.{padded}
-use Rattle.laws.proofs.Padded.{padded-part}
+use Rattle.list_laws.proofs.Padded.{padded-part}
 use Rattle.enter.proofs.judging.copied.Statement.{statement}
 use Rattle.enter.proofs.judging.copied.Tie as tie
 

@@ -4,7 +4,7 @@ use mathlib.Core.Bool.{true}
 use borrow.Author.Tests.{not-true, not-false}
 use borrow.Author.Needs.{needs}
 use Rattle.definitions.specs.Items.{Kind}
-use Rattle.references.proofs.OtherItems.{other-kind}
+use Rattle.definitions.proofs.OtherItems.{other-kind}
 use Rattle.formed.specs.Walking.{kindPasses}
 use Rattle.formed.proofs.walking.may_pass.Statement.{statement}
 use Rattle.formed.proofs.walking.may_pass.Tie as tie

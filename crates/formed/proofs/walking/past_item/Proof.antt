@@ -6,7 +6,7 @@ use borrow.Author.Needs.{needs}
 use Rattle.forms.proofs.Bools.{both-left, both-right}
 use Rattle.definitions.specs.Items.{Kind}
 use Rattle.definitions.specs.WellFormed.{slotFits}
-use Rattle.references.proofs.OtherItems.{other-kind}
+use Rattle.definitions.proofs.OtherItems.{other-kind}
 use Rattle.formed.specs.Walking.{pastKind}
 use Rattle.formed.proofs.walking.past_item.Statement.{statement}
 use Rattle.formed.proofs.walking.past_item.Tie as tie

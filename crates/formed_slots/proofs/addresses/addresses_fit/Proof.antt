@@ -7,7 +7,7 @@ use borrow.Author.Tests.{not-true, not-false}
 use borrow.Author.Needs.{needs}
 use Rattle.definitions.specs.Lists.{all?}
 use Rattle.definitions.specs.WellFormed.{addressFits}
-use Rattle.list_walks.proofs.Passing.{first-on, first-not, first-all}
+use Rattle.list_laws.proofs.Every.{first-on, first-not, first-all}
 use Rattle.formed_slots.proofs.addresses.addresses_fit.Statement.{statement}
 use Rattle.formed_slots.proofs.addresses.addresses_fit.Tie as tie
 

@@ -8,7 +8,7 @@ use borrow.Author.Needs.{needs}
 use Rattle.definitions.specs.Limits.{addressesMost}
 use Rattle.definitions.specs.Lists.{all?}
 use Rattle.definitions.specs.WellFormed.{addressUnused}
-use Rattle.list_walks.proofs.Passing.{rest-on, rest-not, rest-out}
+use Rattle.list_laws.proofs.Every.{rest-on, rest-not, rest-out}
 use Rattle.formed_slots.proofs.addresses.addresses_unused.Statement.{statement}
 use Rattle.formed_slots.proofs.addresses.addresses_unused.Tie as tie
 

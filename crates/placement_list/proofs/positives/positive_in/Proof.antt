@@ -3,7 +3,7 @@ use mathlib.Core.Path.{_≡_, refl}
 use Prim.Native.Nat.{ℕ}
 use Rattle.definitions.specs.Items.{Kind}
 use Rattle.definitions.specs.Placements.{wantedBy, positiveIn}
-use Rattle.references.proofs.OtherItems.{other-kind}
+use Rattle.definitions.proofs.OtherItems.{other-kind}
 use Rattle.placement_list.proofs.positives.positive_in.Statement.{statement}
 use Rattle.placement_list.proofs.positives.positive_in.Tie as tie
 

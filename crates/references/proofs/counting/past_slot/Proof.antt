@@ -1,7 +1,7 @@
 -- Each return rewrites with the test that led there; an item that is no pattern is of one of three kinds, which leave the run as it is.
 use mathlib.Core.Path.{_≡_, refl}
 use Rattle.definitions.specs.Items.{Kind}
-use Rattle.references.proofs.OtherItems.{other-kind}
+use Rattle.definitions.proofs.OtherItems.{other-kind}
 use Rattle.references.specs.Counting.{past, pastOpen}
 use borrow.Author.Needs.{needs}
 use Rattle.references.proofs.counting.past_slot.Statement.{statement}

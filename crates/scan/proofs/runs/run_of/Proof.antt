@@ -5,7 +5,7 @@ use borrow.Author.Tests.{not-true, not-false}
 use lib.ListN.{length}
 use Rattle.forms.specs.Form.{has}
 use Rattle.scan.specs.Classes.{classOf}
-use Rattle.scan.proofs.Running.{Run, run-on, run-halt, run-out}
+use Rattle.list_laws.proofs.Runs.{Run, run-on, run-halt, run-out}
 use Rattle.scan.proofs.runs.run_of.Statement.{statement}
 use Rattle.scan.proofs.runs.run_of.Tie as tie
 

@@ -1,2 +1,0 @@
--- What the contracts of `places` cite besides the definitions: the buffer of a field.
-pub mod Places

@@ -1,2 +1,0 @@
--- Laws for loops that test element by element.
-pub mod Passing
