@@ -1,7 +1,7 @@
 // The placements program's work on slices: cases one a line in, answers out, in parts of any length.
 ghost use lib.ListN.{take};
 ghost use Rattle.case_answers.specs.CaseAnswers.{caseAnswer};
-ghost use Rattle.output.specs.Puts.{Puts};
+ghost use Rattle.write_bytes.specs.Puts.{Puts};
 ghost use Rattle.line_stream.specs.Stream.{lastLine, Feeds};
 use case_answers::PAIRS;
 use case_answers::answer_case;

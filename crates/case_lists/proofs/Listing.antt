@@ -20,8 +20,8 @@ use Rattle.definitions.specs.Lists.{keep}
 use Rattle.definitions.specs.Placements.{lexLess}
 use Rattle.definitions.specs.Answers.{startsOf, headOf, unless}
 use Rattle.list_laws.proofs.Firsts.{first-here, first-out}
-use Rattle.output.specs.Puts.{puts, Puts}
-use Rattle.output.proofs.Putting.{then, onward}
+use Rattle.write_bytes.specs.Puts.{puts, Puts}
+use Rattle.write_bytes.proofs.Putting.{then, onward}
 use Rattle.match_starts.specs.StartTexts.{startText}
 use Rattle.search_state.specs.declared.outcomes.Outcome.{Outcome}
 use Rattle.search_state.specs.Outcomes.{outcomeOf}

@@ -18,7 +18,7 @@ use Rattle.definitions.specs.Placements.{lexLess, itemsOf, positives}
 use Rattle.definitions.specs.Answers.{startsOf, placementOf}
 use Rattle.laws.proofs.Rising.{Rising, keep-after, kept-first, kept-rest, keep-take}
 use Rattle.laws.proofs.Listing.{listed-rising, listed-length}
-use Rattle.placement_list.specs.Listing.{listIn}
+use Rattle.match_placements.specs.Listing.{listIn}
 
 pub starts-back : (q : List Start) → startsOf (placementOf q) ≡ q
 starts-back q = take-append-seam q (replicate (patternsMost - length q) (startAt 0))

@@ -1,13 +1,13 @@
 // The answer to one ask: a placement, none, or a refusal.
-ghost use Rattle.output.specs.Puts.{Puts};
+ghost use Rattle.write_bytes.specs.Puts.{Puts};
 ghost use Rattle.case_lists.specs.AnswerTexts.{refusedText, answerText};
 use crate::placements::put_placement;
-use codes::number_of;
 use definitions::answers::Answer;
 use definitions::answers::Found;
 use definitions::answers::Refusal;
-use output::put_decimal;
-use output::put_word;
+use refusal_numbers::number_of;
+use write_bytes::put_decimal;
+use write_bytes::put_word;
 
 // A refusal by its number.
 pub fn put_refused(out: &mut [u8], at: usize, r: Refusal) -> usize

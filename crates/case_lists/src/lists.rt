@@ -3,9 +3,9 @@ ghost use Rattle.definitions.specs.Lists.{keep};
 ghost use Rattle.definitions.specs.Fields.{fieldsDue};
 ghost use Rattle.definitions.specs.Placements.{lexLess};
 ghost use Rattle.definitions.specs.Answers.{verdictDue, placementsOf};
-ghost use Rattle.output.specs.Puts.{Puts};
+ghost use Rattle.write_bytes.specs.Puts.{Puts};
 ghost use Rattle.search.specs.Searching.{Searchable};
-ghost use Rattle.placement_list.specs.Listing.{listIn};
+ghost use Rattle.match_placements.specs.Listing.{listIn};
 ghost use Rattle.case_lists.specs.AnswerTexts.{placementsAfter, afterMost, listText, dueText};
 use crate::answers::put_answer;
 use crate::answers::put_refused;
@@ -18,12 +18,12 @@ use definitions::packet::Facts;
 use definitions::packet::FieldMap;
 use definitions::packet::Start;
 use definitions::table::Table;
-use output::put;
-use output::put_word;
+use match_checks::cleared;
+use match_placements::first_in;
 use packet::payload_of;
-use placement_list::first_in;
 use search::find;
-use verdict_due::cleared;
+use write_bytes::put;
+use write_bytes::put_word;
 
 // So many placements are written after the first.
 const AFTER: usize = 999;

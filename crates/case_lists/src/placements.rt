@@ -3,14 +3,14 @@ ghost use Prim.Native.Nat.{_≤_};
 ghost use lib.ListN.{take, drop};
 ghost use Rattle.definitions.specs.Limits.{patternsMost};
 ghost use Rattle.definitions.specs.Answers.{startsOf};
-ghost use Rattle.output.specs.Puts.{Puts};
+ghost use Rattle.write_bytes.specs.Puts.{Puts};
 ghost use Rattle.case_lists.specs.AnswerTexts.{startsAfter, startsText, placementText};
 use definitions::limits::PATTERNS;
 use definitions::packet::Placement;
 use definitions::packet::Start;
 use match_starts::put_start;
-use output::limits::at_most;
-use output::put;
+use write_bytes::limits::at_most;
+use write_bytes::put;
 
 // The starts after the first of n.
 fn put_starts_after(out: &mut [u8], at: usize, starts: [Start; PATTERNS], n: usize) -> usize

@@ -11,13 +11,13 @@ use borrow.Author.Tests.{leb-true, lt-ltb}
 use Rattle.forms.specs.Bytes.{between}
 use Rattle.forms.specs.Form.{has}
 use Rattle.forms.proofs.Bools.{by-cases, both-left, both-right}
-use Rattle.scan.specs.Capped.{farAbove, capped}
+use Rattle.scan_bytes.specs.Capped.{farAbove, capped}
 use Rattle.definitions.specs.Lists.{all?}
 use Rattle.definitions.specs.Numbers.{hexDigits, digitValue, valueOf}
 use Rattle.definitions.specs.Cases.{pairs}
-use Rattle.output.specs.Puts.{countedMost, puts, Puts}
-use Rattle.output.proofs.Putting.{same-length}
-use Rattle.output.proofs.Whole.{most-of, puts-count, puts-buffer}
+use Rattle.write_bytes.specs.Puts.{countedMost, puts, Puts}
+use Rattle.write_bytes.proofs.Putting.{same-length}
+use Rattle.write_bytes.proofs.Whole.{most-of, puts-count, puts-buffer}
 use Rattle.line_numbers.specs.HexPairs.{isHex}
 use Rattle.line_numbers.proofs.HexForm.{hex-all}
 

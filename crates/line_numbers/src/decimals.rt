@@ -2,7 +2,7 @@
 ghost use Prim.Native.Nat.{_≤_};
 ghost use mathlib.Core.Path.{_≡_};
 ghost use Rattle.line_numbers.specs.Decimals.{parsedNumber};
-use scan::bytes::is_between;
+use scan_bytes::bytes::is_between;
 
 // The number that bytes write, or that they write none within the limit.
 pub enum NumberResult {

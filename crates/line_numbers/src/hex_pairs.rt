@@ -2,13 +2,13 @@
 ghost use mathlib.Core.Path.{_≡_};
 ghost use mathlib.Core.Bool.{true};
 ghost use Rattle.definitions.specs.Cases.{pairs};
-ghost use Rattle.output.specs.Puts.{Puts};
+ghost use Rattle.write_bytes.specs.Puts.{Puts};
 ghost use Rattle.line_numbers.specs.HexPairs.{isHex};
 use line_parts::is_word;
-use output::put;
-use scan::bytes::Class;
-use scan::numbers::value_of;
-use scan::runs::run_of;
+use scan_bytes::bytes::Class;
+use scan_bytes::numbers::value_of;
+use scan_bytes::runs::run_of;
+use write_bytes::put;
 
 // Whether the bytes are pairs of hex digits, or `-`.
 pub fn is_hex_pairs(s: &[u8]) -> bool

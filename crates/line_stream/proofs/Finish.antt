@@ -8,8 +8,8 @@ use lib.Dec.{ltb}
 use lib.ListN.{length, take}
 use borrow.Author.Tests.{ltb-true, ltb-false}
 use Rattle.forms.specs.Bytes.{text}
-use Rattle.output.specs.Puts.{Puts}
-use Rattle.output.proofs.Putting.{told}
+use Rattle.write_bytes.specs.Puts.{Puts}
+use Rattle.write_bytes.proofs.Putting.{told}
 use Rattle.line_stream.specs.declared.Begun.{Begun}
 use Rattle.line_stream.specs.declared.Feeding.{Feeding}
 use Rattle.line_stream.specs.Stream.{answerTo, lastLine}

@@ -11,8 +11,8 @@ use lib.Seq.{take-nil, take-all, take-append-le, length-take-le, paste, paste-ze
 use borrow.Author.Tests.{le-ltb, ltb-true, ltb-false, leb-true, leb-false}
 use Rattle.forms.specs.Bytes.{if_then_else_}
 use Rattle.forms.proofs.Bools.{by-cases}
-use Rattle.output.specs.Clipped.{atMost}
-use Rattle.output.proofs.Clipping.{at-most-le, taken-most}
+use Rattle.write_bytes.specs.Clipped.{atMost}
+use Rattle.write_bytes.proofs.Clipping.{at-most-le, taken-most}
 use Rattle.line_stream.specs.Stream.{State}
 use Rattle.line_stream.specs.Steps.{fitting, Keeps}
 

@@ -11,9 +11,9 @@ use borrow.Author.Tests.{ltb-true, ltb-false}
 use Rattle.forms.specs.Bytes.{text}
 use Rattle.forms.proofs.Bools.{by-cases}
 use Rattle.definitions.specs.House.{decimal}
-use Rattle.output.specs.Puts.{puts, Puts}
-use Rattle.output.proofs.Putting.{none-put, same-length}
-use Rattle.output.proofs.Whole.{placed-front, placed-whole}
+use Rattle.write_bytes.specs.Puts.{puts, Puts}
+use Rattle.write_bytes.proofs.Putting.{none-put, same-length}
+use Rattle.write_bytes.proofs.Whole.{placed-front, placed-whole}
 use Rattle.line_stream.specs.declared.Begun.{Begun}
 use Rattle.line_stream.specs.declared.Feeding.{Feeding}
 use Rattle.line_stream.specs.Stream.{State, stateOf, ended, after, hasRoom, answerTo, answerFits, Feeds}

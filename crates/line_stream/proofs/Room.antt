@@ -10,9 +10,9 @@ use borrow.Author.Tests.{ltb-true, leb-true}
 use Rattle.forms.specs.Bytes.{text}
 use Rattle.forms.proofs.Bools.{by-cases, both-left, both-right}
 use Rattle.definitions.specs.House.{decimal}
-use Rattle.output.specs.Puts.{countedMost, puts, Puts}
-use Rattle.output.proofs.Putting.{then as joined, told}
-use Rattle.output.proofs.Whole.{most-of, puts-count}
+use Rattle.write_bytes.specs.Puts.{countedMost, puts, Puts}
+use Rattle.write_bytes.proofs.Putting.{then as joined, told}
+use Rattle.write_bytes.proofs.Whole.{most-of, puts-count}
 use Rattle.line_stream.specs.Stream.{answerTo, hasRoom}
 
 -- number and tab, the answer, LF

@@ -10,9 +10,9 @@ use lib.Seq.{length-take-le}
 use borrow.Author.Tests.{lt-ltb, le-leb, ltb-true, ltb-false}
 use Rattle.forms.proofs.Bools.{by-cases}
 use Rattle.definitions.specs.Lines.{outputOver}
-use Rattle.output.specs.Puts.{countedMost, Puts}
-use Rattle.output.proofs.Putting.{same-length}
-use Rattle.output.proofs.Whole.{placed-whole}
+use Rattle.write_bytes.specs.Puts.{countedMost, Puts}
+use Rattle.write_bytes.proofs.Putting.{same-length}
+use Rattle.write_bytes.proofs.Whole.{placed-whole}
 use Rattle.line_stream.specs.declared.Begun.{Begun}
 use Rattle.line_stream.specs.declared.Fed.{Fed}
 use Rattle.line_stream.specs.Stream.{numberMost, answerTo, State, stateOf, byteRead, after, lastLine, outputOf, hasRoom, answerFits, Feeds}

@@ -10,10 +10,10 @@ use lib.Seq.{length-take-le}
 use borrow.Author.Tests.{lt-ltb, le-ltb}
 use Rattle.forms.specs.Bytes.{text}
 use Rattle.definitions.specs.House.{decimal}
-use Rattle.output.specs.Puts.{Puts}
-use Rattle.output.specs.Clipped.{atMost}
-use Rattle.output.proofs.Putting.{none-put}
-use Rattle.output.proofs.Clipping.{at-most-le, taken-most}
+use Rattle.write_bytes.specs.Puts.{Puts}
+use Rattle.write_bytes.specs.Clipped.{atMost}
+use Rattle.write_bytes.proofs.Putting.{none-put}
+use Rattle.write_bytes.proofs.Clipping.{at-most-le, taken-most}
 use Rattle.line_stream.specs.declared.Begun.{Begun}
 use Rattle.line_stream.specs.declared.Fed.{Fed}
 use Rattle.line_stream.specs.declared.Feeding.{Feeding}

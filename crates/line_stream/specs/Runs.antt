@@ -4,7 +4,7 @@ use mathlib.Core.Bool.{true}
 use Prim.Native.Nat.{ℕ}
 use mathlib.Core.List.{List, [], _++_}
 use lib.ListN.{length, take, drop}
-use Rattle.output.specs.Puts.{Puts}
+use Rattle.write_bytes.specs.Puts.{Puts}
 use Rattle.line_stream.specs.declared.Begun.{Begun}
 use Rattle.line_stream.specs.declared.Fed.{Fed}
 use Rattle.line_stream.specs.Stream.{lastLine, hasRoom, Feeds}

@@ -8,8 +8,8 @@ use lib.ListN.{length, take, drop}
 use lib.Seq.{paste}
 use Rattle.forms.specs.Bytes.{if_then_else_, text, run}
 use Rattle.definitions.specs.House.{decimal}
-use Rattle.output.specs.Puts.{Puts}
-use Rattle.output.specs.Clipped.{atMost}
+use Rattle.write_bytes.specs.Puts.{Puts}
+use Rattle.write_bytes.specs.Clipped.{atMost}
 use Rattle.line_stream.specs.declared.Begun.{Begun}
 use Rattle.line_stream.specs.declared.Fed.{Fed}
 use Rattle.line_stream.specs.declared.Feeding.{Feeding}

@@ -7,7 +7,7 @@ use lib.Dec.{eqb, ltb, leb}
 use lib.ListN.{length, getD, take}
 use Rattle.forms.specs.Bytes.{if_then_else_, text}
 use Rattle.definitions.specs.House.{decimal}
-use Rattle.output.specs.Puts.{countedMost}
+use Rattle.write_bytes.specs.Puts.{countedMost}
 use Rattle.line_stream.specs.declared.Begun.{Begun}
 use Rattle.line_stream.specs.declared.Fed.{Fed}
 

@@ -8,11 +8,11 @@ ghost use Rattle.forms.specs.Bytes.{text};
 ghost use Rattle.definitions.specs.House.{decimal};
 ghost use Rattle.line_stream.specs.Stream.{hasRoom, nextNumber};
 ghost use Rattle.line_stream.specs.Steps.{Keeps, Takes, Nexts, Lasts, lfFrom};
-ghost use Rattle.output.specs.Puts.{Puts};
-use output::COUNTED;
-use output::limits::at_most;
-use output::put;
-use output::put_decimal;
+ghost use Rattle.write_bytes.specs.Puts.{Puts};
+use write_bytes::COUNTED;
+use write_bytes::limits::at_most;
+use write_bytes::put;
+use write_bytes::put_decimal;
 
 // The line begun: its number, and how many of its bytes are kept.
 pub struct Begun {

@@ -1,10 +1,10 @@
 // An entry of a placement in the code: what makes one of a number, its order, and its text.
 ghost use mathlib.Core.Path.{_≡_};
 ghost use Rattle.definitions.specs.Starts.{startAt, startNumber, startBefore, sameStart};
-ghost use Rattle.output.specs.Puts.{Puts};
+ghost use Rattle.write_bytes.specs.Puts.{Puts};
 ghost use Rattle.match_starts.specs.StartTexts.{startText};
 use definitions::packet::Start;
-use output::put_decimal;
+use write_bytes::put_decimal;
 
 // The start so many bytes from the field's start.
 pub fn start_at(at: usize) -> Start

@@ -17,9 +17,9 @@ use Rattle.definitions.specs.declared.answers.Verdict.the-variants as verdict
 use Rattle.definitions.specs.declared.answers.Answer.{Answer}
 use Rattle.definitions.specs.Fields.{fieldsDue}
 use Rattle.definitions.specs.Answers.{refusedAnswer, headOf, unless, verdictBy, verdictAnswer, firstAnswer, nextAnswer}
-use Rattle.verdict_due.specs.Clearing.{clearance}
-use Rattle.placement_list.specs.Listing.{listIn, firstIn, nextIn}
-use Rattle.placement_list.proofs.Cleared.{Cleared, refused-due, due-here, list-here}
+use Rattle.match_checks.specs.Clearing.{clearance}
+use Rattle.match_placements.specs.Listing.{listIn, firstIn, nextIn}
+use Rattle.match_placements.proofs.Cleared.{Cleared, refused-due, due-here, list-here}
 use Rattle.matcher.specs.Verdicts.{verdictOf}
 
 -- ---- a refusal is due: a is what was cleared, x the answer given

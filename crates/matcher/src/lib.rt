@@ -11,11 +11,11 @@ use definitions::packet::Direction;
 use definitions::packet::FieldMap;
 use definitions::packet::Placement;
 use definitions::table::Table;
+use match_checks::cleared;
+use match_placements::answers::refused;
+use match_placements::first_in;
+use match_placements::next_in;
 use packet::payload_of;
-use placement_list::answers::refused;
-use placement_list::first_in;
-use placement_list::next_in;
-use verdict_due::cleared;
 
 // The verdict that the answer to "first" comes to.
 fn verdict_of(f: Found) -> Verdict

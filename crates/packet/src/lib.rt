@@ -19,10 +19,10 @@ use packet_header::ip::lent_too_long;
 use packet_header::ip::not_ipv4;
 use packet_header::ip::total_length;
 use packet_header::ip::wrong_lengths;
-use transport::port_at;
-use transport::protocol_of;
-use transport::transport_length;
-use transport::transport_short;
+use packet_transport::port_at;
+use packet_transport::protocol_of;
+use packet_transport::transport_length;
+use packet_transport::transport_short;
 
 // The facts of a datagram.
 fn facts_of(d: &[u8]) -> Facts

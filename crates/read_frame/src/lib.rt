@@ -8,8 +8,8 @@ ghost use Rattle.definitions.specs.Reading.{dashes};
 ghost use Rattle.read_frame.specs.Framing.{isOpened, Fronts, endedBy};
 use definitions::answers::Refusal;
 use definitions::limits::TEXT_BYTES;
-use scan::bytes::Class;
-use scan::runs::run_of;
+use scan_bytes::bytes::Class;
+use scan_bytes::runs::run_of;
 use scan_cursors::Cursor;
 
 // The bytes of `F-SBID(`.

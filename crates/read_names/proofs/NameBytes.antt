@@ -10,8 +10,8 @@ use Rattle.forms.specs.Form.{has}
 use Rattle.forms.proofs.Bools.{by-cases, both-left, both-right, or-false}
 use Rattle.forms.proofs.Words.{span-one}
 use Rattle.definitions.specs.Options.{inName}
-use Rattle.scan.specs.Classes.{classOf}
-use Rattle.scan.specs.declared.bytes.Class.the-variants.{NameByte}
+use Rattle.scan_bytes.specs.Classes.{classOf}
+use Rattle.scan_bytes.specs.declared.bytes.Class.the-variants.{NameByte}
 
 -- 32 behind a capital stands its small letter
 small-letter : (b : ℕ) → between 65 90 b ≡ true → between 97 122 (b + 32) ≡ true

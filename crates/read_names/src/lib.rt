@@ -9,9 +9,9 @@ ghost use Rattle.read_names.specs.Names.{optionCount, optionNames, optio
 use crate::options::Lookup;
 use crate::options::OptionName;
 use definitions::limits::OPTIONS;
-use letters::lower_of;
-use scan::bytes::Class;
-use scan::runs::run_of;
+use scan_bytes::bytes::Class;
+use scan_bytes::runs::run_of;
+use scan_case::lower_of;
 
 pub mod options;
 

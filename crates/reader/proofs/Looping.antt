@@ -15,8 +15,8 @@ use Rattle.definitions.specs.Options.{optionAt}
 use Rattle.definitions.specs.Reading.{Said, entriesOf, refused, taken, dashes, options}
 use Rattle.syntax.proofs.Loop.{passed-over}
 use Rattle.read_frame.proofs.Dashes.{head}
-use Rattle.reader_state.specs.declared.State.{State}
-use Rattle.reader_state.specs.State.{Holds, lastSlot, saidAlso}
+use Rattle.read_state.specs.declared.State.{State}
+use Rattle.read_state.specs.State.{Holds, lastSlot, saidAlso}
 use Rattle.reader.specs.declared.turns.Turn.{Turn}
 use Rattle.reader.specs.declared.turns.Turn.the-variants.{Next, Done, Refused}
 use Rattle.reader.specs.declared.turns.Turned.{Turned}

@@ -19,20 +19,20 @@ use Rattle.definitions.specs.Standing.{dueFor}
 use Rattle.definitions.specs.Lists.{keep}
 use Rattle.definitions.specs.Tables.{nameIn, bytesIn, slotsIn, noSlot}
 use Rattle.definitions.specs.Reading.{Said, entriesOf, Options, refused, taken}
-use Rattle.entry.specs.declared.Value.{Value}
-use Rattle.entry.specs.declared.Value.the-variants as value
-use Rattle.entry.specs.Values.{Room, roomOf, entryOf}
+use Rattle.read_value.specs.declared.Value.{Value}
+use Rattle.read_value.specs.declared.Value.the-variants as value
+use Rattle.read_value.specs.Values.{Room, roomOf, entryOf}
 use Rattle.scan_cursors.specs.declared.Cursor.{Cursor}
 use Rattle.scan_cursors.specs.declared.Cursor.the-variants.{Going, Over, Stopped}
 use Rattle.scan_cursors.specs.Reads.{readBy, placeOf}
 use Rattle.read_frame.specs.declared.Ended.the-variants as ended
 use Rattle.read_frame.specs.Framing.{endedBy}
-use Rattle.reader_state.specs.declared.State.{State}
-use Rattle.reader_state.specs.State.{Holds, lastSlot, Apart, Behind, saidAlso, stateFrom, stateOf}
-use Rattle.option_values.specs.declared.parsed.Parsed.{Parsed}
-use Rattle.option_values.specs.Parsing.{Parses}
-use Rattle.enter.proofs.Behind.{bytes-append}
-use Rattle.enter.proofs.OneMore.{entries-also, used-is}
+use Rattle.read_state.specs.declared.State.{State}
+use Rattle.read_state.specs.State.{Holds, lastSlot, Apart, Behind, saidAlso, stateFrom, stateOf}
+use Rattle.read_by_name.specs.declared.parsed.Parsed.{Parsed}
+use Rattle.read_by_name.specs.Parsing.{Parses}
+use Rattle.read_insert.proofs.Behind.{bytes-append}
+use Rattle.read_insert.proofs.OneMore.{entries-also, used-is}
 use Rattle.reader.specs.Turning.{turnBy, TurnsTo}
 
 module _ (s : List ℕ) (at : ℕ) (es : List Entry) (K : Entry → ℕ → Options) where

@@ -14,8 +14,8 @@ use Rattle.definitions.specs.Tables.{noSlot}
 use Rattle.definitions.specs.Entries.{Entry}
 use Rattle.definitions.specs.Options.{optionAt}
 use Rattle.definitions.specs.Reading.{Said, entriesOf, Options, ended, refused, taken, options}
-use Rattle.reader_state.specs.declared.State.{State}
-use Rattle.reader_state.specs.State.{Holds, lastSlot, saidAlso}
+use Rattle.read_state.specs.declared.State.{State}
+use Rattle.read_state.specs.State.{Holds, lastSlot, saidAlso}
 use Rattle.reader.specs.declared.turns.Turn.{Turn}
 use Rattle.reader.specs.declared.turns.Turn.the-variants.{Next, Done, Refused}
 use Rattle.reader.specs.declared.turns.Turned.{Turned}

@@ -12,13 +12,13 @@ use definitions::answers::Reading;
 use definitions::answers::Refusal;
 use definitions::limits::ITEMS;
 use definitions::limits::PATTERN_BYTES;
-use enter::finish;
-use enter::judging::refused;
 use read_frame::Front;
 use read_frame::OPENING_BYTES;
 use read_frame::front_of;
-use reader_state::fresh;
-use reader_state::no_slot;
+use read_insert::finish;
+use read_insert::judging::refused;
+use read_state::fresh;
+use read_state::no_slot;
 
 mod turns;
 

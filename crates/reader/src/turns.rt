@@ -5,16 +5,16 @@ use definitions::answers::Due;
 use definitions::answers::Refusal;
 use definitions::limits::ITEMS;
 use definitions::table::Slot;
-use enter::enter;
-use option_values::by_name::option_by_name;
+use read_by_name::by_name::option_by_name;
 use read_frame::Ended;
 use read_frame::dashes_at;
 use read_frame::ended_by;
+use read_insert::enter;
 use read_names::name_end;
 use read_names::option_named;
 use read_names::options::Lookup;
-use reader_state::State;
-use reader_state::no_slot;
+use read_state::State;
+use read_state::no_slot;
 
 // On to a place, the end of the text, or a refusal and its place.
 pub enum Turn {

@@ -11,7 +11,7 @@ use Rattle.forms.specs.Bytes.{run}
 use Rattle.forms.specs.Form.{Class, has}
 use Rattle.forms.proofs.Bools.{by-cases}
 use Rattle.definitions.specs.Numbers.{valueOf}
-use Rattle.scan.specs.Capped.{farAbove, capped}
+use Rattle.scan_bytes.specs.Capped.{farAbove, capped}
 use Rattle.scan_cursors.specs.declared.Cursor.the-variants.{Going, Over, Stopped}
 use Rattle.scan_cursors.specs.Reads.{limitedBy, Reads}
 use Rattle.scan_cursors.proofs.Readings.{made-reads, limit-reads, stopped-any, over-any}

@@ -14,7 +14,7 @@ use Rattle.forms.specs.Pieces.{says, word, anyCase}
 use Rattle.forms.proofs.Pieces.{skip-scan, over-free, free}
 use Rattle.scan_cursors.specs.declared.Cursor.{Cursor}
 use Rattle.scan_cursors.specs.declared.Cursor.the-variants.{Going, Stopped}
-use Rattle.scan.specs.Classes.{caseClass}
+use Rattle.scan_bytes.specs.Classes.{caseClass}
 use Rattle.scan_cursors.specs.Reads.{Inside, Reads}
 use Rattle.scan_cursors.proofs.Readings.{alike-reads, made-reads, skip-reads, tell-reads, stopped-reads}
 use Rattle.scan_pieces.proofs.AtPlace.{byte-begun, byte-none, begins-in}

@@ -3,16 +3,16 @@ ghost use Prim.Native.Nat.{_≤_, _<_};
 ghost use lib.ListN.{length};
 ghost use mathlib.Core.Path.{_≡_};
 ghost use Rattle.definitions.specs.Numbers.{number, numeral};
-ghost use Rattle.scan.specs.Classes.{classOf};
-ghost use Rattle.scan.specs.Capped.{farAbove};
+ghost use Rattle.scan_bytes.specs.Classes.{classOf};
+ghost use Rattle.scan_bytes.specs.Capped.{farAbove};
 ghost use Rattle.scan_cursors.specs.Reads.{Reads};
 ghost use Rattle.scan_cursors.specs.declared.Cursor.the-variants.{Going};
 ghost use Rattle.scan_pieces.specs.Digits.{digitsWithin, hexMarked};
 use crate::signs::stands;
 use crate::signs::starts;
-use scan::bytes::Class;
-use scan::numbers::value_of;
-use scan::runs::run_of;
+use scan_bytes::bytes::Class;
+use scan_bytes::numbers::value_of;
+use scan_bytes::runs::run_of;
 use scan_cursors::Cursor;
 
 // A number, which is never beyond its limit: it is 0 where one stood there that is.

@@ -3,11 +3,11 @@ ghost use Prim.Native.Nat.{_+_, _≤_};
 ghost use lib.ListN.{length, take, drop};
 ghost use Rattle.forms.specs.Form.{byte};
 ghost use Rattle.forms.specs.Pieces.{some};
-ghost use Rattle.scan.specs.Classes.{classOf};
+ghost use Rattle.scan_bytes.specs.Classes.{classOf};
 ghost use Rattle.scan_cursors.specs.Reads.{Reads};
 ghost use Rattle.scan_cursors.specs.declared.Cursor.the-variants.{Going};
-use scan::bytes::Class;
-use scan::runs::run_of;
+use scan_bytes::bytes::Class;
+use scan_bytes::runs::run_of;
 use scan_cursors::Cursor;
 
 // A run is told by its first byte's place in the text and its length.

@@ -7,13 +7,13 @@ ghost use lib.ListN.{length, drop};
 ghost use Rattle.forms.specs.Scan.{begins};
 ghost use Rattle.forms.specs.Pieces.{skip, opt, sign, mark};
 ghost use Rattle.definitions.specs.Forms.{spaces, gap};
-ghost use Rattle.scan.specs.Classes.{caseClass};
+ghost use Rattle.scan_bytes.specs.Classes.{caseClass};
 ghost use Rattle.scan_cursors.specs.Reads.{Reads, Skips};
 ghost use Rattle.scan_cursors.specs.declared.Cursor.the-variants.{Going};
 use crate::runs::run_at;
-use scan::bytes::Class;
-use scan::bytes::in_case;
-use scan::runs::run_of;
+use scan_bytes::bytes::Class;
+use scan_bytes::bytes::in_case;
+use scan_bytes::runs::run_of;
 use scan_cursors::Cursor;
 
 // Whether the byte stands at the place.

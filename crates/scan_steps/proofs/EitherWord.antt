@@ -12,7 +12,7 @@ use Rattle.forms.specs.Place.{readAt, mapped}
 use Rattle.forms.specs.Pieces.{or, says, word}
 use Rattle.forms.proofs.At.{made-at, alt-at}
 use Rattle.forms.proofs.Bools.{by-cases}
-use Rattle.scan.specs.Classes.{caseClass}
+use Rattle.scan_bytes.specs.Classes.{caseClass}
 use Rattle.scan_cursors.specs.declared.Cursor.{Cursor}
 use Rattle.scan_cursors.specs.Reads.{Inside, nextIn, Reads}
 use Rattle.scan_cursors.proofs.Readings.{alike-reads, made-reads}

@@ -1,7 +1,7 @@
 // Numbers up to a limit, from a cursor on.
 ghost use Prim.Native.Nat.{_≤_, _<_};
 ghost use Rattle.definitions.specs.Numbers.{number, numeral};
-ghost use Rattle.scan.specs.Capped.{farAbove};
+ghost use Rattle.scan_bytes.specs.Capped.{farAbove};
 ghost use Rattle.scan_cursors.specs.Reads.{Inside, Reads};
 use scan_cursors::Cursor;
 use scan_cursors::join;

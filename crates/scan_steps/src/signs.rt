@@ -4,7 +4,7 @@ ghost use mathlib.Core.List.{_∷_, []};
 ghost use mathlib.Core.Bool.{true, false};
 ghost use Rattle.forms.specs.Pieces.{skip, opt, sign, mark};
 ghost use Rattle.definitions.specs.Forms.{spaces};
-ghost use Rattle.scan.specs.Classes.{caseClass};
+ghost use Rattle.scan_bytes.specs.Classes.{caseClass};
 ghost use Rattle.scan_cursors.specs.Reads.{Inside, nextIn, Reads, Skips};
 use scan_cursors::Cursor;
 use scan_cursors::join;

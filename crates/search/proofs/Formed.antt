@@ -26,8 +26,8 @@ use Rattle.definitions.specs.Placements.{wantedBy, wanted, itemsOf, positiveIn,
 use Rattle.definitions.specs.Answers.{placementOf}
 use Rattle.laws.proofs.Keep.{keep-in}
 use Rattle.laws.proofs.Listing.{placements-meet, meets-length}
-use Rattle.formed.proofs.Forming as forming
-use Rattle.window_spans.specs.Spans.{sizeBound}
+use Rattle.table_well_formed.proofs.Forming as forming
+use Rattle.match_windows.specs.Spans.{sizeBound}
 use Rattle.search_state.specs.declared.outcomes.Outcome.{Outcome}
 use Rattle.search_state.specs.Outcomes.{nothing, outcomeOf}
 use Rattle.search_state.specs.Choosing.{answer, afterIf}

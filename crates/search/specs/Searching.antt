@@ -6,7 +6,7 @@ use mathlib.Core.List.{List}
 use lib.ListN.{length}
 use Rattle.definitions.specs.declared.table.Table.{Table}
 use Rattle.definitions.specs.WellFormed.{wellFormed}
-use Rattle.window_spans.specs.Spans.{sizeBound}
+use Rattle.match_windows.specs.Spans.{sizeBound}
 
 -- of a payload s and a decoded buffer d
 pub record Searchable (t : Table) (s d : List ℕ) : Type 0 where

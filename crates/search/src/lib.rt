@@ -13,7 +13,7 @@ use definitions::packet::FieldMap;
 use definitions::packet::Last;
 use definitions::packet::Start;
 use definitions::table::Table;
-use meaning::heads::head_holds;
+use match_items::heads::head_holds;
 use search_items::from_item;
 use search_state::input::SearchInput;
 use search_state::outcomes::Outcome;

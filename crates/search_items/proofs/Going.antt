@@ -18,7 +18,7 @@ use Rattle.definitions.specs.Fields.{View}
 use Rattle.definitions.specs.Tests.{testHolds}
 use Rattle.definitions.specs.Placements.{Wanted, placed, nowhere, tested, wanted, nowhereHolds, placements}
 use Rattle.fields.specs.Seen.{seen}
-use Rattle.meaning.specs.Bounds.{Bounded}
+use Rattle.match_items.specs.Bounds.{Bounded}
 use Rattle.search_state.specs.declared.outcomes.Outcome.{Outcome}
 use Rattle.search_state.specs.Outcomes.{nothing}
 use Rattle.search_state.specs.Choosing.{answer}

@@ -26,8 +26,8 @@ use Rattle.definitions.specs.Placements.{Wanted, placed, nowhere, tested, wante
 use Rattle.definitions.proofs.table.Item as item-type
 use Rattle.definitions.proofs.OtherItems.{other-kind}
 use Rattle.list_laws.proofs.Firsts.{first-here, first-out}
-use Rattle.window_spans.specs.Spans.{sizeBound}
-use Rattle.meaning.specs.Bounds.{Bounded}
+use Rattle.match_windows.specs.Spans.{sizeBound}
+use Rattle.match_items.specs.Bounds.{Bounded}
 use Rattle.search_state.specs.Outcomes.{nothing}
 use Rattle.search_state.specs.Choosing.{push, answer}
 use Rattle.search_state.proofs.Answering.{answer-nothing}

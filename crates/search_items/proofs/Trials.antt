@@ -20,11 +20,11 @@ use Rattle.definitions.specs.Placements.{Wanted, placed, wanted, startsTo, spre
 use Rattle.laws.proofs.StartOrder.{number-not-before}
 use Rattle.laws.proofs.Keep.{keep-none}
 use Rattle.list_laws.proofs.Every.{drop-here}
-use Rattle.window_spans.specs.declared.Window.{Window}
-use Rattle.window_spans.specs.Spans.{sizeBound, Spans, placesOf}
-use Rattle.windows.proofs.Listing.{standing, places-window}
+use Rattle.match_windows.specs.declared.Window.{Window}
+use Rattle.match_windows.specs.Spans.{sizeBound, Spans, placesOf}
+use Rattle.match_patterns.proofs.Listing.{standing, places-window}
 use Rattle.fields.specs.Seen.{seen}
-use Rattle.meaning.proofs.Placing.{starts-present}
+use Rattle.match_items.proofs.Placing.{starts-present}
 use Rattle.search_state.specs.declared.outcomes.Outcome.{Outcome}
 use Rattle.search_state.specs.Outcomes.{nothing}
 use Rattle.search_state.specs.Choosing.{push, answer, foundOr, startFrom}

@@ -12,7 +12,7 @@ use Rattle.definitions.specs.Items.{patternsOf}
 use Rattle.definitions.specs.WellFormed.{bytesOf}
 use Rattle.definitions.specs.Windows.{lastEnd}
 use Rattle.definitions.specs.Placements.{wanted, positives}
-use Rattle.window_spans.specs.Spans.{sizeBound}
+use Rattle.match_windows.specs.Spans.{sizeBound}
 
 -- lengths and places stay far below what a number holds: of pattern bytes b, a payload s and a decoded buffer d
 pub record Small (b s d : List ℕ) (l : Last) : Type 0 where

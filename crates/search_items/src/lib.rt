@@ -15,9 +15,11 @@ use definitions::table::Item;
 use definitions::table::Pattern;
 use fields::field_of;
 use fields::is_present;
+use match_items::negated::negated_holds;
+use match_items::test_holds;
+use match_patterns::bytes::stands_at;
 use match_starts::start_at;
-use meaning::negated::negated_holds;
-use meaning::test_holds;
+use match_windows::starts::window;
 use search_state::chosen::finish;
 use search_state::chosen::last_after;
 use search_state::chosen::start_from;
@@ -26,8 +28,6 @@ use search_state::chosen::with_start;
 use search_state::input::SearchInput;
 use search_state::outcomes::Outcome;
 use search_state::outcomes::no_match;
-use window_spans::starts::window;
-use windows::bytes::stands_at;
 
 // The first placement of the items from k on, after the starts chosen; where `on_bound`, the first after those to pass. `bytes` are the pattern
 // bytes from item k's on, `last` is the last positive pattern before it.

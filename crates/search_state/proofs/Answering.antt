@@ -16,7 +16,7 @@ use Rattle.definitions.specs.Starts.{startAt, startBefore, sameStart}
 use Rattle.definitions.specs.Placements.{lexLess, upFrom, spread}
 use Rattle.laws.proofs.StartOrder.{before-asymmetric, before-total, before-differs, after-differs, number-before}
 use Rattle.laws.proofs.Keep.{keep-append}
-use Rattle.windows.proofs.Listing.{from, passed}
+use Rattle.match_patterns.proofs.Listing.{from, passed}
 use Rattle.search_state.specs.Outcomes.{nothing}
 use Rattle.search_state.specs.Choosing.{push, extend, firstOf, answer, afterIf, foundOr, startFrom}
 

@@ -7,7 +7,7 @@ ghost use Rattle.definitions.specs.declared.packet.Start.{Start};
 ghost use Rattle.definitions.specs.Limits.{patternsMost};
 ghost use Rattle.definitions.specs.References.{lastAfter};
 ghost use Rattle.definitions.specs.Starts.{sameStart};
-ghost use Rattle.window_spans.specs.Spans.{sizeBound};
+ghost use Rattle.match_windows.specs.Spans.{sizeBound};
 ghost use Rattle.search_state.specs.Choosing.{push, answer, startFrom};
 use crate::outcomes::Outcome;
 use crate::outcomes::no_match;

@@ -5,18 +5,18 @@ ghost use Rattle.forms.specs.Bytes.{text};
 ghost use Rattle.definitions.specs.Limits.{limits01};
 ghost use Rattle.definitions.specs.Lines.{refusedLine, houseLine, lineOf};
 ghost use Rattle.definitions.specs.Writing.{writingDue};
-ghost use Rattle.output.specs.Puts.{Puts};
-use codes::number_of;
+ghost use Rattle.write_bytes.specs.Puts.{Puts};
 use definitions::answers::ReadOutcome;
 use definitions::answers::Refusal;
 use definitions::answers::Writing;
 use definitions::limits::HOUSE_BYTES;
 use definitions::table::Table;
-use output::put;
-use output::put_decimal;
-use output::put_front;
-use output::put_word;
 use reader::read;
+use refusal_numbers::number_of;
+use write_bytes::put;
+use write_bytes::put_decimal;
+use write_bytes::put_front;
+use write_bytes::put_word;
 use writer::write;
 
 // Refusal, tab, place.

@@ -2,7 +2,7 @@
 ghost use lib.ListN.{take};
 ghost use Rattle.definitions.specs.Limits.{limits01};
 ghost use Rattle.definitions.specs.Lines.{lineOf};
-ghost use Rattle.output.specs.Puts.{Puts};
+ghost use Rattle.write_bytes.specs.Puts.{Puts};
 ghost use Rattle.line_stream.specs.Stream.{lastLine, Feeds};
 use line_stream::Begun;
 use line_stream::Fed;

@@ -4,10 +4,10 @@ ghost use mathlib.Core.Bool.{false};
 ghost use Prim.Native.Nat.{_<_};
 ghost use Rattle.definitions.specs.House.{hexDigit, patternText};
 ghost use Rattle.write_pattern_bytes.specs.Parts.{byteText};
-ghost use Rattle.output.specs.Puts.{Puts};
-use output::put;
-use output::put_if;
-use scan::bytes::is_plain;
+ghost use Rattle.write_bytes.specs.Puts.{Puts};
+use scan_bytes::bytes::is_plain;
+use write_bytes::put;
+use write_bytes::put_if;
 
 // 0 to 9, A to F.
 fn hex_digit(d: u8) -> u8

@@ -19,9 +19,9 @@ use Rattle.definitions.specs.WellFormed.{wellFormed}
 use Rattle.definitions.specs.House.{houseText}
 use Rattle.definitions.specs.Writing.{writingDue, writtenIf, bufferIf, writes, bufferAfter}
 use Rattle.roundtrip.proofs.Buffer.{house-written}
-use Rattle.output.specs.Puts.{countedMost, Puts}
-use Rattle.output.specs.Clipped.{atMost}
-use Rattle.output.proofs.Whole.{most-of, most-full, puts-count, puts-buffer, placed-whole}
+use Rattle.write_bytes.specs.Puts.{countedMost, Puts}
+use Rattle.write_bytes.specs.Clipped.{atMost}
+use Rattle.write_bytes.proofs.Whole.{most-of, most-full, puts-count, puts-buffer, placed-whole}
 
 -- a house text is measured: its length, or the most that is counted
 abbrev Measures : Table → ℕ → Type 0

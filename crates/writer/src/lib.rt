@@ -6,9 +6,9 @@ use definitions::answers::Refusal;
 use definitions::answers::Writing;
 use definitions::limits::HOUSE_BYTES;
 use definitions::table::Table;
-use formed::well_formed;
-use house::put_house;
-use output::put_front;
+use table_well_formed::well_formed;
+use write_bytes::put_front;
+use write_canonical::put_house;
 
 // The text is put into room of its own, of the length that it may have, which also measures it; where nothing is due, it is copied into the buffer that is
 // lent.

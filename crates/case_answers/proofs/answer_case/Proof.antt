@@ -1,7 +1,7 @@
 -- The line's length, its five tabs, and then its columns.
 use mathlib.Core.Path.{_≡_, refl, sym, _∙_}
 use borrow.Author.Tests.{not-true, not-false}
-use Rattle.output.proofs.Putting.{told, same-length as same}
+use Rattle.write_bytes.proofs.Putting.{told, same-length as same}
 use Rattle.case_answers.proofs.Columns.{long-line, few-tabs, packet-le, decoded-le, as-columns}
 use Rattle.case_answers.proofs.answer_case.Statement.{statement}
 use Rattle.case_answers.proofs.answer_case.Tie as tie

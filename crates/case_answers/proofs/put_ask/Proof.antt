@@ -1,5 +1,5 @@
 use mathlib.Core.Path.{_≡_, sym, ap, _∙_}
-use Rattle.output.proofs.Putting.{told, same-length as same}
+use Rattle.write_bytes.proofs.Putting.{told, same-length as same}
 use Rattle.case_columns.specs.Asks.{askBy}
 use Rattle.case_lists.specs.AnswerTexts.{answerText}
 use Rattle.case_answers.specs.CaseAnswers.{askText}

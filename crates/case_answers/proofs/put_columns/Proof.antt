@@ -1,7 +1,7 @@
 -- The ask, then the columns of the packet: `bad` where one is of another form.
 use mathlib.Core.Path.{refl, sym, _∙_}
 use borrow.Author.Tests.{not-true, not-false}
-use Rattle.output.proofs.Putting.{told, same-length as same}
+use Rattle.write_bytes.proofs.Putting.{told, same-length as same}
 use Rattle.line_packets.proofs.FourColumns.{failed-packet, parsed-packet, packet-value, hex-packet, hex-decoded}
 use Rattle.case_columns.proofs.Asks.{ask-is, ask-says}
 use Rattle.case_answers.proofs.Columns.{no-ask, no-packet, good-columns}

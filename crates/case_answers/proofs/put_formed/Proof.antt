@@ -1,5 +1,5 @@
 use native.Mathlib.Omega.{arith}
-use Rattle.output.proofs.Putting.{told, same-length as same}
+use Rattle.write_bytes.proofs.Putting.{told, same-length as same}
 use Rattle.line_numbers.proofs.HexBytes.{pairs-in, pairs-are}
 use Rattle.case_answers.specs.CaseLines.{maxLine}
 use Rattle.case_answers.proofs.Columns.{room-is, formed-is}

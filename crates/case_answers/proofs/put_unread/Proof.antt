@@ -3,7 +3,7 @@ use mathlib.Core.List.{_++_}
 use Prim.Native.Nat.{ℕ}
 use Rattle.forms.specs.Bytes.{text}
 use Rattle.definitions.specs.House.{decimal}
-use Rattle.output.proofs.Putting.{then, told, same-length as same}
+use Rattle.write_bytes.proofs.Putting.{then, told, same-length as same}
 use Rattle.case_answers.proofs.put_unread.Statement.{statement}
 use Rattle.case_answers.proofs.put_unread.Tie as tie
 

@@ -1,5 +1,5 @@
 use borrow.Author.Tests.{lt-ltb, le-ltb}
-use Rattle.output.specs.Puts.{countedMost}
+use Rattle.write_bytes.specs.Puts.{countedMost}
 use Rattle.line_stream.proofs.has_room.Statement.{statement}
 use Rattle.line_stream.proofs.has_room.Tie as tie
 

@@ -2,7 +2,7 @@
 use mathlib.Core.Path.{refl, sym}
 use native.Mathlib.Omega.{arith}
 use lib.ListN.{length}
-use Rattle.output.proofs.Clipping.{at-most-le, part-most}
+use Rattle.write_bytes.proofs.Clipping.{at-most-le, part-most}
 use borrow.Author.Needs.{needs}
 use Rattle.line_stream.proofs.kept.Statement.{statement}
 use Rattle.line_stream.proofs.kept.Tie as tie

@@ -1,4 +1,4 @@
-use Rattle.output.proofs.Putting.{then}
+use Rattle.write_bytes.proofs.Putting.{then}
 use borrow.Author.Needs.{needs}
 use Rattle.line_stream.proofs.open_line.Statement.{statement}
 use Rattle.line_stream.proofs.open_line.Tie as tie

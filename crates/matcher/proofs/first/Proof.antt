@@ -1,6 +1,6 @@
 -- A refusal is the first due of 20 and 30 to 34; else the first goes by facts and payload.
 use mathlib.Core.Path.{_∙_}
-use Rattle.placement_list.proofs.Cleared.{seen-cleared, searchable}
+use Rattle.match_placements.proofs.Cleared.{seen-cleared, searchable}
 use Rattle.matcher.proofs.Answering.{first-refused, first-here}
 use Rattle.matcher.proofs.first.Statement.{statement}
 use Rattle.matcher.proofs.first.Tie as tie

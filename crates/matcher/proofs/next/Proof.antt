@@ -1,6 +1,6 @@
 -- A refusal is the first due of 20 and 30 to 34; else the next goes by facts and payload.
 use mathlib.Core.Path.{_∙_}
-use Rattle.placement_list.proofs.Cleared.{seen-cleared, searchable}
+use Rattle.match_placements.proofs.Cleared.{seen-cleared, searchable}
 use Rattle.matcher.proofs.Answering.{next-refused, next-here}
 use Rattle.matcher.proofs.next.Statement.{statement}
 use Rattle.matcher.proofs.next.Tie as tie

@@ -1,7 +1,7 @@
 -- A refusal is the first due of 20 and 30 to 34; else the verdict is what the first by facts and payload comes to.
 use mathlib.Core.Path.{ap, _∙_}
 use Rattle.definitions.specs.declared.answers.Answer.{Answer}
-use Rattle.placement_list.proofs.Cleared.{seen-cleared, searchable}
+use Rattle.match_placements.proofs.Cleared.{seen-cleared, searchable}
 use Rattle.matcher.specs.Verdicts.{verdictOf}
 use Rattle.matcher.proofs.Answering.{verdict-refused, verdict-here}
 use Rattle.matcher.proofs.verdict.Statement.{statement}

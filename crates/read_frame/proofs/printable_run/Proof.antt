@@ -5,8 +5,8 @@ use Prim.Native.Nat.{ℕ}
 use Rattle.forms.specs.Form.{has}
 use Rattle.forms.proofs.Bools.{or-false}
 use Rattle.definitions.specs.Options.{printable}
-use Rattle.scan.specs.Classes.{classOf}
-use Rattle.scan.specs.declared.bytes.Class.the-variants.{Printable}
+use Rattle.scan_bytes.specs.Classes.{classOf}
+use Rattle.scan_bytes.specs.declared.bytes.Class.the-variants.{Printable}
 use Rattle.list_laws.proofs.Runs.{run-same}
 use borrow.Author.Needs.{needs}
 use Rattle.read_frame.proofs.printable_run.Statement.{statement}

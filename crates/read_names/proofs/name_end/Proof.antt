@@ -4,8 +4,8 @@ use Prim.Native.Nat.{ℕ, _+_}
 use lib.ListN.{drop}
 use Rattle.forms.specs.Form.{has}
 use Rattle.definitions.specs.Options.{inName}
-use Rattle.scan.specs.Classes.{classOf}
-use Rattle.scan.specs.declared.bytes.Class.the-variants.{NameByte}
+use Rattle.scan_bytes.specs.Classes.{classOf}
+use Rattle.scan_bytes.specs.declared.bytes.Class.the-variants.{NameByte}
 use Rattle.list_laws.proofs.Runs.{run-same}
 use Rattle.read_names.proofs.NameBytes.{name-bytes}
 use borrow.Author.Needs.{needs}

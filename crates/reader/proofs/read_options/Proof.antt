@@ -10,8 +10,8 @@ use lib.Seq.{set-out}
 use Rattle.definitions.specs.declared.table.Slot.{Slot}
 use Rattle.definitions.specs.Limits.{limits01, itemsMost}
 use Rattle.definitions.specs.Reading.{Said, options, finished}
-use Rattle.reader_state.specs.State.{Holds}
-use Rattle.enter.proofs.OneMore.{sound, bytes-full, items-full}
+use Rattle.read_state.specs.State.{Holds}
+use Rattle.read_insert.proofs.OneMore.{sound, bytes-full, items-full}
 use Rattle.reader.proofs.Steps.{fresh-holds}
 use Rattle.reader.proofs.Looping.{goes-space, goes-told, loop-out}
 use Rattle.reader.proofs.read_options.Statement.{statement}

@@ -7,8 +7,8 @@ use lib.ListN.{length}
 use borrow.Author.Tests.{not-true, not-false}
 use Rattle.definitions.specs.Limits.{itemsMost, patternsMost}
 use Rattle.definitions.specs.Placements.{wanted}
-use Rattle.window_spans.specs.Spans.{Measured}
-use Rattle.meaning.proofs.Placing.{measured}
+use Rattle.match_windows.specs.Spans.{Measured}
+use Rattle.match_items.proofs.Placing.{measured}
 use Rattle.search_state.specs.Inputs.{itemsLeft}
 use Rattle.search_items.proofs.Stepping.{length-mapped, trying-bounded}
 use Rattle.search_items.proofs.Going.{Gone, gone-none, gone-out, gone-test, stop-test, gone-nowhere, stop-nowhere, placed-first}
@@ -25,8 +25,8 @@ use Rattle.search_items.proofs.try_starts.Kinds as try-starts-kinds
 use Rattle.search_items.proofs.+from_item+try_starts.Lts-try_starts as try-starts-lts
 use Rattle.fields.proofs.field_of.Reads as field-of-reads
 use Rattle.fields.proofs.is_present.Reads as is-present-reads
-use Rattle.meaning.proofs.negated.negated_holds.Reads as negated-holds-reads
-use Rattle.meaning.proofs.test_holds.Reads as test-holds-reads
+use Rattle.match_items.proofs.negated.negated_holds.Reads as negated-holds-reads
+use Rattle.match_items.proofs.test_holds.Reads as test-holds-reads
 use Rattle.search_state.proofs.chosen.finish.Reads as finish-reads
 use Rattle.search_state.proofs.chosen.last_after.Reads as last-after-reads
 use Rattle.search_state.proofs.outcomes.no_match.Reads as no-match-reads
@@ -34,8 +34,8 @@ use Rattle.search_state.proofs.chosen.start_from.Reads as start-from-reads
 use Rattle.search_state.proofs.chosen.still_on_bound.Reads as still-on-bound-reads
 use Rattle.search_state.proofs.chosen.with_start.Reads as with-start-reads
 use Rattle.match_starts.proofs.start_at.Reads as start-at-reads
-use Rattle.windows.proofs.bytes.stands_at.Reads as stands-at-reads
-use Rattle.window_spans.proofs.starts.window.Reads as window-reads
+use Rattle.match_patterns.proofs.bytes.stands_at.Reads as stands-at-reads
+use Rattle.match_windows.proofs.starts.window.Reads as window-reads
 use Rattle.search_items.proofs.+from_item+try_starts.{statement}
 use Rattle.search_items.proofs.+from_item+try_starts.Tie.{close}
 

@@ -1,6 +1,6 @@
 -- A table is answered with its house text, a refusal with its number and place, as the definition does by the outcome.
 use Rattle.text_answers.proofs.Answers.{read-line, refused-line}
-use Rattle.output.proofs.Putting.{told}
+use Rattle.write_bytes.proofs.Putting.{told}
 use borrow.Author.Needs.{needs}
 use Rattle.text_answers.proofs.answer_text.Statement.{statement}
 use Rattle.text_answers.proofs.answer_text.Tie as tie

@@ -1,4 +1,4 @@
-use Rattle.output.proofs.Putting.{then}
+use Rattle.write_bytes.proofs.Putting.{then}
 use borrow.Author.Needs.{needs}
 use Rattle.text_answers.proofs.put_ok.Statement.{statement}
 use Rattle.text_answers.proofs.put_ok.Tie as tie

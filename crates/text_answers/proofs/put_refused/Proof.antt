@@ -1,6 +1,6 @@
 use mathlib.Core.Path.{sym, ap}
 use Rattle.definitions.specs.House.{decimal}
-use Rattle.output.proofs.Putting.{then, told}
+use Rattle.write_bytes.proofs.Putting.{then, told}
 use borrow.Author.Needs.{needs}
 use Rattle.text_answers.proofs.put_refused.Statement.{statement}
 use Rattle.text_answers.proofs.put_refused.Tie as tie

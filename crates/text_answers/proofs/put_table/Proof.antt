@@ -1,6 +1,6 @@
 use mathlib.Core.Path.{refl, sym, _∙_}
 use Rattle.text_answers.proofs.Answers.{wrote-line, declined-line}
-use Rattle.output.proofs.Putting.{told}
+use Rattle.write_bytes.proofs.Putting.{told}
 use borrow.Author.Needs.{needs}
 use Rattle.text_answers.proofs.put_table.Statement.{statement}
 use Rattle.text_answers.proofs.put_table.Tie as tie

@@ -2,7 +2,7 @@ use mathlib.Core.Path.{refl, ap}
 use Prim.Native.Nat.{_/_, _%_}
 use Rattle.write_pattern_bytes.specs.Parts.{byteText}
 use Rattle.write_pattern_bytes.proofs.Bytes.{hex-pair}
-use Rattle.output.proofs.Putting.{then, told, same-length as same}
+use Rattle.write_bytes.proofs.Putting.{then, told, same-length as same}
 use borrow.Author.Needs.{needs}
 use Rattle.write_pattern_bytes.proofs.put_byte.Statement.{statement}
 use Rattle.write_pattern_bytes.proofs.put_byte.Tie as tie

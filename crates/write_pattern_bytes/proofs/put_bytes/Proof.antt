@@ -6,8 +6,8 @@ use Prim.Native.Nat.{ℕ, _+_, _-_, _≤_}
 use native.Mathlib.Omega.{arith}
 use lib.ListN.{length, drop, getD}
 use Rattle.definitions.specs.House.{patternText}
-use Rattle.output.specs.Puts.{puts}
-use Rattle.output.proofs.Putting.{onward, same-length as same}
+use Rattle.write_bytes.specs.Puts.{puts}
+use Rattle.write_bytes.proofs.Putting.{onward, same-length as same}
 use Rattle.write_pattern_bytes.specs.Parts.{byteText}
 use Rattle.write_pattern_bytes.proofs.Bytes.{bytes-on, bytes-end}
 use Rattle.write_pattern_bytes.proofs.put_bytes.Statement.{statement}

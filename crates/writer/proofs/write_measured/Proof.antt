@@ -2,7 +2,7 @@
 use mathlib.Core.Path.{sym, _∙_}
 use borrow.Author.Needs.{needs}
 use borrow.Author.Tests.{not-true, not-false}
-use Rattle.output.proofs.Putting.{told}
+use Rattle.write_bytes.proofs.Putting.{told}
 use Rattle.writer.proofs.Measured.{measures, ill-formed, too-long, too-short, taken-back, written}
 use Rattle.writer.proofs.write_measured.Statement.{statement}
 use Rattle.writer.proofs.write_measured.Tie as tie

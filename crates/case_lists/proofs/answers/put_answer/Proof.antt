@@ -1,5 +1,5 @@
 use mathlib.Core.Path.{_≡_, refl, ap, _∙_}
-use Rattle.output.proofs.Putting.{told, same-length as same}
+use Rattle.write_bytes.proofs.Putting.{told, same-length as same}
 use Rattle.case_lists.specs.AnswerTexts.{foundText}
 use borrow.Author.Needs.{needs}
 use Rattle.case_lists.proofs.answers.put_answer.Statement.{statement}

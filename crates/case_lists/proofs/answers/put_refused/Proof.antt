@@ -1,5 +1,5 @@
 use mathlib.Core.Path.{_≡_, refl, sym, ap, _∙_}
-use Rattle.output.proofs.Putting.{then, told, same-length as same}
+use Rattle.write_bytes.proofs.Putting.{then, told, same-length as same}
 use mathlib.Core.List.{_++_}
 use Rattle.forms.specs.Bytes.{text}
 use Rattle.definitions.specs.House.{decimal}

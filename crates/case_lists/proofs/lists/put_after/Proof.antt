@@ -5,9 +5,9 @@ use native.Mathlib.Omega.{arith}
 use borrow.Author.Tests.{not-true, not-false}
 use Rattle.definitions.specs.Lists.{keep}
 use Rattle.definitions.specs.Placements.{lexLess}
-use Rattle.output.specs.Puts.{puts}
-use Rattle.output.proofs.Putting.{same-length as same}
-use Rattle.placement_list.specs.Listing.{listIn}
+use Rattle.write_bytes.specs.Puts.{puts}
+use Rattle.write_bytes.proofs.Putting.{same-length as same}
+use Rattle.match_placements.specs.Listing.{listIn}
 use Rattle.case_lists.specs.AnswerTexts.{placementsAfter, afterMost}
 use Rattle.case_lists.proofs.Rest.{list-ordered}
 use Rattle.case_lists.proofs.Listing.{left-none, left-on, left-over}

@@ -1,6 +1,6 @@
 -- A refusal is the first due of 20 and 30 to 34; else what is still due and the list go by facts and payload.
-use Rattle.output.proofs.Putting.{told, same-length as same}
-use Rattle.placement_list.proofs.Cleared.{refused-due, seen-cleared, searchable, due-here, list-here}
+use Rattle.write_bytes.proofs.Putting.{told, same-length as same}
+use Rattle.match_placements.proofs.Cleared.{refused-due, seen-cleared, searchable, due-here, list-here}
 use Rattle.case_lists.proofs.lists.put_list.Statement.{statement}
 use Rattle.case_lists.proofs.lists.put_list.Tie as tie
 

@@ -1,7 +1,7 @@
 -- The answer to "first" is written where it is no placement; else the placement, and those after it.
 use Rattle.definitions.specs.Fields.{fieldsDue}
-use Rattle.output.proofs.Putting.{then, told, same-length as same}
-use Rattle.placement_list.specs.Listing.{listIn, firstIn}
+use Rattle.write_bytes.proofs.Putting.{then, told, same-length as same}
+use Rattle.match_placements.specs.Listing.{listIn, firstIn}
 use Rattle.case_lists.proofs.Rest.{list-ordered}
 use Rattle.case_lists.proofs.Listing.{first-not, first-one}
 use Rattle.case_lists.proofs.lists.put_seen.Statement.{statement}

@@ -1,5 +1,5 @@
 use mathlib.Core.Path.{_≡_, _∙_}
-use Rattle.output.proofs.Putting.{then, same-length as same}
+use Rattle.write_bytes.proofs.Putting.{then, same-length as same}
 use Rattle.case_lists.proofs.placements.put_placement.Statement.{statement}
 use Rattle.case_lists.proofs.placements.put_placement.Tie as tie
 

@@ -1,10 +1,10 @@
 use mathlib.Core.Path.{_≡_, ap, _∙_}
 use native.Mathlib.Omega.{arith}
-use Rattle.output.proofs.Putting.{then, told, none-put, same-length as same}
+use Rattle.write_bytes.proofs.Putting.{then, told, none-put, same-length as same}
 use Prim.Native.Nat.{_≤_, _<_}
 use lib.ListN.{length}
 use Rattle.definitions.specs.Limits.{patternsMost}
-use Rattle.output.proofs.Clipping.{at-most-le, taken-most}
+use Rattle.write_bytes.proofs.Clipping.{at-most-le, taken-most}
 use Rattle.case_lists.specs.AnswerTexts.{startsText}
 use Rattle.case_lists.proofs.Listing.{starts-none, starts-first}
 use Rattle.case_lists.proofs.placements.put_starts.Statement.{statement}

@@ -1,10 +1,10 @@
 -- A comma and the start at the loop's place, and what is still to come after it.
 use mathlib.Core.Path.{_≡_, refl, sym, ap, _∙_}
 use native.Mathlib.Omega.{arith}
-use Rattle.output.proofs.Putting.{then, onward, same-length as same}
+use Rattle.write_bytes.proofs.Putting.{then, onward, same-length as same}
 use Prim.Native.Nat.{_+_, _-_, _≤_}
 use lib.ListN.{length, take, drop}
-use Rattle.output.specs.Puts.{puts}
+use Rattle.write_bytes.specs.Puts.{puts}
 use Rattle.case_lists.specs.AnswerTexts.{startsAfter}
 use Rattle.case_lists.proofs.Listing.{starts-on, starts-end}
 use Rattle.case_lists.proofs.placements.put_starts_after.Statement.{statement}

@@ -4,8 +4,8 @@ use Prim.Native.Nat.{_+_, _-_, _≤_, _<_}
 use native.Mathlib.Omega.{arith}
 use lib.ListN.{length, drop}
 use Rattle.definitions.specs.Cases.{pairs}
-use Rattle.output.specs.Puts.{puts}
-use Rattle.output.proofs.Putting.{same-length as same}
+use Rattle.write_bytes.specs.Puts.{puts}
+use Rattle.write_bytes.proofs.Putting.{same-length as same}
 use Rattle.line_numbers.specs.HexPairs.{isHex}
 use Rattle.line_numbers.proofs.HexBytes.{pair-fits, pair-on, pairs-out}
 use Rattle.line_numbers.proofs.hex_pairs.put_pairs.Statement.{statement}

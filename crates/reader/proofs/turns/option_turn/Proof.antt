@@ -6,10 +6,10 @@ use native.Mathlib.Omega.{arith}
 use lib.ListN.{set}
 use Rattle.definitions.specs.declared.table.Slot.{Slot}
 use Rattle.definitions.specs.Options.{listed}
-use Rattle.entry.specs.Values.{Room, entryOf}
+use Rattle.read_value.specs.Values.{Room, entryOf}
 use Rattle.scan_cursors.specs.Reads.{readBy}
-use Rattle.reader_state.specs.State.{Holds, entryIn, saidAlso}
-use Rattle.enter.proofs.OneMore.{bytes-full}
+use Rattle.read_state.specs.State.{Holds, entryIn, saidAlso}
+use Rattle.read_insert.proofs.OneMore.{bytes-full}
 use Rattle.reader.specs.declared.turns.Turn.{Turn}
 use Rattle.reader.specs.Turning.{TurnsTo}
 use Rattle.reader.proofs.Listed.{option-at, name-inside}

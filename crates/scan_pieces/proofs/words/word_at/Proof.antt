@@ -1,5 +1,5 @@
 use Rattle.scan_pieces.proofs.AtPlace.{begins-in}
-use Rattle.scan.specs.Classes.{caseClass}
+use Rattle.scan_bytes.specs.Classes.{caseClass}
 use lib.ListN.{getD}
 use mathlib.Core.Path.{sym, _∙_}
 use native.Mathlib.Omega.{arith}

@@ -1,2 +1,0 @@
--- What the contracts of `enter_counted` cite.
-pub mod Counting

@@ -1,2 +1,0 @@
--- What the contracts of `enter_modifiers` cite.
-pub mod Modifying

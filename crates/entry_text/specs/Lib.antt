@@ -1,2 +1,0 @@
--- What the contracts of `entry_text` cite.
-pub mod Parts

@@ -1,2 +1,0 @@
--- What the contracts of `keywords` cite.
-pub mod Keywords

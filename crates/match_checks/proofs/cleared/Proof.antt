@@ -1,0 +1,22 @@
+-- Each return rewrites with what the test of the table says; behind it the packet's own answer is the definition's.
+use mathlib.Core.Path.{sym, _∙_}
+use borrow.Author.Tests.{not-true, not-false}
+use Rattle.definitions.specs.Packet.{packetAnswer}
+use Rattle.match_checks.proofs.cleared.Statement.{statement}
+use Rattle.match_checks.proofs.cleared.Tie as tie
+
+well-formed-requires : tie.Need-well-formed-requires
+well-formed-requires c κs = tt
+
+returns : tie.Need-returns
+returns c = rw (sym (c .before .well-formed .ensures) ∙ not-true _ (c .if1 .taken))
+
+packet-facts-requires : tie.Need-packet-facts-requires
+packet-facts-requires c κs = tt
+
+returns-2 : tie.Need-returns-2
+unfolding packetAnswer
+returns-2 c = rw (sym (c .before .before .well-formed .ensures) ∙ not-false _ (c .before .if1 .left)) (c .packet-facts .ensures)
+
+pub cleared-spec : {M : Type 1} → statement M
+cleared-spec = tie.close (tie.spec well-formed-requires returns packet-facts-requires returns-2)

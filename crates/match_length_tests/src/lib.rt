@@ -1,0 +1,106 @@
+// Tests of a field's length. On an absent field none holds.
+ghost use mathlib.Core.Path.{_≡_};
+ghost use lib.ListN.{length};
+ghost use Rattle.definitions.specs.Fields.{fieldOf, sizeContext};
+ghost use Rattle.definitions.specs.Tests.{atContext, atStart, atExists, sizeHolds, atHolds};
+ghost use Rattle.fields.specs.Seen.{seen};
+ghost use Rattle.definitions.specs.declared.packet.Facts.{Facts};
+use definitions::packet::FieldMap;
+use definitions::packet::Last;
+use definitions::table::AtTest;
+use definitions::table::Context;
+use definitions::table::SizeField;
+use definitions::table::SizeTest;
+use fields::field_of;
+use fields::is_present;
+use match_number_tests::of_word;
+use match_number_tests::order_holds;
+
+fn field_length<'a>(payload: &'a [u8], decoded: &'a [u8], m: FieldMap, c: Context) -> usize
+    ensures { λ r. ⌜ r ≡ length (fieldOf (now (payload .entry)) (now (decoded .entry)) m c) ⌝ }
+{
+    let f = field_of(payload, decoded, m, c);
+    f.len()
+}
+
+fn size_context(field: SizeField) -> Context
+    ensures { λ r. ⌜ r ≡ sizeContext field ⌝ }
+{
+    match field {
+        SizeField::Payload => Context::Packet,
+        SizeField::Uri => Context::Uri,
+        SizeField::Header => Context::Header,
+        SizeField::Body => Context::Body,
+    }
+}
+
+// data_size.
+pub fn size_holds<'a>(payload: &'a [u8], decoded: &'a [u8], m: FieldMap, t: SizeTest) -> bool
+    ensures { λ r. ⌜ ((f : Facts) → r ≡ sizeHolds (seen f (now (payload .entry)) (now (decoded .entry)) m) t) ⌝ }
+{
+    let field = t.field;
+    let order = t.order;
+    let c = size_context(field);
+    if !is_present(m, c) {
+        return false;
+    }
+    let len = field_length(payload, decoded, m, c);
+    let n = of_word(t.number);
+    order_holds(order, len, n)
+}
+
+// The field that data_at looks into.
+fn at_context(relative: bool, last: Last) -> Context
+    ensures { λ r. ⌜ r ≡ atContext relative last ⌝ }
+{
+    if !relative {
+        return Context::Packet;
+    }
+    match last {
+        Last::Nothing => Context::Packet,
+        Last::Was(m) => m.context,
+    }
+}
+
+// Where data_at counts from.
+fn at_start(relative: bool, last: Last) -> usize
+    ensures { λ r. ⌜ r ≡ atStart relative last ⌝ }
+{
+    if !relative {
+        return 0;
+    }
+    match last {
+        Last::Nothing => 0,
+        Last::Was(m) => m.end,
+    }
+}
+
+// The byte at n behind a start exists in a field of so many bytes; no sum of the two can wrap here.
+fn at_exists(n: usize, start: usize, len: usize) -> bool
+    ensures { λ r. ⌜ r ≡ atExists n start len ⌝ }
+{
+    if len <= start {
+        return false;
+    }
+    n < len - start
+}
+
+// data_at.
+pub fn at_holds<'a>(
+    payload: &'a [u8],
+    decoded: &'a [u8],
+    m: FieldMap,
+    t: AtTest,
+    last: Last,
+) -> bool
+    ensures { λ r. ⌜ ((f : Facts) → r ≡ atHolds (seen f (now (payload .entry)) (now (decoded .entry)) m) t last) ⌝ }
+{
+    let context = at_context(t.relative, last);
+    if !is_present(m, context) {
+        return false;
+    }
+    let start = at_start(t.relative, last);
+    let len = field_length(payload, decoded, m, context);
+    let n = of_word(t.number);
+    at_exists(n, start, len)
+}

@@ -1,0 +1,59 @@
+// The bytes of a pattern at a place, where they fit: nothing but the bytes is tested.
+ghost use mathlib.Core.Path.{_≡_};
+ghost use mathlib.Core.Bool.{true, false};
+ghost use Prim.Native.Nat.{_+_, _≤_};
+ghost use lib.ListN.{length, drop};
+ghost use Rattle.definitions.specs.Windows as windows;
+use scan_case::lower_of;
+
+// Letters A to Z and a to z alike, any other byte equal. Every comparison under no_case goes through here.
+fn alike(x: u8, y: u8) -> bool
+    ensures { λ r. ⌜ r ≡ windows.alike true x y ⌝ }
+{
+    let a = lower_of(x);
+    let b = lower_of(y);
+    a == b
+}
+
+// The bytes `b` stand in the field at the place, each equal.
+fn equal_at(b: &[u8], f: &[u8], at: usize) -> bool
+    requires { ⌜ at + length (now b) ≤ length (now f) ⌝ }
+    ensures { λ r. ⌜ r ≡ windows.standsAt false (now (b .entry)) (drop at (now (f .entry))) ⌝ }
+{
+    let mut i = 0;
+    while i < b.len() {
+        if b[i] != f[at + i] {
+            return false;
+        }
+        i += 1;
+    }
+    true
+}
+
+// The bytes `b` stand in the field at the place, each alike under no_case.
+fn alike_at(b: &[u8], f: &[u8], at: usize) -> bool
+    requires { ⌜ at + length (now b) ≤ length (now f) ⌝ }
+    ensures { λ r. ⌜ r ≡ windows.standsAt true (now (b .entry)) (drop at (now (f .entry))) ⌝ }
+{
+    let mut i = 0;
+    while i < b.len() {
+        let x = b[i];
+        let y = f[at + i];
+        if !alike(x, y) {
+            return false;
+        }
+        i += 1;
+    }
+    true
+}
+
+// The bytes `b` stand in the field at the place.
+pub fn stands_at(nocase: bool, b: &[u8], f: &[u8], at: usize) -> bool
+    requires { ⌜ at + length (now b) ≤ length (now f) ⌝ }
+    ensures { λ r. ⌜ r ≡ windows.standsAt nocase (now (b .entry)) (drop at (now (f .entry))) ⌝ }
+{
+    if nocase {
+        return alike_at(b, f, at);
+    }
+    equal_at(b, f, at)
+}

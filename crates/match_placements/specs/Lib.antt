@@ -1,0 +1,2 @@
+-- What the contracts of `match_placements` cite besides the definitions.
+pub mod Listing

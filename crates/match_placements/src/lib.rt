@@ -1,0 +1,78 @@
+// The list of placements by a datagram's facts and payload: its first, and the least after a placement held. Refusals 35 and 36 come first, in this
+// order; those before them the caller has tested.
+pub mod answers;
+mod positives;
+
+ghost use mathlib.Core.Path.{_≡_};
+ghost use Rattle.search.specs.Searching.{Searchable};
+ghost use Rattle.match_placements.specs.Listing.{firstIn, nextIn};
+use crate::answers::answered;
+use crate::answers::refused;
+use crate::positives::positive_count;
+use definitions::answers::Answer;
+use definitions::answers::Due;
+use definitions::answers::Refusal;
+use definitions::limits::PATTERNS;
+use definitions::packet::Direction;
+use definitions::packet::Facts;
+use definitions::packet::FieldMap;
+use definitions::packet::Placement;
+use definitions::packet::Start;
+use definitions::table::Table;
+use fields::fields_due;
+use search::find;
+
+// Refusal 35, or the first of the list, or none.
+pub fn first_in<'a>(
+    t: Table,
+    facts: Facts,
+    payload: &'a [u8],
+    decoded: &'a [u8],
+    dir: Direction,
+    m: FieldMap,
+) -> Answer
+    requires { ⌜ Searchable t (now payload) (now decoded) ⌝ }
+    ensures { λ r. ⌜ r ≡ firstIn t facts (now (payload .entry)) (now (decoded .entry)) dir m ⌝ }
+{
+    let due = fields_due(payload, decoded, m);
+    if let Due::No(r) = due {
+        return refused(r);
+    }
+    let x = find(
+        t,
+        facts,
+        payload,
+        decoded,
+        dir,
+        m,
+        [Start { at: 0 }; PATTERNS],
+        false,
+    );
+    answered(x)
+}
+
+// Refusal 35 or 36, or the least of the list after the placement held, or none.
+pub fn next_in<'a>(
+    t: Table,
+    facts: Facts,
+    payload: &'a [u8],
+    decoded: &'a [u8],
+    dir: Direction,
+    m: FieldMap,
+    held: Placement,
+) -> Answer
+    requires { ⌜ Searchable t (now payload) (now decoded) ⌝ }
+    ensures { λ r. ⌜ r ≡ nextIn t facts (now (payload .entry)) (now (decoded .entry)) dir m held ⌝ }
+{
+    let due = fields_due(payload, decoded, m);
+    if let Due::No(r) = due {
+        return refused(r); // 35 comes before 36
+    }
+    let items = t.items;
+    if held.count != positive_count(items, t.count) {
+        return refused(Refusal::EarlierCount);
+    }
+    let bound = held.starts;
+    let x = find(t, facts, payload, decoded, dir, m, bound, true);
+    answered(x)
+}

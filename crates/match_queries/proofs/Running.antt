@@ -1,0 +1,107 @@
+-- A run of asks, turn by turn: the buffer with some asks answered, and the others still to come, is what is written in the end.
+use mathlib.Core.Path.{_≡_, refl, sym, ap, _∙_}
+use mathlib.Core.Bool.{true, false}
+use mathlib.Core.List.{List, [], _∷_, _++_, map, append-assoc, append-nil}
+use Prim.Native.Nat.{ℕ, zero, suc, _+_, _-_, _*_, _≤_, _<_}
+use native.Mathlib.Numerals.{add-one}
+use native.Mathlib.Omega.{arith}
+use lib.ListN.{length, take, drop, getD, length-append, length-take, length-drop, drop-of-length-le, take-append-drop}
+use lib.Seq.{drop-cons, take-at, drop-append-add, drop-drop}
+use borrow.Author.Tests.{le-leb, lt-leb}
+use Rattle.definitions.specs.declared.table.Table.{Table}
+use Rattle.definitions.specs.declared.packet.Direction.{Direction}
+use Rattle.definitions.specs.declared.packet.FieldMap.{FieldMap}
+use Rattle.definitions.specs.declared.packet.Placement.{Placement}
+use Rattle.definitions.specs.declared.answers.Answer.{Answer}
+use Rattle.definitions.specs.declared.answers.Ask.the-variants.{First, Next}
+use Rattle.definitions.specs.Asks.{answerNumbers, answerTo, answers}
+use Rattle.match_queries.specs.Runs.{askOf, numbersOfOne, allNumbers, room, written}
+
+pub ask-first : (a : ℕ) → a ≡ 0 → First ≡ askOf a
+ask-first zero e = refl
+ask-first (suc a) e = absurd (let z : ⊥ = omega arith in z)
+
+pub ask-next : (a : ℕ) → (a ≡ 0 → ⊥) → Next ≡ askOf a
+ask-next zero e = absurd (e refl)
+ask-next (suc a) e = refl
+
+-- ---- the two outcomes
+
+module _ (t : Table) (p d : List ℕ) (dir : Direction) (m : FieldMap) where
+  pub no-room : (h : Placement) (asks out : List ℕ) → length out < length asks * numbersOfOne → (false ≡ room asks out) × (out ≡ written t p d dir m h asks out)
+  unfolding written
+  no-room h asks out k = rw (lt-leb (length asks * numbersOfOne) (length out) k) (refl, refl)
+
+  -- an answer for each ask
+  pub answers-length : (h : Placement) (asks : List ℕ) → length (answers t p d dir m h (map askOf asks)) ≡ length asks
+  unfolding answers
+  answers-length h [] = refl
+  answers-length h (a ∷ asks) = ap suc (answers-length (answerTo t p d dir m h (askOf a) .placement) asks)
+
+  -- the buffer with i asks answered, and the others still to come from the placement h
+  abbrev pub pending : List ℕ → List ℕ → Placement → ℕ → List ℕ
+  pending asks out h i =
+      take (i * numbersOfOne) out ++ allNumbers (answers t p d dir m h (map askOf (drop i asks))) ++ drop (length asks * numbersOfOne) out
+
+  pub run-start : (h : Placement) (asks out : List ℕ) → length asks * numbersOfOne ≤ length out → written t p d dir m h asks out ≡ pending asks out h 0
+  unfolding written
+  run-start h asks out k = rw (le-leb (length asks * numbersOfOne) (length out) k)
+
+  run-end : (asks out : List ℕ) (h : Placement) (i : ℕ) → i ≡ length asks → pending asks out h i ≡ out
+  unfolding answers allNumbers
+  run-end asks out h i e =
+      let l : length asks ≤ i = omega arith in
+      let k : length asks * numbersOfOne ≡ i * numbersOfOne = omega arith in
+      rw (drop-of-length-le asks l, k)
+      (ap (λ (u : List ℕ). u ++ drop (i * numbersOfOne) out) (append-nil (take (i * numbersOfOne) out)) ∙ take-append-drop (i * numbersOfOne) out)
+
+  pub run-done : (h₀ : Placement) (asks out₀ out : List ℕ) (h : Placement) (i : ℕ) → length asks * numbersOfOne ≤ length out₀ → i ≡ length asks
+      → written t p d dir m h₀ asks out₀ ≡ pending asks out h i → (true ≡ room asks out₀) × (out ≡ written t p d dir m h₀ asks out₀)
+  run-done h₀ asks out₀ out h i k e w = (sym (le-leb (length asks * numbersOfOne) (length out₀) k), sym (w ∙ run-end asks out h i e))
+
+  -- ---- a turn
+
+  module _ (asks out out′ : List ℕ) (h : Placement) (i : ℕ) (r : Answer) (less : i < length asks) (fits : length asks * numbersOfOne ≤ length out)
+      (is : r ≡ answerTo t p d dir m h (askOf (getD asks i 0)))
+      (put : out′ ≡ take (i * numbersOfOne) out ++ answerNumbers r ++ drop (i * numbersOfOne + numbersOfOne) out) (kept : length out′ ≡ length out) where
+    front : length (take (i * numbersOfOne) out) ≡ i * numbersOfOne
+    front = rw (length-take (i * numbersOfOne) out) (omega arith)
+
+    one : length (answerNumbers r) ≡ numbersOfOne
+    one =
+        let a : length (take (i * numbersOfOne) out ++ answerNumbers r ++ drop (i * numbersOfOne + numbersOfOne) out) ≡ length out = rw put at kept in
+        let b = length-append (take (i * numbersOfOne) out ++ answerNumbers r) (drop (i * numbersOfOne + numbersOfOne) out) in
+        let c = length-append (take (i * numbersOfOne) out) (answerNumbers r) in
+        let e = length-drop (i * numbersOfOne + numbersOfOne) out in
+        let f = front in
+        omega arith
+
+    head-length : length (take (i * numbersOfOne) out ++ answerNumbers r) ≡ (i + 1) * numbersOfOne
+    head-length = let a = length-append (take (i * numbersOfOne) out) (answerNumbers r) in let b = front in let c = one in omega arith
+
+    model-step : answers t p d dir m h (map askOf (drop i asks)) ≡ r ∷ answers t p d dir m (r .placement) (map askOf (drop (i + 1) asks))
+    unfolding answers
+    model-step = rw (drop-cons asks i 0 less, add-one i, is)
+
+    taken : take ((i + 1) * numbersOfOne) out′ ≡ take (i * numbersOfOne) out ++ answerNumbers r
+    taken =
+        ap (take ((i + 1) * numbersOfOne)) put
+        ∙ take-at (take (i * numbersOfOne) out ++ answerNumbers r) (drop (i * numbersOfOne + numbersOfOne) out) ((i + 1) * numbersOfOne) head-length
+
+    dropped : drop (length asks * numbersOfOne) out′ ≡ drop (length asks * numbersOfOne) out
+    dropped =
+        let k = length asks * numbersOfOne - (i * numbersOfOne + numbersOfOne) in
+        let e : length asks * numbersOfOne ≡ length (take (i * numbersOfOne) out ++ answerNumbers r) + k = let a = head-length in omega arith in
+        let f : i * numbersOfOne + numbersOfOne + k ≡ length asks * numbersOfOne = omega arith in
+        ap (drop (length asks * numbersOfOne)) put
+        ∙ ap (λ (n : ℕ). drop n (take (i * numbersOfOne) out ++ answerNumbers r ++ drop (i * numbersOfOne + numbersOfOne) out)) e
+        ∙ drop-append-add (take (i * numbersOfOne) out ++ answerNumbers r) (drop (i * numbersOfOne + numbersOfOne) out) k
+        ∙ drop-drop k (i * numbersOfOne + numbersOfOne) out
+        ∙ ap (λ (n : ℕ). drop n out) f
+
+    pub run-step : pending asks out h i ≡ pending asks out′ (r .placement) (i + 1)
+    unfolding allNumbers
+    run-step =
+        rw (taken, dropped, model-step)
+        (ap (λ (l : List ℕ). l ++ drop (length asks * numbersOfOne) out)
+        (sym (append-assoc (take (i * numbersOfOne) out) (answerNumbers r) (allNumbers (answers t p d dir m (r .placement) (map askOf (drop (i + 1) asks)))))))

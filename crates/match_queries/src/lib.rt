@@ -1,0 +1,62 @@
+// A LIST OF ASKS of one table, packet, decoded buffer, direction and map: the matcher's "first" and "next", called one after the other as a caller
+// does, every answer written down as document 01 compares answers. Demand 3 is one claim about the whole list.
+mod writing;
+
+ghost use mathlib.Core.Path.{_≡_};
+ghost use Rattle.definitions.specs.Asks.{answerTo};
+ghost use Rattle.match_queries.specs.Runs.{askOf, room, written};
+use crate::writing::NUMBERS;
+use crate::writing::put_answer;
+use definitions::answers::Answer;
+use definitions::packet::Direction;
+use definitions::packet::FieldMap;
+use definitions::packet::Placement;
+use definitions::table::Table;
+
+// One ask, a byte: 0 is "first", any other "next" after the placement held.
+fn answer_to<'a>(
+    t: Table,
+    p: &'a [u8],
+    decoded: &'a [u8],
+    dir: Direction,
+    m: FieldMap,
+    held: Placement,
+    ask: u8,
+) -> Answer
+    ensures { λ r. ⌜ r ≡ answerTo t (now (p .entry)) (now (decoded .entry)) dir m held (askOf ask) ⌝ }
+{
+    if ask == 0 {
+        return matcher::first(t, p, decoded, dir, m);
+    }
+    matcher::next(t, p, decoded, dir, m, held)
+}
+
+// Runs the asks. Each "next" is handed the placement of the answer before it, at the start `held`. Where `out` has no room for the numbers of all
+// answers, nothing is written and the answer is false.
+pub fn run<'a>(
+    t: Table,
+    p: &'a [u8],
+    decoded: &'a [u8],
+    dir: Direction,
+    m: FieldMap,
+    held: Placement,
+    asks: &[u8],
+    out: &mut [u64],
+) -> bool
+    ensures { λ r. ⌜ r ≡ room (now (asks .entry)) (now (out .entry)) ⌝ }
+    ensures { λ _. ⌜ now (out .exit) ≡ written t (now (p .entry)) (now (decoded .entry)) dir m held (now (asks .entry)) (now (out .entry)) ⌝ }
+{
+    if out.len() / NUMBERS < asks.len() {
+        return false;
+    }
+    let mut h = held;
+    let mut i = 0;
+    while i < asks.len() {
+        let a = answer_to(t, p, decoded, dir, m, h, asks[i]);
+        put_answer(&mut *out, i * NUMBERS, a);
+        let placement = a.placement;
+        h = placement;
+        i += 1;
+    }
+    true
+}

@@ -1,2 +1,0 @@
--- What the contracts of `meaning` cite besides the definitions.
-pub mod Bounds

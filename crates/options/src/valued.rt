@@ -1,9 +1,0 @@
-// What an option's scanner answers.
-use entry::Value;
-use scan_cursors::Cursor;
-
-// An option's value, and where scanning stands behind it.
-pub struct Valued {
-    pub value: Value,
-    pub cursor: Cursor,
-}

@@ -1,5 +1,0 @@
--- Laws that the proofs of `output` and of the crates above cite.
-pub mod Putting
-pub mod Decimals
-pub mod Clipping
-pub mod Whole

@@ -1,3 +1,0 @@
--- What the contracts of `output` cite.
-pub mod Puts
-pub mod Clipped

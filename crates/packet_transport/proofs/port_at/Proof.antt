@@ -1,0 +1,44 @@
+-- Each return rewrites with the test of the protocol; behind the header is so many bytes later in the datagram.
+use native.Mathlib.Omega.{arith}
+use Rattle.definitions.specs.Packet.{headerLength}
+use Rattle.packet_header.proofs.Widths.{wide-drop}
+use mathlib.Core.Path.{sym, _∙_}
+use borrow.Author.Needs.{needs}
+use Rattle.packet_transport.proofs.port_at.Statement.{statement}
+use Rattle.packet_transport.proofs.port_at.Tie as tie
+
+protocol-of-requires : tie.Need-protocol-of-requires
+protocol-of-requires c κs = tt
+
+has-ports-requires : tie.Need-has-ports-requires
+has-ports-requires c κs = tt
+
+header-length-requires : tie.Need-header-length-requires
+header-length-requires c κs = tt
+
+add-wide16 : tie.Need-add-wide16
+add-wide16 c = search needs
+
+wide16-requires : tie.Need-wide16-requires
+wide16-requires c κs = omega arith
+
+returns : tie.Need-returns
+returns c =
+    let a = c .before .before .before .before .before .before .args in
+    let ports = rw (c .before .before .before .before .protocol-of .ensures) at (sym (c .before .before .before .has-ports .ensures) ∙ c .before .before .if1 .taken) in
+    rw (ports, c .wide16 .ensures, c .before .header-length .ensures .0, wide-drop 2 (headerLength (a .d .now)) (a .d .now) (a .at))
+
+returns-2 : tie.Need-returns-2
+returns-2 c = rw (rw (c .before .before .protocol-of .ensures) at (sym (c .before .has-ports .ensures) ∙ c .if1 .left))
+
+pub port-at-spec : {M : Type 1} → statement M
+port-at-spec =
+    tie.close
+    (tie.spec
+    protocol-of-requires
+    has-ports-requires
+    header-length-requires
+    add-wide16
+    wide16-requires
+    returns
+    returns-2)

@@ -1,0 +1,26 @@
+use Rattle.read_value.specs.Values.{entryOf}
+use Rattle.scan_cursors.proofs.Readings.{made-reads}
+use Rattle.read_options.proofs.Closing.{valued-reads}
+use borrow.Author.Needs.{needs}
+use Rattle.read_options.proofs.modifiers.context_option.Statement.{statement}
+use Rattle.read_options.proofs.modifiers.context_option.Tie as tie
+
+gap-at-requires : tie.Need-gap-at-requires
+gap-at-requires c κs = search needs
+
+then-context-requires : tie.Need-then-context-requires
+then-context-requires c κs = search needs
+
+then-closing-requires : tie.Need-then-closing-requires
+then-closing-requires c κs = search needs
+
+returns : tie.Need-returns
+unfolding entryOf
+returns c =
+    let w = c .before in
+    let g = w .before in
+    (valued-reads (g .before .before .pre) (g .gap-at .ensures) (made-reads _ (w .then-context .ensures)) (c .then-closing .ensures), tt)
+
+pub context-option-spec : {M : Type 1} → statement M
+context-option-spec =
+    tie.close (tie.spec gap-at-requires then-context-requires then-closing-requires returns)

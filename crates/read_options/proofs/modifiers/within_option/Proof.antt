@@ -1,0 +1,43 @@
+use Rattle.read_value.specs.Values.{entryOf}
+use Rattle.scan_cursors.proofs.Readings.{made-reads, pair-reads}
+use Rattle.read_options.proofs.Closing.{valued-reads}
+use borrow.Author.Needs.{needs}
+use Rattle.read_options.proofs.modifiers.within_option.Statement.{statement}
+use Rattle.read_options.proofs.modifiers.within_option.Tie as tie
+
+gap-at-requires : tie.Need-gap-at-requires
+gap-at-requires c κs = search needs
+
+then-number-requires : tie.Need-then-number-requires
+then-number-requires c κs = search needs
+
+then-comma-reference-requires : tie.Need-then-comma-reference-requires
+then-comma-reference-requires c κs = search needs
+
+then-closing-requires : tie.Need-then-closing-requires
+then-closing-requires c κs = search needs
+
+cast-number : tie.Need-cast-number
+cast-number c = search needs
+
+returns : tie.Need-returns
+unfolding entryOf
+returns c =
+    let k = c .before in
+    let r = k .before in
+    let n = r .before in
+    let g = n .before in
+    let number = n .then-number .ensures .0 in
+    let value = made-reads _ (pair-reads (g .gap-at .ensures .1 .inside) number (r .then-comma-reference .ensures)) in
+    (valued-reads (g .before .before .pre) (g .gap-at .ensures) value (k .then-closing .ensures), tt)
+
+pub within-option-spec : {M : Type 1} → statement M
+within-option-spec =
+    tie.close
+    (tie.spec
+    gap-at-requires
+    then-number-requires
+    then-comma-reference-requires
+    then-closing-requires
+    cast-number
+    returns)

@@ -1,0 +1,31 @@
+use Rattle.read_value.specs.Values.{entryOf}
+use Rattle.scan_cursors.proofs.Readings.{made-reads}
+use Rattle.read_options.proofs.Closing.{valued-reads}
+use borrow.Author.Needs.{needs}
+use Rattle.read_options.proofs.tests.number_option.Statement.{statement}
+use Rattle.read_options.proofs.tests.number_option.Tie as tie
+
+gap-at-requires : tie.Need-gap-at-requires
+gap-at-requires c κs = search needs
+
+then-number-requires : tie.Need-then-number-requires
+then-number-requires c κs = search needs
+
+then-closing-requires : tie.Need-then-closing-requires
+then-closing-requires c κs = search needs
+
+cast-number : tie.Need-cast-number
+cast-number c = search needs
+
+returns : tie.Need-returns
+unfolding entryOf
+returns c =
+    let k = c .before in
+    let n = k .before in
+    let g = n .before in
+    (valued-reads (g .before .before .pre .0) (g .gap-at .ensures) (made-reads _ (n .then-number .ensures .0)) (k .then-closing .ensures), tt)
+
+pub number-option-spec : {M : Type 1} → statement M
+number-option-spec =
+    tie.close
+    (tie.spec gap-at-requires then-number-requires then-closing-requires cast-number returns)

@@ -1,0 +1,15 @@
+use Rattle.read_value.specs.Values.{entryOf}
+use Rattle.read_options.proofs.Closing.{bare-reads}
+use borrow.Author.Needs.{needs}
+use Rattle.read_options.proofs.tests.same_ip_option.Statement.{statement}
+use Rattle.read_options.proofs.tests.same_ip_option.Tie as tie
+
+closing-at-requires : tie.Need-closing-at-requires
+closing-at-requires c κs = search needs
+
+returns : tie.Need-returns
+unfolding entryOf
+returns c = (bare-reads _ (c .before .before .pre) (c .closing-at .ensures), tt)
+
+pub same-ip-option-spec : {M : Type 1} → statement M
+same-ip-option-spec = tie.close (tie.spec closing-at-requires returns)

@@ -1,0 +1,112 @@
+// What may follow a number behind a comma.
+ghost use Rattle.scan_cursors.specs.Reads.{Inside, Reads};
+ghost use Rattle.read_options.specs.Parts.{sizeField, relative, reference, reversed, directed};
+use definitions::table::Reference;
+use definitions::table::SizeField;
+use read_words::ReferenceAt;
+use read_words::SizeFieldAt;
+use read_words::then_reference;
+use read_words::then_size_word;
+use scan_cursors::Cursor;
+use scan_pieces::signs::Mark;
+use scan_steps::signs::next_is;
+use scan_steps::signs::then_literal;
+use scan_steps::words::then_word;
+
+// A reference, whether `reverse` follows it, and where scanning stands behind them.
+pub struct DirectedAt {
+    pub reference: Reference,
+    pub reverse: bool,
+    pub cursor: Cursor,
+}
+
+// Optional `,` and the field of data_size.
+pub fn then_size_field(s: &[u8], c: Cursor) -> SizeFieldAt
+    requires { ⌜ Inside (now s) c ⌝ }
+    ensures { λ r. ⌜ Reads sizeField (now (s .entry)) c (r .field) (r .cursor) ⌝ }
+{
+    if next_is(s, c, b',') {
+        let comma = then_literal(s, c, b',');
+        return then_size_word(s, comma);
+    }
+    SizeFieldAt {
+        field: SizeField::Payload,
+        cursor: c,
+    }
+}
+
+// Optional `,relative`.
+pub fn then_relative(s: &[u8], c: Cursor) -> Mark
+    requires { ⌜ Inside (now s) c ⌝ }
+    ensures { λ r. ⌜ Reads relative (now (s .entry)) c (r .yes) (r .cursor) ⌝ }
+{
+    if next_is(s, c, b',') {
+        let comma = then_literal(s, c, b',');
+        return Mark {
+            yes: true,
+            cursor: then_word(s, comma, b"relative"),
+        };
+    }
+    Mark {
+        yes: false,
+        cursor: c,
+    }
+}
+
+// Optional `,reverse`.
+fn then_reverse(s: &[u8], c: Cursor) -> Mark
+    requires { ⌜ Inside (now s) c ⌝ }
+    ensures { λ r. ⌜ Reads reversed (now (s .entry)) c (r .yes) (r .cursor) ⌝ }
+{
+    if next_is(s, c, b',') {
+        let comma = then_literal(s, c, b',');
+        return Mark {
+            yes: true,
+            cursor: then_word(s, comma, b"reverse"),
+        };
+    }
+    Mark {
+        yes: false,
+        cursor: c,
+    }
+}
+
+// Optional `,` and a reference.
+pub fn then_comma_reference(s: &[u8], c: Cursor) -> ReferenceAt
+    requires { ⌜ Inside (now s) c ⌝ }
+    ensures { λ r. ⌜ Reads reference (now (s .entry)) c (r .reference) (r .cursor) ⌝ }
+{
+    if next_is(s, c, b',') {
+        let comma = then_literal(s, c, b',');
+        return then_reference(s, comma);
+    }
+    ReferenceAt {
+        reference: Reference::Match,
+        cursor: c,
+    }
+}
+
+// Optional `,` and a reference, only then optional `,reverse`.
+pub fn then_directed(s: &[u8], c: Cursor) -> DirectedAt
+    requires { ⌜ Inside (now s) c ⌝ }
+    ensures { λ r. ⌜ Reads directed (now (s .entry)) c (r .reference, r .reverse) (r .cursor) ⌝ }
+{
+    if next_is(s, c, b',') {
+        let comma = then_literal(s, c, b',');
+        let r = then_reference(s, comma);
+        let c = r.cursor;
+        let m = then_reverse(s, c);
+        let reference = r.reference;
+        let cursor = m.cursor;
+        return DirectedAt {
+            reference,
+            reverse: m.yes,
+            cursor,
+        };
+    }
+    DirectedAt {
+        reference: Reference::Match,
+        reverse: false,
+        cursor: c,
+    }
+}

@@ -1,0 +1,103 @@
+// context, no_case, distance and within.
+ghost use mathlib.Core.Path.{_≡_};
+ghost use mathlib.Core.List.{[]};
+ghost use Prim.Native.Nat.{_≤_};
+ghost use lib.ListN.{length};
+ghost use Rattle.definitions.specs.Limits.{wordMost};
+ghost use Rattle.definitions.specs.Forms.{contextForm, noCaseForm, signed, distanceForm, withinForm};
+ghost use Rattle.read_value.specs.Values.{entryOf, Plain};
+ghost use Rattle.scan_cursors.specs.Reads.{Reads};
+ghost use Rattle.scan_cursors.specs.declared.Cursor.the-variants.{Going};
+use crate::commas::then_comma_reference;
+use crate::commas::then_directed;
+use crate::valued::Valued;
+use definitions::limits::WORD_MOST;
+use definitions::table::Reach;
+use definitions::table::Shift;
+use read_value::Value;
+use read_words::then_context;
+use scan_pieces::signs::closing_at;
+use scan_pieces::signs::gap_at;
+use scan_steps::numbers::then_number;
+use scan_steps::signs::then_closing;
+use scan_steps::signs::then_optional_literal;
+
+// The option context.
+pub fn context_option(s: &[u8], at: usize) -> Valued
+    requires { ⌜ at ≤ length (now s) ⌝ }
+    ensures { λ r. ⌜ Reads contextForm (now (s .entry)) (Going at) (entryOf (now (s .entry)) (r .value) [] []) (r .cursor) × Plain (r .value) ⌝ }
+{
+    let c = gap_at(s, at);
+    let w = then_context(s, c);
+    let c = w.cursor;
+    let cursor = then_closing(s, c);
+    let context = w.context;
+    Valued {
+        value: Value::Context(context),
+        cursor,
+    }
+}
+
+// The option no_case.
+pub fn no_case_option(s: &[u8], at: usize) -> Valued
+    requires { ⌜ at ≤ length (now s) ⌝ }
+    ensures { λ r. ⌜ Reads noCaseForm (now (s .entry)) (Going at) (entryOf (now (s .entry)) (r .value) [] []) (r .cursor) × Plain (r .value) ⌝ }
+{
+    Valued {
+        value: Value::NoCase,
+        cursor: closing_at(s, at),
+    }
+}
+
+// `-` and a number of at most 16 bits.
+fn signed_of(minus: bool, n: u64) -> i32
+    requires { ⌜ n ≤ wordMost ⌝ }
+    ensures { λ r. ⌜ r ≡ signed minus n ⌝ }
+{
+    let v = n as i32;
+    if minus { -v } else { v }
+}
+
+// The option distance.
+pub fn distance_option(s: &[u8], at: usize) -> Valued
+    requires { ⌜ at ≤ length (now s) ⌝ }
+    ensures { λ r. ⌜ Reads distanceForm (now (s .entry)) (Going at) (entryOf (now (s .entry)) (r .value) [] []) (r .cursor) × Plain (r .value) ⌝ }
+{
+    let c = gap_at(s, at);
+    let minus = then_optional_literal(s, c, b'-');
+    let c = minus.cursor;
+    let n = then_number(s, c, WORD_MOST);
+    let c = n.cursor;
+    let r = then_directed(s, c);
+    let c = r.cursor;
+    let cursor = then_closing(s, c);
+    let offset = signed_of(minus.yes, n.value);
+    let reference = r.reference;
+    Valued {
+        value: Value::Distance(Shift {
+            offset,
+            reference,
+            reverse: r.reverse,
+        }),
+        cursor,
+    }
+}
+
+// The option within.
+pub fn within_option(s: &[u8], at: usize) -> Valued
+    requires { ⌜ at ≤ length (now s) ⌝ }
+    ensures { λ r. ⌜ Reads withinForm (now (s .entry)) (Going at) (entryOf (now (s .entry)) (r .value) [] []) (r .cursor) × Plain (r .value) ⌝ }
+{
+    let c = gap_at(s, at);
+    let n = then_number(s, c, WORD_MOST);
+    let c = n.cursor;
+    let r = then_comma_reference(s, c);
+    let c = r.cursor;
+    let cursor = then_closing(s, c);
+    let number = n.value as u16;
+    let reference = r.reference;
+    Valued {
+        value: Value::Within(Reach { number, reference }),
+        cursor,
+    }
+}

@@ -1,0 +1,27 @@
+-- Each return rewrites with what `is_usable` ensures of the test that led there.
+use mathlib.Core.Path.{sym, _∙_}
+use Rattle.table_references.specs.Counting.{onward}
+use borrow.Author.Needs.{needs}
+use Rattle.table_references.proofs.counting.past_pattern.Statement.{statement}
+use Rattle.table_references.proofs.counting.past_pattern.Tie as tie
+
+is-usable-requires : tie.Need-is-usable-requires
+is-usable-requires c κs = search needs
+
+last-after-requires : tie.Need-last-after-requires
+last-after-requires c κs = search needs
+
+add-t6 : tie.Need-add-t6
+add-t6 c = search needs
+
+returns : tie.Need-returns
+unfolding onward
+returns c = simp (sym (c .before .before .before .is-usable .ensures) ∙ c .before .before .if1 .taken, c .before .last-after .ensures)
+
+returns-2 : tie.Need-returns-2
+unfolding onward
+returns-2 c = simp (sym (c .before .is-usable .ensures) ∙ c .if1 .left)
+
+pub past-pattern-spec : {M : Type 1} → statement M
+past-pattern-spec =
+    tie.close (tie.spec is-usable-requires last-after-requires add-t6 returns returns-2)

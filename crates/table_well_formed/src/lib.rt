@@ -1,0 +1,60 @@
+// Whether a table is one that some text reads as: what refusal 20 goes by. Any numbers may stand in the table.
+mod walking;
+
+ghost use mathlib.Core.Path.{_≡_};
+ghost use Rattle.definitions.specs.WellFormed.{wellFormed};
+ghost use Rattle.table_well_formed.specs.Walking.{itemsWell};
+use crate::walking::begun;
+use crate::walking::ends_well;
+use crate::walking::may_pass;
+use crate::walking::past_item;
+use definitions::limits::ITEMS;
+use definitions::table::Slot;
+use definitions::table::Table;
+use table_bytes::name_fits;
+use table_bytes::room_fits;
+use table_slots::slot_unused;
+
+// The slots in use, then those behind them, then what the walk ends with. Nothing called here takes the array: it would be copied at each call.
+fn items_fit(items: [Slot; ITEMS], count: usize, used: usize) -> bool
+    ensures { λ r. ⌜ r ≡ itemsWell items count used ⌝ }
+{
+    if ITEMS < count {
+        return false;
+    }
+    let mut w = begun(used);
+    let mut i = 0;
+    while i < count {
+        let slot = items[i];
+        if !may_pass(w, slot) {
+            return false;
+        }
+        w = past_item(w, slot);
+        i += 1;
+    }
+    while i < ITEMS {
+        let slot = items[i];
+        if !slot_unused(slot) {
+            return false;
+        }
+        i += 1;
+    }
+    ends_well(w, count)
+}
+
+// Whether some text, of whatever length, reads as the table. Any protocol will do: it is a byte by its type.
+pub fn well_formed(t: Table) -> bool
+    ensures { λ r. ⌜ r ≡ wellFormed t ⌝ }
+{
+    let name = t.name;
+    if !name_fits(name, t.len) {
+        return false;
+    }
+    let items = t.items;
+    if !items_fit(items, t.count, t.used) {
+        return false;
+    }
+    let bytes = t.bytes;
+    let all = &bytes[..];
+    room_fits(all, t.used)
+}

@@ -1,2 +1,0 @@
--- What the contracts of `value_text` cite.
-pub mod Parts

@@ -1,2 +1,0 @@
--- What the contracts of `verdict_due` cite besides the definitions.
-pub mod Clearing

@@ -1,0 +1,3 @@
+-- What the contracts of `write_bytes` cite.
+pub mod Puts
+pub mod Clipped

@@ -1,0 +1,2 @@
+-- What the contracts of `write_keywords` cite.
+pub mod Keywords

@@ -1,0 +1,2 @@
+-- What the contracts of `write_options` cite.
+pub mod Parts

@@ -1,0 +1,11 @@
+-- Where the items' pattern bytes stand, as the code goes about it.
+use Prim.Native.Nat.{ℕ, _+_, _-_}
+use Rattle.definitions.specs.Items.{Kind, unused, addressed, patterned, plainTest}
+use Rattle.write_bytes.specs.Clipped.{atMost}
+
+-- the place of the pattern bytes behind those of an item, whose own stand at a place of so many bytes
+abbrev pub placeBehind : Kind → ℕ → ℕ → ℕ
+placeBehind unused from len = from
+placeBehind (addressed a) from len = from
+placeBehind (patterned p) from len = from + atMost (p .len) (len - from)
+placeBehind plainTest from len = from

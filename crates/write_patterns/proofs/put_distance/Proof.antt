@@ -1,0 +1,35 @@
+use mathlib.Core.Path.{ap, _∙_}
+use mathlib.Core.List.{append-nil}
+use Rattle.definitions.specs.Entries as entry
+use Rattle.definitions.specs.House.{distanceEntry, modifierText, entryText, entriesText}
+use Rattle.write_bytes.proofs.Putting.{none-put, told, same-length as same}
+use borrow.Author.Needs.{needs}
+use Rattle.write_patterns.proofs.put_distance.Statement.{statement}
+use Rattle.write_patterns.proofs.put_distance.Tie as tie
+
+enum-told : tie.Need-enum-told
+enum-told c = search needs
+
+enum-known-d : tie.Need-enum-known-d
+enum-known-d c = search needs
+
+put-shift-requires : tie.Need-put-shift-requires
+put-shift-requires c κs = tt
+
+returns : tie.Need-returns
+unfolding entriesText
+returns c = told (ap (λ x. entriesText (distanceEntry x)) (c .enum-told .given .1)) none-put
+
+returns-2 : tie.Need-returns-2
+unfolding entriesText entryText
+returns-2 c =
+    let c2 = c .before .before in
+    let c5 = c2 .before .before .before in
+    told (ap (λ x. entriesText (distanceEntry x)) (c5 .d .given .1) ∙ append-nil (modifierText (entry.Distance (c5 .d .given .0 .0)))) (c2 .put-shift .ensures)
+
+same-length : tie.Need-same-length
+same-length c = same (returns-2 c)
+
+pub put-distance-spec : {M : Type 1} → statement M
+put-distance-spec =
+    tie.close (tie.spec enum-told enum-known-d put-shift-requires returns same-length returns-2)

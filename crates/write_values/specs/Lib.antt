@@ -1,0 +1,2 @@
+-- What the contracts of `write_values` cite.
+pub mod Parts
