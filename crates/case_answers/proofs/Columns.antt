@@ -10,7 +10,7 @@ use Rattle.forms.specs.Bytes.{text}
 use Rattle.definitions.specs.declared.packet.Direction.{Direction}
 use Rattle.definitions.specs.declared.packet.FieldMap.{FieldMap}
 use Rattle.definitions.specs.declared.answers.Reading.{Reading}
-use Rattle.definitions.specs.Limits.{limits01}
+use Rattle.definitions.specs.Limits.{documentLimits}
 use Rattle.definitions.specs.Reading.{read}
 use Rattle.definitions.specs.Cases.{pairs}
 use Rattle.line_parts.specs.Parts.{contains, partBefore, partAfter, afterParts}
@@ -20,7 +20,7 @@ use Rattle.line_packets.specs.declared.packets.PacketColumns.{PacketColumns}
 use Rattle.line_packets.specs.Directions.{isDirection}
 use Rattle.line_packets.specs.FieldMaps.{isMap}
 use Rattle.line_packets.specs.Packets.{isPacket, packetOf}
-use Rattle.case_columns.specs.Asks.{Ask, isAsk, askOf}
+use Rattle.case_columns.specs.Queries.{Query, isQuery, queryOf}
 use Rattle.case_answers.specs.CaseLines.{maxLine, isCase, caseOf}
 use Rattle.case_answers.specs.CaseAnswers.{readingText, caseAnswer}
 use Rattle.case_answers.specs.Columns.{maxPairs, areColumns, columnsText}
@@ -30,7 +30,7 @@ pub room-is : {n : ℕ} → n ≡ maxPairs → maxLine ≤ n * 2
 room-is e = omega (arith, e)
 
 pub formed-is :
-    {x u y v : List ℕ} {r q : Reading} (dir : Direction) (m : FieldMap) (a : Ask) → x ≡ u → y ≡ v → r ≡ q
+    {x u y v : List ℕ} {r q : Reading} (dir : Direction) (m : FieldMap) (a : Query) → x ≡ u → y ≡ v → r ≡ q
     → readingText u v dir m q a ≡ readingText x y dir m r a
 formed-is {x = x} {u = u} {y = y} {v = v} {r = r} {q = q} dir m a e f g =
     ap (λ (w : List ℕ). readingText w v dir m q a) (sym e)
@@ -46,21 +46,21 @@ and-last true false e g h = refl
 and-last false c e g h = refl
 
 module _ (o p f d a s : List ℕ) where
-  are-columns : areColumns o p f d a s ≡ (isPacket o p f d && isAsk a)
+  are-columns : areColumns o p f d a s ≡ (isPacket o p f d && isQuery a)
   unfolding areColumns isPacket
-  are-columns = and-last (isDirection o) (isHex p) (isMap f) (isHex d) (isAsk a)
+  are-columns = and-last (isDirection o) (isHex p) (isMap f) (isHex d) (isQuery a)
 
-  pub no-ask : isAsk a ≡ false → columnsText o p f d a s ≡ text "bad"
+  pub no-query : isQuery a ≡ false → columnsText o p f d a s ≡ text "bad"
   unfolding columnsText
-  no-ask n = rw (are-columns, n, and-false (isPacket o p f d))
+  no-query n = rw (are-columns, n, and-false (isPacket o p f d))
 
   pub no-packet : isPacket o p f d ≡ false → columnsText o p f d a s ≡ text "bad"
   unfolding columnsText
   no-packet n = rw (are-columns, n)
 
   pub good-columns :
-      isAsk a ≡ true → isPacket o p f d ≡ true → (v : PacketColumns) → v ≡ packetOf o p f d → (k : Ask) → k ≡ askOf a
-      → columnsText o p f d a s ≡ readingText (pairs p) (pairs d) (v .direction) (v .fields) (read limits01 s) k
+      isQuery a ≡ true → isPacket o p f d ≡ true → (v : PacketColumns) → v ≡ packetOf o p f d → (k : Query) → k ≡ queryOf a
+      → columnsText o p f d a s ≡ readingText (pairs p) (pairs d) (v .direction) (v .fields) (read documentLimits s) k
   unfolding columnsText
   good-columns t u v ve k ke = rw (are-columns, t, u, ve, ke)
 

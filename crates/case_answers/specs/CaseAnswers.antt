@@ -10,13 +10,13 @@ use Rattle.definitions.specs.declared.answers.Refusal.{Refusal}
 use Rattle.definitions.specs.declared.answers.ReadOutcome.{ReadOutcome}
 use Rattle.definitions.specs.declared.answers.ReadOutcome.the-variants as outcome
 use Rattle.definitions.specs.declared.answers.Reading.{Reading}
-use Rattle.definitions.specs.Limits.{limits01}
+use Rattle.definitions.specs.Limits.{documentLimits}
 use Rattle.definitions.specs.Refusals.{numberOf}
 use Rattle.definitions.specs.Reading.{read}
-use Rattle.definitions.specs.House.{decimal}
-use Rattle.definitions.specs.Answers.{verdictDue, placementsOf, firstAnswer, nextAnswer}
-use Rattle.case_columns.specs.Asks.{Ask, all, first, next}
-use Rattle.case_lists.specs.AnswerTexts.{listText, dueText, answerText}
+use Rattle.definitions.specs.Canonical.{decimal}
+use Rattle.definitions.specs.Answers.{inputCheck, placementsOf, firstAnswer, nextAnswer}
+use Rattle.case_columns.specs.Queries.{Query, all, first, next}
+use Rattle.case_lists.specs.AnswerTexts.{listText, checkText, answerText}
 use Rattle.case_answers.specs.CaseLines.{isCase, Case, caseOf}
 
 -- a text's refusal with its place
@@ -24,21 +24,21 @@ abbrev pub unreadText : Refusal → ℕ → List ℕ
 unreadText r place = text "text " ++ (decimal (numberOf r) ++ (text " " ++ decimal place))
 
 module _ (p decoded : List ℕ) (dir : Direction) (m : FieldMap) where
-  unfoldable pub askText : Table → Ask → List ℕ
-  askText t all = dueText (verdictDue t p decoded dir m) (listText (placementsOf t p decoded dir m))
-  askText t first = answerText (firstAnswer t p decoded dir m)
-  askText t (next h) = answerText (nextAnswer t p decoded dir m h)
+  unfoldable pub queryText : Table → Query → List ℕ
+  queryText t all = checkText (inputCheck t p decoded dir m) (listText (placementsOf t p decoded dir m))
+  queryText t first = answerText (firstAnswer t p decoded dir m)
+  queryText t (next h) = answerText (nextAnswer t p decoded dir m h)
 
   -- the answer for a text's table, or its refusal
-  abbrev pub outcomeText : ReadOutcome → Table → Ask → List ℕ
-  outcomeText outcome.Accepted t a = askText t a
+  abbrev pub outcomeText : ReadOutcome → Table → Query → List ℕ
+  outcomeText outcome.Accepted t a = queryText t a
   outcomeText (outcome.Refused r place) t a = unreadText r place
 
-  abbrev pub readingText : Reading → Ask → List ℕ
+  abbrev pub readingText : Reading → Query → List ℕ
   readingText r a = outcomeText (r .outcome) (r .table) a
 
 abbrev pub formedText : Case → List ℕ
-formedText c = readingText (c .packet) (c .decoded) (c .direction) (c .fields) (read limits01 (c .source)) (c .ask)
+formedText c = readingText (c .packet) (c .decoded) (c .direction) (c .fields) (read documentLimits (c .source)) (c .query)
 
 unfoldable pub caseAnswer : List ℕ → List ℕ
 caseAnswer l = if isCase l then formedText (caseOf l) else text "bad"

@@ -12,7 +12,7 @@ use Rattle.line_parts.specs.Parts.{contains, afterParts, part}
 use Rattle.line_numbers.specs.HexPairs.{isHex}
 use Rattle.line_packets.specs.Directions.{isDirection, directionOf}
 use Rattle.line_packets.specs.FieldMaps.{isMap, mapOf}
-use Rattle.case_columns.specs.Asks.{Ask, isAsk, askOf}
+use Rattle.case_columns.specs.Queries.{Query, isQuery, queryOf}
 
 -- bytes of a line before its LF
 abbrev pub maxLine : ℕ
@@ -26,14 +26,14 @@ column k l = part 9 k l
 unfoldable pub isCase : List ℕ → Bool
 isCase l =
     leb (length l) maxLine && (contains 9 (afterParts 9 4 l)
-    && (isDirection (column 0 l) && (isHex (column 1 l) && (isMap (column 2 l) && (isHex (column 3 l) && isAsk (column 4 l))))))
+    && (isDirection (column 0 l) && (isHex (column 1 l) && (isMap (column 2 l) && (isHex (column 3 l) && isQuery (column 4 l))))))
 
 pub record Case : Type 0 where
   pub direction : Direction
   pub packet : List ℕ
   pub fields : FieldMap
   pub decoded : List ℕ
-  pub ask : Ask
+  pub query : Query
   pub source : List ℕ
 
 unfoldable pub caseOf : List ℕ → Case
@@ -43,6 +43,6 @@ caseOf l =
       packet = pairs (column 1 l);
       fields = mapOf (column 2 l);
       decoded = pairs (column 3 l);
-      ask = askOf (column 4 l);
+      query = queryOf (column 4 l);
       source = afterParts 9 5 l;
     }

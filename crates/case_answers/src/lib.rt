@@ -4,17 +4,17 @@ ghost use mathlib.Core.Bool.{true};
 ghost use Prim.Native.Nat.{_≤_};
 ghost use lib.ListN.{length};
 ghost use Rattle.definitions.specs.Cases.{pairs};
-ghost use Rattle.definitions.specs.Limits.{limits01};
+ghost use Rattle.definitions.specs.Limits.{documentLimits};
 ghost use Rattle.definitions.specs.Reading.{read as readText};
 ghost use Rattle.write_bytes.specs.Puts.{Puts};
 ghost use Rattle.line_numbers.specs.HexPairs.{isHex};
-ghost use Rattle.case_columns.specs.Asks.{askBy};
+ghost use Rattle.case_columns.specs.Queries.{queryBy};
 ghost use Rattle.case_answers.specs.CaseLines.{maxLine};
-ghost use Rattle.case_answers.specs.CaseAnswers.{askText, unreadText, readingText, caseAnswer};
+ghost use Rattle.case_answers.specs.CaseAnswers.{queryText, unreadText, readingText, caseAnswer};
 ghost use Rattle.case_answers.specs.Columns.{columnsText};
 use case_columns::Kind;
-use case_columns::is_ask;
-use case_columns::parse_ask;
+use case_columns::is_query;
+use case_columns::parse_query;
 use case_lists::answers::put_answer;
 use case_lists::lists::put_list;
 use definitions::answers::ReadOutcome;
@@ -42,7 +42,7 @@ pub const LINE_BYTES: usize = 16384;
 pub const PAIRS: usize = LINE_BYTES / 2;
 
 // The answer to an ask. `Bad` does not come here: such a line is answered `bad` before; its arm says what the definition's does.
-fn put_ask<'a>(
+fn put_query<'a>(
     out: &mut [u8],
     at: usize,
     t: Table,
@@ -53,7 +53,7 @@ fn put_ask<'a>(
     kind: Kind,
     held: Placement,
 ) -> usize
-    ensures { λ r. ⌜ Puts (now (out .entry)) at (askText (now (p .entry)) (now (decoded .entry)) dir m t (askBy kind held)) (now (out .exit)) r ⌝ }
+    ensures { λ r. ⌜ Puts (now (out .entry)) at (queryText (now (p .entry)) (now (decoded .entry)) dir m t (queryBy kind held)) (now (out .exit)) r ⌝ }
 {
     match kind {
         Kind::All => put_list(out, at, t, p, decoded, dir, m),
@@ -84,12 +84,12 @@ fn put_reading<'a>(
     kind: Kind,
     held: Placement,
 ) -> usize
-    ensures { λ r. ⌜ Puts (now (out .entry)) at (readingText (now (p .entry)) (now (decoded .entry)) dir m reading (askBy kind held)) (now (out .exit)) r ⌝ }
+    ensures { λ r. ⌜ Puts (now (out .entry)) at (readingText (now (p .entry)) (now (decoded .entry)) dir m reading (queryBy kind held)) (now (out .exit)) r ⌝ }
 {
     let outcome = reading.outcome;
     let table = reading.table;
     match outcome {
-        ReadOutcome::Accepted => put_ask(out, at, table, p, decoded, dir, m, kind, held),
+        ReadOutcome::Accepted => put_query(out, at, table, p, decoded, dir, m, kind, held),
         ReadOutcome::Refused(r, place) => put_unread(out, at, r, place),
     }
 }
@@ -109,7 +109,7 @@ fn put_formed(
     more: &mut [u8; PAIRS],
 ) -> usize
     requires { ⌜ (isHex (now packet) ≡ true) × (isHex (now decoded) ≡ true) × (length (now packet) ≤ maxLine) × (length (now decoded) ≤ maxLine) ⌝ }
-    ensures { λ r. ⌜ Puts (now (out .entry)) at (readingText (pairs (now (packet .entry))) (pairs (now (decoded .entry))) dir m (readText limits01 (now (text .entry))) (askBy kind held)) (now (out .exit)) r ⌝ }
+    ensures { λ r. ⌜ Puts (now (out .entry)) at (readingText (pairs (now (packet .entry))) (pairs (now (decoded .entry))) dir m (readText documentLimits (now (text .entry))) (queryBy kind held)) (now (out .exit)) r ⌝ }
 {
     let n = put_pairs(room, 0, packet);
     let d = put_pairs(more, 0, decoded);
@@ -137,25 +137,25 @@ fn put_columns(
     packet: &[u8],
     fields: &[u8],
     decoded: &[u8],
-    ask: &[u8],
+    query: &[u8],
     text: &[u8],
     room: &mut [u8; PAIRS],
     more: &mut [u8; PAIRS],
 ) -> usize
     requires { ⌜ (length (now packet) ≤ maxLine) × (length (now decoded) ≤ maxLine) ⌝ }
-    ensures { λ r. ⌜ Puts (now (out .entry)) at (columnsText (now (origin .entry)) (now (packet .entry)) (now (fields .entry)) (now (decoded .entry)) (now (ask .entry)) (now (text .entry))) (now (out .exit)) r ⌝ }
+    ensures { λ r. ⌜ Puts (now (out .entry)) at (columnsText (now (origin .entry)) (now (packet .entry)) (now (fields .entry)) (now (decoded .entry)) (now (query .entry)) (now (text .entry))) (now (out .exit)) r ⌝ }
 {
-    let asked = parse_ask(ask);
-    let kind = asked.kind;
-    let held = asked.placement;
-    if !is_ask(kind) {
+    let queried = parse_query(query);
+    let kind = queried.kind;
+    let held = queried.placement;
+    if !is_query(kind) {
         return put_word(out, at, b"bad");
     }
-    let PacketResult::Parsed(said) = parse_packet(origin, packet, fields, decoded) else {
+    let PacketResult::Parsed(located) = parse_packet(origin, packet, fields, decoded) else {
         return put_word(out, at, b"bad");
     };
-    let dir = said.direction;
-    let map = said.fields;
+    let dir = located.direction;
+    let map = located.fields;
     put_formed(
         out,
         at,
@@ -196,7 +196,7 @@ pub fn answer_case(
     let packet = part_before(r1, b'\t');
     let fields = part_before(r2, b'\t');
     let decoded = part_before(r3, b'\t');
-    let ask = part_before(r4, b'\t');
+    let query = part_before(r4, b'\t');
     put_columns(
         out,
         at,
@@ -204,7 +204,7 @@ pub fn answer_case(
         packet,
         fields,
         decoded,
-        ask,
+        query,
         r5,
         room,
         more,

@@ -1,2 +1,2 @@
 -- What the contracts of `case_columns` cite.
-pub mod Asks
+pub mod Queries

@@ -3,7 +3,7 @@ ghost use mathlib.Core.Path.{_≡_};
 ghost use mathlib.Core.List.{[]};
 ghost use Rattle.definitions.specs.Starts.{startAt};
 ghost use Rattle.definitions.specs.Answers.{placementOf};
-ghost use Rattle.case_columns.specs.Asks.{isEnclosed, isKind, parsedStarts, parsedNext, parsedAsk};
+ghost use Rattle.case_columns.specs.Queries.{isEnclosed, isKind, parsedStarts, parsedNext, parsedQuery};
 use definitions::limits::PATTERNS;
 use definitions::packet::Placement;
 use definitions::packet::Start;
@@ -24,7 +24,7 @@ pub enum Kind {
 }
 
 // What is asked, and after which placement; it is empty but for `Next`. An enum with the placement in it would hold an array.
-pub struct Asked {
+pub struct Queried {
     pub kind: Kind,
     pub placement: Placement,
 }
@@ -33,7 +33,7 @@ pub struct Asked {
 const MAX_START: u64 = 18446744073709551615;
 
 // Whether it is an ask.
-pub fn is_ask(kind: Kind) -> bool
+pub fn is_query(kind: Kind) -> bool
     ensures { λ r. ⌜ r ≡ isKind kind ⌝ }
 {
     match kind {
@@ -45,10 +45,10 @@ pub fn is_ask(kind: Kind) -> bool
 }
 
 // With the placement of no starts.
-fn plain_ask(kind: Kind) -> Asked
+fn plain_query(kind: Kind) -> Queried
     ensures { λ r. ⌜ r ≡ record { kind = kind; placement = placementOf [] } ⌝ }
 {
-    Asked {
+    Queried {
         kind,
         placement: Placement {
             count: 0,
@@ -82,11 +82,11 @@ fn start_of(n: u64) -> Start
 }
 
 // The next one after the placement whose starts stand between the commas.
-fn parse_starts(s: &[u8]) -> Asked
+fn parse_starts(s: &[u8]) -> Queried
     ensures { λ r. ⌜ r ≡ parsedStarts (now (s .entry)) ⌝ }
 {
     if s.len() == 0 {
-        return plain_ask(Kind::Next);
+        return plain_query(Kind::Next);
     }
     let mut starts = [Start { at: 0 }; PATTERNS];
     let mut count = 0;
@@ -94,41 +94,41 @@ fn parse_starts(s: &[u8]) -> Asked
     while at <= s.len() {
         let e = part_before(&s[at..], b',');
         let NumberResult::Parsed(n) = parse_decimal(e, MAX_START) else {
-            return plain_ask(Kind::Bad);
+            return plain_query(Kind::Bad);
         };
         if PATTERNS <= count {
-            return plain_ask(Kind::Bad);
+            return plain_query(Kind::Bad);
         }
         starts[count] = start_of(n);
         count += 1;
         at += e.len() + 1;
     }
-    Asked {
+    Queried {
         kind: Kind::Next,
         placement: Placement { count, starts },
     }
 }
 
 // The starts between the brackets.
-fn parse_next(s: &[u8]) -> Asked
+fn parse_next(s: &[u8]) -> Queried
     ensures { λ r. ⌜ r ≡ parsedNext (now (s .entry)) ⌝ }
 {
     if !is_enclosed(s) {
-        return plain_ask(Kind::Bad);
+        return plain_query(Kind::Bad);
     }
     let rest = part_after(s, b'(');
     parse_starts(part_before(rest, b')'))
 }
 
 // The ask of a column.
-pub fn parse_ask(s: &[u8]) -> Asked
-    ensures { λ r. ⌜ r ≡ parsedAsk (now (s .entry)) ⌝ }
+pub fn parse_query(s: &[u8]) -> Queried
+    ensures { λ r. ⌜ r ≡ parsedQuery (now (s .entry)) ⌝ }
 {
     if is_word(s, b"all") {
-        return plain_ask(Kind::All);
+        return plain_query(Kind::All);
     }
     if is_word(s, b"first") {
-        return plain_ask(Kind::First);
+        return plain_query(Kind::First);
     }
     parse_next(s)
 }

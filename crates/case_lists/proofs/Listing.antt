@@ -10,8 +10,8 @@ use lib.ListN.{length, take, drop, getD}
 use Rattle.forms.specs.Bytes.{text}
 use Rattle.definitions.specs.declared.packet.Start.{Start}
 use Rattle.definitions.specs.declared.packet.Placement.{Placement}
-use Rattle.definitions.specs.declared.answers.Due.{Due}
-use Rattle.definitions.specs.declared.answers.Due.the-variants.{Fine, No}
+use Rattle.definitions.specs.declared.answers.Check.{Check}
+use Rattle.definitions.specs.declared.answers.Check.the-variants.{Pass, Refuse}
 use Rattle.definitions.specs.declared.answers.Found.the-variants.{Placed}
 use Rattle.definitions.specs.declared.answers.Answer.{Answer}
 use Rattle.definitions.proofs.answers.Found as found-type
@@ -25,7 +25,7 @@ use Rattle.write_bytes.proofs.Putting.{then, onward}
 use Rattle.match_starts.specs.StartTexts.{startText}
 use Rattle.search_state.specs.declared.outcomes.Outcome.{Outcome}
 use Rattle.search_state.specs.Outcomes.{outcomeOf}
-use Rattle.case_lists.specs.AnswerTexts.{startsAfter, startsText, placementText, placementsAfter, afterMost, listText, dueText, answerText}
+use Rattle.case_lists.specs.AnswerTexts.{startsAfter, startsText, placementText, placementsAfter, maxAfter, listText, checkText, answerText}
 use Rattle.case_lists.proofs.Rest.{starts-back, Ordered, first-rest, list-rest}
 
 -- ---- starts
@@ -59,24 +59,24 @@ after-over x (q ∷ qs) e n = refl
 
 -- ---- what "first" answers: a refusal that is due, none, or a placement
 
-pub first-not : (w : Due) (l : List (List Start)) (a : Answer) → a ≡ unless w (headOf l) → OneOf (1 ∷ 2 ∷ []) (tagOf found-type.the-type (a .found))
-    → dueText w (listText l) ≡ answerText a
-first-not Fine [] a e n = sym (ap answerText e)
-first-not Fine (q ∷ l) a e n = absurd (miss (1 ∷ 2 ∷ []) 0 tt (subst (λ (x : Answer). OneOf (1 ∷ 2 ∷ []) (tagOf found-type.the-type (x .found))) e n))
-first-not (No r) l a e n = sym (ap answerText e)
+pub first-not : (w : Check) (l : List (List Start)) (a : Answer) → a ≡ unless w (headOf l) → OneOf (1 ∷ 2 ∷ []) (tagOf found-type.the-type (a .found))
+    → checkText w (listText l) ≡ answerText a
+first-not Pass [] a e n = sym (ap answerText e)
+first-not Pass (q ∷ l) a e n = absurd (miss (1 ∷ 2 ∷ []) 0 tt (subst (λ (x : Answer). OneOf (1 ∷ 2 ∷ []) (tagOf found-type.the-type (x .found))) e n))
+first-not (Refuse r) l a e n = sym (ap answerText e)
 
 module _ (l : List (List Start)) (v : Ordered l) where
   -- a placement, and k of those after it
   abbrev fromOne : ℕ → Placement → List ℕ
   fromOne k h = placementText (startsOf h) ++ placementsAfter k (keep (lexLess (h .starts)) l)
 
-  pub first-one : (w : Due) (a : Answer) → a ≡ unless w (headOf l) → a .found ≡ Placed → dueText w (listText l) ≡ fromOne afterMost (a .placement)
+  pub first-one : (w : Check) (a : Answer) → a ≡ unless w (headOf l) → a .found ≡ Placed → checkText w (listText l) ≡ fromOne maxAfter (a .placement)
   first-one w a e n = go w l refl e
     where
-      go : (w : Due) (k : List (List Start)) → l ≡ k → a ≡ unless w (headOf k) → dueText w (listText k) ≡ fromOne afterMost (a .placement)
-      go Fine [] le h = cc
-      go Fine (q ∷ qs) le h = sym (ap (λ (x : Answer). fromOne afterMost (x .placement)) h ∙ rw (starts-back q, first-rest l v q qs le))
-      go (No r) k le h = cc
+      go : (w : Check) (k : List (List Start)) → l ≡ k → a ≡ unless w (headOf k) → checkText w (listText k) ≡ fromOne maxAfter (a .placement)
+      go Pass [] le h = cc
+      go Pass (q ∷ qs) le h = sym (ap (λ (x : Answer). fromOne maxAfter (x .placement)) h ∙ rw (starts-back q, first-rest l v q qs le))
+      go (Refuse r) k le h = cc
 
   -- ---- one placement more
 
@@ -92,24 +92,24 @@ module _ (l : List (List Start)) (v : Ordered l) where
   -- ---- the loop: of the bytes to write, those of the placements after b are still to come, where k are written already; x is what the search found
 
   module _ (all start : List ℕ) (at : ℕ) (b : List Start) (out : List ℕ) (next k : ℕ)
-      (left : puts start at all ≡ puts out next (placementsAfter (afterMost - k) (keep (lexLess b) l)))
+      (left : puts start at all ≡ puts out next (placementsAfter (maxAfter - k) (keep (lexLess b) l)))
       (x : Outcome) (e : x ≡ outcomeOf (keep (lexLess b) l)) where
     pub left-none : x .found ≡ false → Puts start at all out next
     unfolding puts
-    left-none n = record { is = sym (left ∙ ap (puts out next) (after-none x (keep (lexLess b) l) (afterMost - k) e n)) }
+    left-none n = record { is = sym (left ∙ ap (puts out next) (after-none x (keep (lexLess b) l) (maxAfter - k) e n)) }
 
-    pub left-on : k < afterMost → x .found ≡ true → {o o' : List ℕ} {i j : ℕ} → Puts out next (59 ∷ []) o i
+    pub left-on : k < maxAfter → x .found ≡ true → {o o' : List ℕ} {i j : ℕ} → Puts out next (59 ∷ []) o i
         → Puts o i (placementText (startsOf (x .placement))) o' j
-        → puts start at all ≡ puts o' j (placementsAfter (afterMost - (k + 1)) (keep (lexLess (x .placement .starts)) l))
+        → puts start at all ≡ puts o' j (placementsAfter (maxAfter - (k + 1)) (keep (lexLess (x .placement .starts)) l))
     left-on g n c d =
-        let less : afterMost - k ≡ suc (afterMost - (k + 1)) = omega arith in
+        let less : maxAfter - k ≡ suc (maxAfter - (k + 1)) = omega arith in
         left
         ∙ ap (λ (y : ℕ). puts out next (placementsAfter y (keep (lexLess b) l))) less
-        ∙ ap (puts out next) (after-one b x e n (afterMost - (k + 1)))
-        ∙ onward (placementsAfter (afterMost - (k + 1)) (keep (lexLess (x .placement .starts)) l)) (then c d)
+        ∙ ap (puts out next) (after-one b x e n (maxAfter - (k + 1)))
+        ∙ onward (placementsAfter (maxAfter - (k + 1)) (keep (lexLess (x .placement .starts)) l)) (then c d)
 
-    pub left-over : afterMost ≤ k → x .found ≡ true → {o : List ℕ} {i : ℕ} → Puts out next (text ";...") o i → Puts start at all o i
+    pub left-over : maxAfter ≤ k → x .found ≡ true → {o : List ℕ} {i : ℕ} → Puts out next (text ";...") o i → Puts start at all o i
     left-over g n c =
-        let none : afterMost - k ≡ 0 = omega arith in
+        let none : maxAfter - k ≡ 0 = omega arith in
         let rest = left ∙ ap (λ (y : ℕ). puts out next (placementsAfter y (keep (lexLess b) l))) none in
         record { is = c .is ∙ sym (rest ∙ ap (puts out next) (after-over x (keep (lexLess b) l) e n)) }

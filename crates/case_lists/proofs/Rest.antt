@@ -8,10 +8,10 @@ use lib.ListN.{length, replicate}
 use lib.Seq.{take-append-seam}
 use Rattle.definitions.specs.declared.table.Table.{Table}
 use Rattle.definitions.specs.declared.packet.Direction.{Direction}
-use Rattle.definitions.specs.declared.packet.Facts.{Facts}
+use Rattle.definitions.specs.declared.packet.PacketHeader.{PacketHeader}
 use Rattle.definitions.specs.declared.packet.FieldMap.{FieldMap}
 use Rattle.definitions.specs.declared.packet.Start.{Start}
-use Rattle.definitions.specs.Limits.{patternsMost}
+use Rattle.definitions.specs.Limits.{maxPatterns}
 use Rattle.definitions.specs.Lists.{keep}
 use Rattle.definitions.specs.Starts.{startAt}
 use Rattle.definitions.specs.Placements.{lexLess, itemsOf, positives}
@@ -21,7 +21,7 @@ use Rattle.laws.proofs.Listing.{listed-rising, listed-length}
 use Rattle.match_placements.specs.Listing.{listIn}
 
 pub starts-back : (q : List Start) → startsOf (placementOf q) ≡ q
-starts-back q = take-append-seam q (replicate (patternsMost - length q) (startAt 0))
+starts-back q = take-append-seam q (replicate (maxPatterns - length q) (startAt 0))
 
 -- the list rises, and each of its placements has so many starts
 pub record Ordered (l : List (List Start)) : Type 0 where
@@ -44,5 +44,5 @@ module _ (l : List (List Start)) (v : Ordered l) where
   pub list-rest : (b q : List Start) (qs : List (List Start)) → keep (lexLess b) l ≡ q ∷ qs → keep (lexLess (placementOf q .starts)) l ≡ qs
   list-rest b q qs e = own-starts q (kept-first b q qs l e) ∙ kept-rest b q qs l (v .rising) e
 
-pub list-ordered : (t : Table) (f : Facts) (s d : List ℕ) (dir : Direction) (m : FieldMap) → Ordered (listIn t f s d dir m)
+pub list-ordered : (t : Table) (f : PacketHeader) (s d : List ℕ) (dir : Direction) (m : FieldMap) → Ordered (listIn t f s d dir m)
 list-ordered t f s d dir m = record { starts = positives (itemsOf t); each = listed-length t _ dir; rising = listed-rising t _ dir }

@@ -6,13 +6,13 @@ use Rattle.forms.specs.Bytes.{text}
 use Rattle.definitions.specs.declared.packet.Start.{Start}
 use Rattle.definitions.specs.declared.packet.Placement.{Placement}
 use Rattle.definitions.specs.declared.answers.Refusal.{Refusal}
-use Rattle.definitions.specs.declared.answers.Due.{Due}
-use Rattle.definitions.specs.declared.answers.Due.the-variants.{Fine, No}
+use Rattle.definitions.specs.declared.answers.Check.{Check}
+use Rattle.definitions.specs.declared.answers.Check.the-variants.{Pass, Refuse}
 use Rattle.definitions.specs.declared.answers.Found.{Found}
 use Rattle.definitions.specs.declared.answers.Found.the-variants as found
 use Rattle.definitions.specs.declared.answers.Answer.{Answer}
 use Rattle.definitions.specs.Refusals.{numberOf}
-use Rattle.definitions.specs.House.{decimal}
+use Rattle.definitions.specs.Canonical.{decimal}
 use Rattle.definitions.specs.Answers.{startsOf}
 use Rattle.match_starts.specs.StartTexts.{startText}
 
@@ -37,21 +37,21 @@ placementsAfter k [] = []
 placementsAfter zero (q ∷ qs) = text ";..."
 placementsAfter (suc k) (q ∷ qs) = text ";" ++ (placementText q ++ placementsAfter k qs)
 
-abbrev pub afterMost : ℕ
-afterMost = 999
+abbrev pub maxAfter : ℕ
+maxAfter = 999
 
 abbrev pub listText : List (List Start) → List ℕ
 listText [] = text "none"
-listText (q ∷ qs) = placementText q ++ placementsAfter afterMost qs
+listText (q ∷ qs) = placementText q ++ placementsAfter maxAfter qs
 
 -- ---- refusals, and the answer to one ask
 
 abbrev pub refusedText : Refusal → List ℕ
 refusedText r = text "refused " ++ decimal (numberOf r)
 
-abbrev pub dueText : Due → List ℕ → List ℕ
-dueText Fine l = l
-dueText (No r) l = refusedText r
+abbrev pub checkText : Check → List ℕ → List ℕ
+checkText Pass l = l
+checkText (Refuse r) l = refusedText r
 
 abbrev pub foundText : Found → Placement → List ℕ
 foundText found.Placed h = placementText (startsOf h)

@@ -1,12 +1,12 @@
 // The list of placements: what is due is tested once, and each search is for the least after the placement written last.
 ghost use Rattle.definitions.specs.Lists.{keep};
-ghost use Rattle.definitions.specs.Fields.{fieldsDue};
+ghost use Rattle.definitions.specs.Fields.{fieldsCheck};
 ghost use Rattle.definitions.specs.Placements.{lexLess};
-ghost use Rattle.definitions.specs.Answers.{verdictDue, placementsOf};
+ghost use Rattle.definitions.specs.Answers.{inputCheck, placementsOf};
 ghost use Rattle.write_bytes.specs.Puts.{Puts};
 ghost use Rattle.search.specs.Searching.{Searchable};
 ghost use Rattle.match_placements.specs.Listing.{listIn};
-ghost use Rattle.case_lists.specs.AnswerTexts.{placementsAfter, afterMost, listText, dueText};
+ghost use Rattle.case_lists.specs.AnswerTexts.{placementsAfter, maxAfter, listText, checkText};
 use crate::answers::put_answer;
 use crate::answers::put_refused;
 use crate::placements::put_placement;
@@ -14,8 +14,8 @@ use definitions::answers::Found;
 use definitions::answers::PacketAnswer;
 use definitions::limits::PATTERNS;
 use definitions::packet::Direction;
-use definitions::packet::Facts;
 use definitions::packet::FieldMap;
+use definitions::packet::PacketHeader;
 use definitions::packet::Start;
 use definitions::table::Table;
 use match_checks::cleared;
@@ -33,7 +33,7 @@ fn put_after<'a>(
     out: &mut [u8],
     at: usize,
     t: Table,
-    facts: Facts,
+    header: PacketHeader,
     payload: &'a [u8],
     decoded: &'a [u8],
     dir: Direction,
@@ -41,13 +41,13 @@ fn put_after<'a>(
     starts: [Start; PATTERNS],
 ) -> usize
     requires { ⌜ Searchable t (now payload) (now decoded) ⌝ }
-    ensures { λ r. ⌜ Puts (now (out .entry)) at (placementsAfter afterMost (keep (lexLess starts) (listIn t facts (now (payload .entry)) (now (decoded .entry)) dir m))) (now (out .exit)) r ⌝ }
+    ensures { λ r. ⌜ Puts (now (out .entry)) at (placementsAfter maxAfter (keep (lexLess starts) (listIn t header (now (payload .entry)) (now (decoded .entry)) dir m))) (now (out .exit)) r ⌝ }
 {
     let mut bound = starts;
     let mut next = at;
     let mut k = 0;
     while k < AFTER {
-        let x = find(t, facts, payload, decoded, dir, m, bound, true);
+        let x = find(t, header, payload, decoded, dir, m, bound, true);
         if !x.found {
             return next;
         }
@@ -57,7 +57,7 @@ fn put_after<'a>(
         bound = placement.starts;
         k += 1;
     }
-    let more = find(t, facts, payload, decoded, dir, m, bound, true);
+    let more = find(t, header, payload, decoded, dir, m, bound, true);
     if !more.found {
         return next;
     }
@@ -69,16 +69,16 @@ fn put_seen<'a>(
     out: &mut [u8],
     at: usize,
     t: Table,
-    facts: Facts,
+    header: PacketHeader,
     payload: &'a [u8],
     decoded: &'a [u8],
     dir: Direction,
     m: FieldMap,
 ) -> usize
     requires { ⌜ Searchable t (now payload) (now decoded) ⌝ }
-    ensures { λ r. ⌜ Puts (now (out .entry)) at (dueText (fieldsDue (now (payload .entry)) (now (decoded .entry)) m) (listText (listIn t facts (now (payload .entry)) (now (decoded .entry)) dir m))) (now (out .exit)) r ⌝ }
+    ensures { λ r. ⌜ Puts (now (out .entry)) at (checkText (fieldsCheck (now (payload .entry)) (now (decoded .entry)) m) (listText (listIn t header (now (payload .entry)) (now (decoded .entry)) dir m))) (now (out .exit)) r ⌝ }
 {
-    let a = first_in(t, facts, payload, decoded, dir, m);
+    let a = first_in(t, header, payload, decoded, dir, m);
     let found = a.found;
     let Found::Placed = found else {
         return put_answer(out, at, a);
@@ -86,7 +86,7 @@ fn put_seen<'a>(
     let placement = a.placement;
     let next = put_placement(out, at, placement);
     let starts = placement.starts;
-    put_after(out, next, t, facts, payload, decoded, dir, m, starts)
+    put_after(out, next, t, header, payload, decoded, dir, m, starts)
 }
 
 // The first refusal that is due, or the list.
@@ -99,14 +99,14 @@ pub fn put_list<'a>(
     dir: Direction,
     m: FieldMap,
 ) -> usize
-    ensures { λ r. ⌜ Puts (now (out .entry)) at (dueText (verdictDue t (now (p .entry)) (now (decoded .entry)) dir m) (listText (placementsOf t (now (p .entry)) (now (decoded .entry)) dir m))) (now (out .exit)) r ⌝ }
+    ensures { λ r. ⌜ Puts (now (out .entry)) at (checkText (inputCheck t (now (p .entry)) (now (decoded .entry)) dir m) (listText (placementsOf t (now (p .entry)) (now (decoded .entry)) dir m))) (now (out .exit)) r ⌝ }
 {
     let seen = cleared(t, p, decoded);
     match seen {
         PacketAnswer::Refused(r) => put_refused(out, at, r),
-        PacketAnswer::Seen(facts) => {
-            let payload = payload_of(p, facts);
-            put_seen(out, at, t, facts, payload, decoded, dir, m)
+        PacketAnswer::Seen(header) => {
+            let payload = payload_of(p, header);
+            put_seen(out, at, t, header, payload, decoded, dir, m)
         }
     }
 }

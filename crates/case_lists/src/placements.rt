@@ -1,7 +1,7 @@
 // One placement, such as `(2,3)` or `()`.
 ghost use Prim.Native.Nat.{_≤_};
 ghost use lib.ListN.{take, drop};
-ghost use Rattle.definitions.specs.Limits.{patternsMost};
+ghost use Rattle.definitions.specs.Limits.{maxPatterns};
 ghost use Rattle.definitions.specs.Answers.{startsOf};
 ghost use Rattle.write_bytes.specs.Puts.{Puts};
 ghost use Rattle.case_lists.specs.AnswerTexts.{startsAfter, startsText, placementText};
@@ -14,7 +14,7 @@ use write_bytes::put;
 
 // The starts after the first of n.
 fn put_starts_after(out: &mut [u8], at: usize, starts: [Start; PATTERNS], n: usize) -> usize
-    requires { ⌜ n ≤ patternsMost ⌝ }
+    requires { ⌜ n ≤ maxPatterns ⌝ }
     ensures { λ r. ⌜ Puts (now (out .entry)) at (startsAfter (drop 1 (take n starts))) (now (out .exit)) r ⌝ }
 {
     let mut next = at;

@@ -2,12 +2,12 @@
 use mathlib.Core.Path.{_≡_, refl}
 use mathlib.Core.Bool.{Bool, true, _&&_}
 use mathlib.Core.List.{List, [], _∷_}
-use Rattle.forms.specs.Scan.{fair}
+use Rattle.forms.specs.Scan.{isLL1}
 use Rattle.definitions.specs.Options.{Option, optionTable}
 
 unfoldable pub allFair : List Option → Bool
 allFair [] = true
-allFair (o ∷ os) = fair (o .form) && allFair os
+allFair (o ∷ os) = isLL1 (o .form) && allFair os
 
 pub options-fair : allFair optionTable ≡ true
 unfolding allFair optionTable

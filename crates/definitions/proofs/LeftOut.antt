@@ -9,7 +9,7 @@ use lib.ListN.{length}
 use lib.Dec.{eqb}
 use Rattle.forms.specs.Bytes.{text}
 use Rattle.definitions.specs.declared.answers.ReadOutcome.{ReadOutcome}
-use Rattle.definitions.specs.Limits.{limits01}
+use Rattle.definitions.specs.Limits.{documentLimits}
 use Rattle.definitions.specs.Lists.{all?}
 use Rattle.definitions.specs.Refusals.{readNumber, readPlace}
 use Rattle.definitions.specs.Reading.{read}
@@ -56,7 +56,7 @@ pub refusedAt : ℕ → ℕ → ReadOutcome → Bool
 refusedAt n p o = eqb (readNumber o) n && eqb (readPlace o) p
 
 pub refused : LeftOut → Bool
-refused l = refusedAt (l .number) (length front) (read limits01 (front ++ (text "--" ++ (text (l .option) ++ text ")"))) .outcome)
+refused l = refusedAt (l .number) (length front) (read documentLimits (front ++ (text "--" ++ (text (l .option) ++ text ")"))) .outcome)
 
 pub left-out : all? refused leftOut ≡ true
 unfolding computing row leftOut front refusedAt refused

@@ -3,7 +3,7 @@ use mathlib.Core.Path.{_≡_, refl}
 use mathlib.Core.List.{List, _++_}
 use Prim.Native.Nat.{ℕ}
 use Rattle.forms.specs.Bytes.{text}
-use Rattle.definitions.specs.Limits.{limits01}
+use Rattle.definitions.specs.Limits.{documentLimits}
 use Rattle.definitions.specs.Lines.{programOutput}
 use Rattle.definitions.specs.Computing.{computing}
 
@@ -17,6 +17,6 @@ output =
     text "1\tok\tF-SBID( --name \"H.SET\"; --protocol 6; --pattern \"SET \"; --within 10; )\n"
     ++ text "2\t12\t8\n"
 
-pub sample : programOutput limits01 input ≡ output
+pub sample : programOutput documentLimits input ≡ output
 unfolding computing input output
 sample = refl

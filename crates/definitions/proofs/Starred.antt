@@ -2,7 +2,7 @@
 use mathlib.Core.Path.{_≡_, refl}
 use mathlib.Core.Bool.{true}
 use Rattle.definitions.specs.Lists.{all?}
-use Rattle.definitions.specs.Cases.{cases, slips, right}
+use Rattle.definitions.specs.Cases.{cases, knownMistakes, right}
 use Rattle.definitions.specs.Computing.{computing}
 
 pub starred : all? right cases ≡ true
@@ -10,6 +10,6 @@ unfolding computing
 starred = refl
 
 -- and so do the cases of the slips
-pub slips-avoided : all? right slips ≡ true
+pub known-mistakes-avoided : all? right knownMistakes ≡ true
 unfolding computing
-slips-avoided = refl
+known-mistakes-avoided = refl

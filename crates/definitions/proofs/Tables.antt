@@ -19,9 +19,9 @@ use Rattle.definitions.specs.declared.table.Item.the-variants as item
 use Rattle.definitions.specs.declared.table.Address.{Address}
 use Rattle.definitions.specs.declared.table.Slot.{Slot}
 use Rattle.definitions.specs.declared.table.Table.{Table}
-use Rattle.definitions.specs.Limits.{limits01, nameMost}
+use Rattle.definitions.specs.Limits.{documentLimits, maxName}
 use Rattle.definitions.specs.Lists.{all?, padded}
-use Rattle.definitions.specs.Entries as entry
+use Rattle.definitions.specs.OptionValues as entry
 use Rattle.definitions.specs.Tables.{bare, with, slotOf, noSlot, tableOf}
 use Rattle.definitions.specs.Items.{Kind, unused, addressed, patterned, plainTest, kindOf}
 use Rattle.definitions.specs.Reading.{read}
@@ -29,7 +29,7 @@ use Rattle.definitions.specs.WellFormed.{wellFormed}
 use Rattle.definitions.specs.Computing.{computing}
 
 pub good : Table
-good = read limits01 (text "F-SBID(--name \"ab\";--protocol 6;--pattern \"xy\";--distance 1;--same_ip;--src_addr [1.2.3.4,5.6.7.8/9];)") .table
+good = read documentLimits (text "F-SBID(--name \"ab\";--protocol 6;--pattern \"xy\";--distance 1;--same_ip;--src_addr [1.2.3.4,5.6.7.8/9];)") .table
 
 -- ---- edits
 
@@ -38,7 +38,7 @@ withProtocol p t = record { name = t .name; len = t .len; protocol = p; flow = t
 
 -- a name of n bytes, of which the first are b
 pub named : List ℕ → ℕ → Table → Table
-named b n t = record { name = padded nameMost 0 b; len = n; protocol = t .protocol; flow = t .flow; bytes = t .bytes; used = t .used; items = t .items; count = t .count }
+named b n t = record { name = padded maxName 0 b; len = n; protocol = t .protocol; flow = t .flow; bytes = t .bytes; used = t .used; items = t .items; count = t .count }
 
 pub counted : ℕ → Table → Table
 counted n t = record { name = t .name; len = t .len; protocol = t .protocol; flow = t .flow; bytes = t .bytes; used = t .used; items = t .items; count = n }

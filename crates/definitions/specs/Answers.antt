@@ -11,19 +11,19 @@ use Rattle.definitions.specs.declared.packet.Start.{Start}
 use Rattle.definitions.specs.declared.packet.Placement.{Placement}
 use Rattle.definitions.specs.declared.answers.Refusal.{Refusal}
 use Rattle.definitions.specs.declared.answers.Refusal.the-variants as refusal
-use Rattle.definitions.specs.declared.answers.Due.{Due}
-use Rattle.definitions.specs.declared.answers.Due.the-variants.{Fine, No}
+use Rattle.definitions.specs.declared.answers.Check.{Check}
+use Rattle.definitions.specs.declared.answers.Check.the-variants.{Pass, Refuse}
 use Rattle.definitions.specs.declared.answers.Verdict.{Verdict}
 use Rattle.definitions.specs.declared.answers.Verdict.the-variants as verdict
 use Rattle.definitions.specs.declared.answers.Found.the-variants.{Placed, Nothing, Refused}
 use Rattle.definitions.specs.declared.answers.Answer.{Answer}
-use Rattle.definitions.specs.Limits.{patternsMost}
+use Rattle.definitions.specs.Limits.{maxPatterns}
 use Rattle.definitions.specs.Lists.{keep, padded}
 use Rattle.definitions.specs.Starts.{startAt}
-use Rattle.definitions.specs.Refusals.{refuseIf, orElse}
+use Rattle.definitions.specs.Refusals.{refuseIf, andThen}
 use Rattle.definitions.specs.WellFormed.{wellFormed}
-use Rattle.definitions.specs.Packet.{datagramOf, payloadOf, packetDue}
-use Rattle.definitions.specs.Fields.{viewOf, fieldsDue}
+use Rattle.definitions.specs.Packet.{datagramOf, payloadOf, packetCheck}
+use Rattle.definitions.specs.Fields.{viewOf, fieldsCheck}
 use Rattle.definitions.specs.Placements.{lexLess, itemsOf, positives, listed}
 
 -- a placement's starts; and the placement with the starts q, unused room zero
@@ -31,7 +31,7 @@ abbrev pub startsOf : Placement → List Start
 startsOf h = take (h .count) (h .starts)
 
 abbrev pub placementOf : List Start → Placement
-placementOf q = record { count = length q; starts = padded patternsMost (startAt 0) q }
+placementOf q = record { count = length q; starts = padded maxPatterns (startAt 0) q }
 
 -- the placement of a refusal, and of none, has count 0
 abbrev pub foundAnswer : List Start → Answer
@@ -48,38 +48,38 @@ abbrev pub headOf : List (List Start) → Answer
 headOf [] = noneAnswer
 headOf (q ∷ qs) = foundAnswer q
 
-abbrev pub unless : Due → Answer → Answer
-unless Fine a = a
-unless (No r) a = refusedAnswer r
+abbrev pub unless : Check → Answer → Answer
+unless Pass a = a
+unless (Refuse r) a = refusedAnswer r
 
-abbrev pub verdictBy : Due → List (List Start) → Verdict
-verdictBy Fine [] = verdict.NotMet
-verdictBy Fine (q ∷ qs) = verdict.Met
-verdictBy (No r) l = verdict.Refused r
+abbrev pub verdictBy : Check → List (List Start) → Verdict
+verdictBy Pass [] = verdict.NotMet
+verdictBy Pass (q ∷ qs) = verdict.Met
+verdictBy (Refuse r) l = verdict.Refused r
 
 -- a table, a lent packet and a lent decoded buffer, a direction and a map
 module _ (t : Table) (p decoded : List ℕ) (dir : Direction) (m : FieldMap) where
   -- 20, then 30 to 35
-  unfoldable pub verdictDue : Due
-  verdictDue =
+  unfoldable pub inputCheck : Check
+  inputCheck =
       refuseIf (not (wellFormed t)) refusal.IllFormed
-      (orElse (packetDue p decoded) (fieldsDue (payloadOf (datagramOf p)) decoded m))
+      (andThen (packetCheck p decoded) (fieldsCheck (payloadOf (datagramOf p)) decoded m))
 
   unfoldable pub placementsOf : List (List Start)
   placementsOf = listed t (viewOf p decoded m) dir
 
   -- THE VERDICT: met exactly if some placement meets the table
   unfoldable pub verdictAnswer : Verdict
-  verdictAnswer = verdictBy verdictDue placementsOf
+  verdictAnswer = verdictBy inputCheck placementsOf
 
   -- FIRST: the first of the list of placements, or none
   unfoldable pub firstAnswer : Answer
-  firstAnswer = unless verdictDue (headOf placementsOf)
+  firstAnswer = unless inputCheck (headOf placementsOf)
 
   -- 36: the earlier placement's count is not the number of positive patterns
-  abbrev pub earlierDue : Placement → Due
-  earlierDue h = refuseIf (not (eqb (h .count) (positives (itemsOf t)))) refusal.EarlierCount Fine
+  abbrev pub earlierCheck : Placement → Check
+  earlierCheck h = refuseIf (not (eqb (h .count) (positives (itemsOf t)))) refusal.EarlierCount Pass
 
   -- NEXT: the least of the list after the earlier placement, or none
   unfoldable pub nextAnswer : Placement → Answer
-  nextAnswer h = unless (orElse verdictDue (earlierDue h)) (headOf (keep (lexLess (startsOf h)) placementsOf))
+  nextAnswer h = unless (andThen inputCheck (earlierCheck h)) (headOf (keep (lexLess (startsOf h)) placementsOf))

@@ -10,9 +10,9 @@ use Rattle.definitions.specs.declared.packet.FieldSpan.{FieldSpan}
 use Rattle.definitions.specs.declared.packet.FieldSpan.the-variants.{Absent, At}
 use Rattle.definitions.specs.declared.packet.FieldMap.{FieldMap}
 use Rattle.definitions.specs.declared.answers.Reading.{Reading}
-use Rattle.definitions.specs.declared.answers.Ask.{Ask}
-use Rattle.definitions.specs.declared.answers.Ask.the-variants.{First, Next}
-use Rattle.definitions.specs.Limits.{limits01}
+use Rattle.definitions.specs.declared.answers.Query.{Query}
+use Rattle.definitions.specs.declared.answers.Query.the-variants.{First, Next}
+use Rattle.definitions.specs.Limits.{documentLimits}
 use Rattle.forms.specs.Bytes.{text}
 use Rattle.definitions.specs.Lists.{sameBytes}
 use Rattle.definitions.specs.Numbers.{digitValue}
@@ -20,7 +20,7 @@ use Rattle.definitions.specs.Starts.{startAt}
 use Rattle.definitions.specs.Refusals.{readNumber, readPlace}
 use Rattle.definitions.specs.Reading.{read}
 use Rattle.definitions.specs.Answers.{placementOf}
-use Rattle.definitions.specs.Asks.{answers, answerNumbers}
+use Rattle.definitions.specs.Queries.{answers, answerNumbers}
 
 -- bytes written as pairs of hex digits
 unfoldable pub pairs : List ℕ → List ℕ
@@ -57,19 +57,19 @@ pub record Case : Type 0 where
   pub payload : List ℕ
   pub uri : FieldSpan
   pub held : List ℕ
-  pub asks : List Ask
+  pub queries : List Query
   pub number : ℕ
   pub place : ℕ
   pub expected : List (List ℕ)
 
 unfoldable pub numbersOf : Case → Reading → List (List ℕ)
-numbersOf c r = map answerNumbers (answers (r .table) (packetWith (c .payload)) [] Client (uriOnly (c .uri)) (placementOf (map startAt (c .held))) (c .asks))
+numbersOf c r = map answerNumbers (answers (r .table) (packetWith (c .payload)) [] Client (uriOnly (c .uri)) (placementOf (map startAt (c .held))) (c .queries))
 
 unfoldable pub rightBy : Case → Reading → Bool
 rightBy c r = eqb (readNumber (r .outcome)) (c .number) && (eqb (readPlace (r .outcome)) (c .place) && sameLists (numbersOf c r) (c .expected))
 
 unfoldable pub right : Case → Bool
-right c = rightBy c (read limits01 (c .source))
+right c = rightBy c (read documentLimits (c .source))
 
 -- the answers: found with the starts q, and none
 unfoldable pub found : List ℕ → List ℕ
@@ -79,14 +79,14 @@ unfoldable pub none : List ℕ
 none = replicate 11 0
 
 -- a case on a payload, no field but packet; a text alone
-unfoldable pub onPayload : String → String → List ℕ → List Ask → List (List ℕ) → Case
-onPayload p options held asks expected = record { source = signature options; payload = text p; uri = Absent; held = held; asks = asks; number = 0; place = 0; expected = expected }
+unfoldable pub onPayload : String → String → List ℕ → List Query → List (List ℕ) → Case
+onPayload p options held queries expected = record { source = signature options; payload = text p; uri = Absent; held = held; queries = queries; number = 0; place = 0; expected = expected }
 
-unfoldable pub onUri : FieldSpan → String → List Ask → List (List ℕ) → Case
-onUri u options asks expected = record { source = signature options; payload = text "aaXbbX"; uri = u; held = []; asks = asks; number = 0; place = 0; expected = expected }
+unfoldable pub onUri : FieldSpan → String → List Query → List (List ℕ) → Case
+onUri u options queries expected = record { source = signature options; payload = text "aaXbbX"; uri = u; held = []; queries = queries; number = 0; place = 0; expected = expected }
 
 unfoldable pub onText : String → ℕ → ℕ → Case
-onText s n p = record { source = text s; payload = []; uri = Absent; held = []; asks = []; number = n; place = p; expected = [] }
+onText s n p = record { source = text s; payload = []; uri = Absent; held = []; queries = []; number = n; place = p; expected = [] }
 
 unfoldable pub cases : List Case
 cases =
@@ -120,8 +120,8 @@ cases =
 
 -- Section "Slips we have seen", a case for each: only the first place of an earlier pattern is kept; a negative window start is raised to 0
 -- before within is added; a negated pattern is met because its field is missing
-unfoldable pub slips : List Case
-slips =
+unfoldable pub knownMistakes : List Case
+knownMistakes =
     onPayload "aaXbbX" "--pattern \"a\"; --pattern \"X\"; --distance 0; --within 1;" [] (First ∷ Next ∷ []) (found (1 ∷ 2 ∷ []) ∷ none ∷ []) ∷
     onPayload "aaXbbX" "--pattern \"a\"; --distance -1,packet; --within 2,packet;" [] (First ∷ Next ∷ []) (found (0 ∷ []) ∷ none ∷ []) ∷
     onUri Absent "--pattern \"X\"; --pattern !\"q\"; --context uri;" (First ∷ []) (none ∷ []) ∷

@@ -13,13 +13,13 @@ use Rattle.definitions.specs.declared.packet.Span.{Span}
 use Rattle.definitions.specs.declared.packet.FieldSpan.{FieldSpan}
 use Rattle.definitions.specs.declared.packet.FieldSpan.the-variants.{Absent, At}
 use Rattle.definitions.specs.declared.packet.FieldMap.{FieldMap}
-use Rattle.definitions.specs.declared.packet.Facts.{Facts}
+use Rattle.definitions.specs.declared.packet.PacketHeader.{PacketHeader}
 use Rattle.definitions.specs.declared.answers.Refusal.the-variants as refusal
-use Rattle.definitions.specs.declared.answers.Due.{Due}
-use Rattle.definitions.specs.declared.answers.Due.the-variants.{Fine}
+use Rattle.definitions.specs.declared.answers.Check.{Check}
+use Rattle.definitions.specs.declared.answers.Check.the-variants.{Pass}
 use Rattle.definitions.specs.Lists.{any?}
 use Rattle.definitions.specs.Refusals.{refuseIf}
-use Rattle.definitions.specs.Packet.{datagramOf, factsOf, payloadOf}
+use Rattle.definitions.specs.Packet.{datagramOf, headerOf, payloadOf}
 
 -- body, banner and file lie in the payload, as context packet does; uri, header and host in the decoded buffer
 abbrev pub bufferOf : List ℕ → List ℕ → Context → List ℕ
@@ -75,8 +75,8 @@ fieldPasses payload decoded m c = passes (spanOf payload m c) (bufferOf payload 
 abbrev pub mapped : List Context
 mapped = context.Uri ∷ context.Header ∷ context.Body ∷ context.Banner ∷ context.Host ∷ context.File ∷ []
 
-unfoldable pub fieldsDue : List ℕ → List ℕ → FieldMap → Due
-fieldsDue payload decoded m = refuseIf (any? (fieldPasses payload decoded m) mapped) refusal.FieldSpan Fine
+unfoldable pub fieldsCheck : List ℕ → List ℕ → FieldMap → Check
+fieldsCheck payload decoded m = refuseIf (any? (fieldPasses payload decoded m) mapped) refusal.FieldSpan Pass
 
 -- the field of data_size
 abbrev pub sizeContext : SizeField → Context
@@ -88,14 +88,14 @@ sizeContext sizeField.Body = context.Body
 -- ALL THAT A VERDICT SEES where nothing is refused, besides the table, the direction and an earlier placement: the datagram's facts,
 -- which fields are present, and the bytes of each; an absent field has none
 pub record View : Type 0 where
-  pub facts : Facts
+  pub header : PacketHeader
   pub present : Context → Bool
   pub field : Context → List ℕ
 
 abbrev pub viewOf : List ℕ → List ℕ → FieldMap → View
 viewOf p decoded m =
     record {
-      facts = factsOf (datagramOf p);
+      header = headerOf (datagramOf p);
       present = present m;
       field = fieldOf (payloadOf (datagramOf p)) decoded m;
     }

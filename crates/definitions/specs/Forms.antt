@@ -6,8 +6,8 @@ use lib.ListN.{length}
 use lib.Dec.{leb}
 use lib.IntN.{ℤ, pos, negℤ}
 use Rattle.forms.specs.Bytes.{if_then_else_, text}
-use Rattle.forms.specs.Form.{Class, Form, tell, byte, pair, star, made, bound}
-use Rattle.forms.specs.Pieces.{skip, before, or, opt, some, sign, mark, says, word}
+use Rattle.forms.specs.Form.{Class, Form, pure, byte, pair, many, fmap, bound}
+use Rattle.forms.specs.Pieces.{preceded, terminated, or, opt, some, literal, literalAs, keyword, word}
 use Rattle.definitions.specs.declared.table.Flow.the-variants as flow
 use Rattle.definitions.specs.declared.table.Side.{Side}
 use Rattle.definitions.specs.declared.table.NumberField.{NumberField}
@@ -27,36 +27,36 @@ use Rattle.definitions.specs.declared.table.Reference.the-variants as re
 use Rattle.definitions.specs.declared.table.Item.{Item}
 use Rattle.definitions.specs.declared.table.Item.the-variants as item
 use Rattle.definitions.specs.declared.table.Address.{Address}
-use Rattle.definitions.specs.Limits.{byteMost, wordMost, nameMost, prefixMost}
+use Rattle.definitions.specs.Limits.{maxByte, maxWord, maxName, maxPrefix}
 use Rattle.definitions.specs.Numbers.{hexDigits, digitValue, number, numeral}
-use Rattle.definitions.specs.Entries.{Context, NoCase, Distance, Within, Entry, Name, Protocol, Flow, Test, Pattern, Modified}
+use Rattle.definitions.specs.OptionValues.{Context, NoCase, Distance, Within, OptionValue, Name, Protocol, Flow, Test, Pattern, Modified}
 
 -- ---- spaces and the end of an option
 
 -- any spaces; one or more
 abbrev pub spaces : Form (List ℕ)
-spaces = star (sign 32)
+spaces = many (literal 32)
 
 abbrev pub gap : Form (List ℕ)
-gap = some (sign 32)
+gap = some (literal 32)
 
 -- any spaces and `;` behind a value; one or more spaces before it
-abbrev pub closed : Form Entry → Form Entry
-closed f = before f (skip spaces (sign 59))
+abbrev pub closed : Form OptionValue → Form OptionValue
+closed f = terminated f (preceded spaces (literal 59))
 
-abbrev pub valued : Form Entry → Form Entry
-valued f = skip gap (closed f)
+abbrev pub valued : Form OptionValue → Form OptionValue
+valued f = preceded gap (closed f)
 
 -- optional `,` and then
 abbrev pub comma : {A : Type 0} → A → Form A → Form A
-comma a f = opt a (skip (sign 44) f)
+comma a f = opt a (preceded (literal 44) f)
 
 -- optional `!`
 abbrev pub negation : Form Bool
-negation = opt false (mark 33 true)
+negation = opt false (literalAs 33 true)
 
 -- a test without addresses
-abbrev pub test : Item → Entry
+abbrev pub test : Item → OptionValue
 test it = Test it []
 
 -- ---- the rows
@@ -65,118 +65,118 @@ test it = Test it []
 abbrev pub quotable : Class
 quotable = (32, 33) ∷ (35, 58) ∷ (60, 126) ∷ []
 
-abbrev pub nameForm : Form Entry
+abbrev pub nameForm : Form OptionValue
 nameForm =
-    valued (made Name
-    (bound (λ (n : List ℕ). leb (length n) nameMost) (λ (n : List ℕ). 0)
-    (skip (sign 34) (before (some (byte quotable)) (sign 34)))))
+    valued (fmap Name
+    (bound (λ (n : List ℕ). leb (length n) maxName) (λ (n : List ℕ). 0)
+    (preceded (literal 34) (terminated (some (byte quotable)) (literal 34)))))
 
 -- protocol: `tcp` (6), `udp` (17), `icmp` (1) or 0..255
-abbrev pub protocolForm : Form Entry
-protocolForm = valued (made Protocol (or (says (text "tcp") 6) (or (says (text "udp") 17) (or (says (text "icmp") 1) (number byteMost)))))
+abbrev pub protocolForm : Form OptionValue
+protocolForm = valued (fmap Protocol (or (keyword (text "tcp") 6) (or (keyword (text "udp") 17) (or (keyword (text "icmp") 1) (number maxByte)))))
 
 -- flow: `from_client` or `from_server`
-abbrev pub flowForm : Form Entry
-flowForm = valued (made Flow (skip (word (text "from_")) (or (says (text "client") flow.FromClient) (says (text "server") flow.FromServer))))
+abbrev pub flowForm : Form OptionValue
+flowForm = valued (fmap Flow (preceded (word (text "from_")) (or (keyword (text "client") flow.FromClient) (keyword (text "server") flow.FromServer))))
 
 -- an address is four numbers 0..255, optional `/0`..`/32`
 abbrev pub addressOf : ℕ × (ℕ × (ℕ × (ℕ × ℕ))) → Address
 addressOf p = record { number = ((p .0 * 256 + p .1 .0) * 256 + p .1 .1 .0) * 256 + p .1 .1 .1 .0; prefix = p .1 .1 .1 .1 }
 
 abbrev pub octet : Form ℕ
-octet = number byteMost
+octet = number maxByte
 
 abbrev pub dotted : Form ℕ
-dotted = before octet (sign 46)
+dotted = terminated octet (literal 46)
 
 abbrev pub address : Form Address
-address = made addressOf (pair dotted (pair dotted (pair dotted (pair octet (opt prefixMost (skip (sign 47) (number prefixMost)))))))
+address = fmap addressOf (pair dotted (pair dotted (pair dotted (pair octet (opt maxPrefix (preceded (literal 47) (number maxPrefix)))))))
 
 -- one address, or one or more in `[ ]` parted by commas (a ninth is refusal 11)
 abbrev pub addresses : Form (List Address)
 addresses =
     or
-    (skip (sign 91) (before (made (λ (p : Address × List Address). p .0 ∷ p .1) (pair address (star (skip (sign 44) address)))) (sign 93)))
-    (made (λ (a : Address). a ∷ []) address)
+    (preceded (literal 91) (terminated (fmap (λ (p : Address × List Address). p .0 ∷ p .1) (pair address (many (preceded (literal 44) address)))) (literal 93)))
+    (fmap (λ (a : Address). a ∷ []) address)
 
 -- src_addr, dst_addr: optional `!`, then the addresses
-abbrev pub addressTest : Side → Bool × List Address → Entry
+abbrev pub addressTest : Side → Bool × List Address → OptionValue
 addressTest side p = Test (item.Address (record { side = side; negated = p .0; count = length (p .1) })) (p .1)
 
-abbrev pub addressForm : Side → Form Entry
-addressForm side = valued (made (addressTest side) (pair negation addresses))
+abbrev pub addressForm : Side → Form OptionValue
+addressForm side = valued (fmap (addressTest side) (pair negation addresses))
 
 -- same_ip: none
-abbrev pub sameIpForm : Form Entry
-sameIpForm = closed (tell (test item.SameIp))
+abbrev pub sameIpForm : Form OptionValue
+sameIpForm = closed (pure (test item.SameIp))
 
 -- ip_id, src_port, dst_port: 0..65535; ip_tos: 0..255
-abbrev pub numberMost : NumberField → ℕ
-numberMost numberField.IpId = wordMost
-numberMost numberField.SourcePort = wordMost
-numberMost numberField.DestinationPort = wordMost
-numberMost numberField.Tos = byteMost
+abbrev pub maxNumber : NumberField → ℕ
+maxNumber numberField.IpId = maxWord
+maxNumber numberField.SourcePort = maxWord
+maxNumber numberField.DestinationPort = maxWord
+maxNumber numberField.Tos = maxByte
 
-abbrev pub numberForm : NumberField → Form Entry
-numberForm f = valued (made (λ (n : ℕ). test (item.Number (record { field = f; number = n }))) (number (numberMost f)))
+abbrev pub numberForm : NumberField → Form OptionValue
+numberForm f = valued (fmap (λ (n : ℕ). test (item.Number (record { field = f; number = n }))) (number (maxNumber f)))
 
 -- optional `<` or `>`
 abbrev pub lessOrGreater : Form Order
-lessOrGreater = or (mark 60 order.Less) (mark 62 order.Greater)
+lessOrGreater = or (literalAs 60 order.Less) (literalAs 62 order.Greater)
 
 -- ip_ttl: optional `<` or `>`, 0..255
-abbrev pub ttlForm : Form Entry
+abbrev pub ttlForm : Form OptionValue
 ttlForm =
-    valued (made (λ (p : Order × ℕ). test (item.Ttl (record { order = p .0; number = p .1 })))
-    (pair (opt order.Equal lessOrGreater) (number byteMost)))
+    valued (fmap (λ (p : Order × ℕ). test (item.Ttl (record { order = p .0; number = p .1 })))
+    (pair (opt order.Equal lessOrGreater) (number maxByte)))
 
 -- ip.total_length, ip.id, ip.checksum (to 65535), ip.ttl (to 255): the limit of mask and number, which is the full mask too
-abbrev pub fieldMost : HeaderField → ℕ
-fieldMost headerField.TotalLength = wordMost
-fieldMost headerField.Id = wordMost
-fieldMost headerField.Checksum = wordMost
-fieldMost headerField.Ttl = byteMost
+abbrev pub maxField : HeaderField → ℕ
+maxField headerField.TotalLength = maxWord
+maxField headerField.Id = maxWord
+maxField headerField.Checksum = maxWord
+maxField headerField.Ttl = maxByte
 
 -- one of `= != < > <= >=`
 abbrev pub comparison : Form Operator
 comparison =
-    or (mark 61 operator.Equal)
-    (or (skip (sign 33) (mark 61 operator.Unequal))
-    (or (skip (sign 60) (opt operator.Less (mark 61 operator.AtMost)))
-    (skip (sign 62) (opt operator.Greater (mark 61 operator.AtLeast)))))
+    or (literalAs 61 operator.Equal)
+    (or (preceded (literal 33) (literalAs 61 operator.Unequal))
+    (or (preceded (literal 60) (opt operator.Less (literalAs 61 operator.AtMost)))
+    (preceded (literal 62) (opt operator.Greater (literalAs 61 operator.AtLeast)))))
 
 -- optional `&` and mask, then the comparison, then a number, limited as the mask is; spaces allowed between these tokens.
 -- A missing mask is the full mask
-abbrev pub fieldForm : HeaderField → Form Entry
+abbrev pub fieldForm : HeaderField → Form OptionValue
 fieldForm f =
-    valued (made (λ (p : ℕ × (Operator × ℕ)). test (item.Field (record { field = f; mask = p .0; operator = p .1 .0; number = p .1 .1 })))
-    (pair (opt (fieldMost f) (skip (sign 38) (skip spaces (before (numeral (fieldMost f)) spaces))))
-    (pair (before comparison spaces) (numeral (fieldMost f)))))
+    valued (fmap (λ (p : ℕ × (Operator × ℕ)). test (item.Field (record { field = f; mask = p .0; operator = p .1 .0; number = p .1 .1 })))
+    (pair (opt (maxField f) (preceded (literal 38) (preceded spaces (terminated (numeral (maxField f)) spaces))))
+    (pair (terminated comparison spaces) (numeral (maxField f)))))
 
 -- data_size: optional `<`, `>` or `=`, 0..65535, optional `,` and `payload`, `uri`, `header` or `body`
-abbrev pub sizeForm : Form Entry
+abbrev pub sizeForm : Form OptionValue
 sizeForm =
-    valued (made (λ (p : Order × (ℕ × SizeField)). test (item.Size (record { order = p .0; number = p .1 .0; field = p .1 .1 })))
-    (pair (opt order.Equal (or lessOrGreater (mark 61 order.Equal)))
-    (pair (number wordMost)
+    valued (fmap (λ (p : Order × (ℕ × SizeField)). test (item.Size (record { order = p .0; number = p .1 .0; field = p .1 .1 })))
+    (pair (opt order.Equal (or lessOrGreater (literalAs 61 order.Equal)))
+    (pair (number maxWord)
     (comma sizeField.Payload
-    (or (says (text "payload") sizeField.Payload)
-    (or (says (text "uri") sizeField.Uri)
-    (or (says (text "header") sizeField.Header)
-    (says (text "body") sizeField.Body))))))))
+    (or (keyword (text "payload") sizeField.Payload)
+    (or (keyword (text "uri") sizeField.Uri)
+    (or (keyword (text "header") sizeField.Header)
+    (keyword (text "body") sizeField.Body))))))))
 
 -- data_at: 0..65535, optional `,relative`
-abbrev pub atForm : Form Entry
+abbrev pub atForm : Form OptionValue
 atForm =
-    valued (made (λ (p : ℕ × Bool). test (item.At (record { number = p .0; relative = p .1 })))
-    (pair (number wordMost) (comma false (says (text "relative") true))))
+    valued (fmap (λ (p : ℕ × Bool). test (item.At (record { number = p .0; relative = p .1 })))
+    (pair (number maxWord) (comma false (keyword (text "relative") true))))
 
 -- a block is `|`, one or more pairs of hex digits, any spaces before, between and after pairs, `|`
 abbrev pub hexPair : Form ℕ
-hexPair = made (λ (p : ℕ × ℕ). digitValue (p .0) * 16 + digitValue (p .1)) (pair (byte hexDigits) (byte hexDigits))
+hexPair = fmap (λ (p : ℕ × ℕ). digitValue (p .0) * 16 + digitValue (p .1)) (pair (byte hexDigits) (byte hexDigits))
 
 abbrev pub block : Form (List ℕ)
-block = skip (sign 124) (skip spaces (before (some (before hexPair spaces)) (sign 124)))
+block = preceded (literal 124) (preceded spaces (terminated (some (terminated hexPair spaces)) (literal 124)))
 
 -- the bytes `" ; \ | :` are written only in hex blocks; the other bytes of a text stand for themselves
 abbrev pub plainBytes : Class
@@ -187,46 +187,46 @@ joined [] = []
 joined (x ∷ xs) = x ++ joined xs
 
 abbrev pub patternBytes : Form (List ℕ)
-patternBytes = made joined (some (or (made (λ (b : ℕ). b ∷ []) (byte plainBytes)) block))
+patternBytes = fmap joined (some (or (fmap (λ (b : ℕ). b ∷ []) (byte plainBytes)) block))
 
 -- pattern: optional `!`, then at least one byte in `"`
-abbrev pub patternForm : Form Entry
+abbrev pub patternForm : Form OptionValue
 patternForm =
-    valued (made (λ (p : Bool × List ℕ). Pattern (p .0) (p .1))
-    (pair negation (skip (sign 34) (before patternBytes (sign 34)))))
+    valued (fmap (λ (p : Bool × List ℕ). Pattern (p .0) (p .1))
+    (pair negation (preceded (literal 34) (terminated patternBytes (literal 34)))))
 
 -- context: `packet`, `uri`, `header`, `body`, `banner`, `host`, `file`; words with the same first letter are parted behind it
-abbrev pub contextForm : Form Entry
+abbrev pub contextForm : Form OptionValue
 contextForm =
-    valued (made (λ (c : contexts.Context). Modified (Context c))
-    (or (says (text "packet") context.Packet)
-    (or (says (text "uri") context.Uri)
-    (or (skip (word (text "h")) (or (says (text "eader") context.Header) (says (text "ost") context.Host)))
-    (or (skip (word (text "b")) (or (says (text "ody") context.Body) (says (text "anner") context.Banner)))
-    (says (text "file") context.File))))))
+    valued (fmap (λ (c : contexts.Context). Modified (Context c))
+    (or (keyword (text "packet") context.Packet)
+    (or (keyword (text "uri") context.Uri)
+    (or (preceded (word (text "h")) (or (keyword (text "eader") context.Header) (keyword (text "ost") context.Host)))
+    (or (preceded (word (text "b")) (or (keyword (text "ody") context.Body) (keyword (text "anner") context.Banner)))
+    (keyword (text "file") context.File))))))
 
 -- no_case: none
-abbrev pub noCaseForm : Form Entry
-noCaseForm = closed (tell (Modified NoCase))
+abbrev pub noCaseForm : Form OptionValue
+noCaseForm = closed (pure (Modified NoCase))
 
 -- `match`, `packet` or `context`
 abbrev pub referenceWord : Form Reference
-referenceWord = or (says (text "match") reference.Match) (or (says (text "packet") reference.Packet) (says (text "context") reference.Context))
+referenceWord = or (keyword (text "match") reference.Match) (or (keyword (text "packet") reference.Packet) (keyword (text "context") reference.Context))
 
 -- `-` and a number; -0 is 0
 abbrev pub signed : Bool → ℕ → ℤ
 signed minus n = if minus then negℤ (pos n) else pos n
 
 -- distance: optional `-`, 0..65535, optional `,` and `match`, `packet` or `context`, only then optional `,reverse`
-abbrev pub distanceForm : Form Entry
+abbrev pub distanceForm : Form OptionValue
 distanceForm =
-    valued (made (λ (p : Bool × (ℕ × (Reference × Bool))). Modified (Distance (record { offset = signed (p .0) (p .1 .0); reference = p .1 .1 .0; reverse = p .1 .1 .1 })))
-    (pair (opt false (mark 45 true))
-    (pair (number wordMost)
-    (comma (reference.Match, false) (pair referenceWord (comma false (says (text "reverse") true)))))))
+    valued (fmap (λ (p : Bool × (ℕ × (Reference × Bool))). Modified (Distance (record { offset = signed (p .0) (p .1 .0); reference = p .1 .1 .0; reverse = p .1 .1 .1 })))
+    (pair (opt false (literalAs 45 true))
+    (pair (number maxWord)
+    (comma (reference.Match, false) (pair referenceWord (comma false (keyword (text "reverse") true)))))))
 
 -- within: 0..65535, optional `,` and `match`, `packet` or `context`
-abbrev pub withinForm : Form Entry
+abbrev pub withinForm : Form OptionValue
 withinForm =
-    valued (made (λ (p : ℕ × Reference). Modified (Within (record { number = p .0; reference = p .1 })))
-    (pair (number wordMost) (comma reference.Match referenceWord)))
+    valued (fmap (λ (p : ℕ × Reference). Modified (Within (record { number = p .0; reference = p .1 })))
+    (pair (number maxWord) (comma reference.Match referenceWord)))

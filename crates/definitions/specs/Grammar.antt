@@ -5,38 +5,38 @@ use mathlib.Core.List.{List, [], _∷_, _++_, List·Memᴰ as Mem}
 use Prim.Native.Nat.{ℕ}
 use Rattle.forms.specs.Bytes.{sameWord}
 use Rattle.forms.specs.Form.{Means}
-use Rattle.definitions.specs.declared.answers.Due.the-variants.{Fine}
+use Rattle.definitions.specs.declared.answers.Check.the-variants.{Pass}
 use Rattle.definitions.specs.declared.table.Table.{Table}
 use Rattle.definitions.specs.Lists.{all?, count}
-use Rattle.definitions.specs.Entries.{Entry}
+use Rattle.definitions.specs.OptionValues.{OptionValue}
 use Rattle.definitions.specs.Options.{Option, optionTable, printable, opening}
 use Rattle.definitions.specs.Tables.{tableOf}
-use Rattle.definitions.specs.Standing.{isPattern, dueFor, missing}
+use Rattle.definitions.specs.Occurrences.{isPattern, occurrenceCheck, missing}
 use Rattle.definitions.specs.References.{usableIn}
 
 -- `--`, a listed name in any letter case, and what its form allows, within its limits
-pub data OptionText : List ℕ → Entry → Type 1 where
-  option : (o : Option) (n y : List ℕ) {e : Entry} → Mem o optionTable → sameWord n (o .name) ≡ true → Means true (o .form) y e → OptionText (45 ∷ 45 ∷ (n ++ y)) e
+pub data OptionText : List ℕ → OptionValue → Type 1 where
+  option : (o : Option) (n y : List ℕ) {e : OptionValue} → Mem o optionTable → sameWord n (o .name) ≡ true → Means true (o .form) y e → OptionText (45 ∷ 45 ∷ (n ++ y)) e
 
 -- options with any spaces before, between and after, then `)` as the last byte
-pub data OptionsText : List ℕ → List Entry → Type 1 where
+pub data OptionsText : List ℕ → List OptionValue → Type 1 where
   close : OptionsText (41 ∷ []) []
-  space : {l : List ℕ} {es : List Entry} → OptionsText l es → OptionsText (32 ∷ l) es
-  more : {x l : List ℕ} {e : Entry} {es : List Entry} → OptionText x e → OptionsText l es → OptionsText (x ++ l) (e ∷ es)
+  space : {l : List ℕ} {es : List OptionValue} → OptionsText l es → OptionsText (32 ∷ l) es
+  more : {x l : List ℕ} {e : OptionValue} {es : List OptionValue} → OptionText x e → OptionsText l es → OptionsText (x ++ l) (e ∷ es)
 
 -- each entry may stand behind those before it
-pub data Standing : List Entry → List Entry → Type 0 where
-  none : {before : List Entry} → Standing before []
-  more : {before es : List Entry} {e : Entry} → dueFor before e ≡ Fine → Standing (before ++ (e ∷ [])) es → Standing before (e ∷ es)
+pub data Occurrences : List OptionValue → List OptionValue → Type 0 where
+  none : {before : List OptionValue} → Occurrences before []
+  more : {before es : List OptionValue} {e : OptionValue} → occurrenceCheck before e ≡ Pass → Occurrences (before ++ (e ∷ [])) es → Occurrences before (e ∷ es)
 
 -- THE TEXTS of a table, of any length: `F-SBID(` and the options, each byte from 0x20 to 0x7E; all references usable; name and protocol given
 pub record Derives (room : ℕ) (s : List ℕ) (t : Table) : Type 1 where
   pub body : List ℕ
-  pub entries : List Entry
+  pub values : List OptionValue
   pub framed : s ≡ opening ++ body
   pub printed : all? printable s ≡ true
-  pub made : OptionsText body entries
-  pub standing : Standing [] entries
-  pub usable : usableIn entries ≡ count isPattern entries
-  pub complete : missing entries ≡ false
-  pub table : t ≡ tableOf room entries
+  pub made : OptionsText body values
+  pub occurrences : Occurrences [] values
+  pub usable : usableIn values ≡ count isPattern values
+  pub complete : missing values ≡ false
+  pub table : t ≡ tableOf room values

@@ -42,8 +42,8 @@ patternsOf [] = []
 patternsOf (sl ∷ sls) = patternFirst (kindOf (sl .item)) (patternsOf sls)
 
 -- the pattern bytes behind those of an item
-abbrev pub behindItem : Kind → List ℕ → List ℕ
-behindItem unused b = b
-behindItem (addressed a) b = b
-behindItem (patterned p) b = drop (p .len) b
-behindItem plainTest b = b
+abbrev pub afterItem : Kind → List ℕ → List ℕ
+afterItem unused b = b
+afterItem (addressed a) b = b
+afterItem (patterned p) b = drop (p .len) b
+afterItem plainTest b = b

@@ -2,7 +2,7 @@
 pub mod Lists
 pub mod Limits
 pub mod Numbers
-pub mod Entries
+pub mod OptionValues
 pub mod Forms
 pub mod Options
 pub mod Tables
@@ -10,11 +10,11 @@ pub mod Items
 pub mod Starts
 pub mod References
 pub mod Refusals
-pub mod Standing
+pub mod Occurrences
 pub mod Reading
 pub mod Grammar
 pub mod WellFormed
-pub mod House
+pub mod Canonical
 pub mod Writing
 pub mod Packet
 pub mod Fields
@@ -22,7 +22,7 @@ pub mod Tests
 pub mod Windows
 pub mod Placements
 pub mod Answers
-pub mod Asks
+pub mod Queries
 pub mod Lines
 pub mod Cases
 pub mod Computing

@@ -4,44 +4,44 @@ use Prim.Native.Nat.{ℕ}
 -- Section "Text": bytes of a text, bytes of a house text, pattern bytes of a table. Reading and writing take them as a parameter.
 pub record Limits : Type 0 where
   pub text : ℕ
-  pub house : ℕ
+  pub canonical : ℕ
   pub room : ℕ
 
-abbrev pub limits01 : Limits
-limits01 = record { text = 1024; house = 1024; room = 1024 }
+abbrev pub documentLimits : Limits
+documentLimits = record { text = 1024; canonical = 1024; room = 1024 }
 
 -- bytes of a name; patterns, tests and items of a table; addresses of a test
-abbrev pub nameMost : ℕ
-nameMost = 64
+abbrev pub maxName : ℕ
+maxName = 64
 
-abbrev pub patternsMost : ℕ
-patternsMost = 8
+abbrev pub maxPatterns : ℕ
+maxPatterns = 8
 
-abbrev pub testsMost : ℕ
-testsMost = 16
+abbrev pub maxTests : ℕ
+maxTests = 16
 
-abbrev pub itemsMost : ℕ
-itemsMost = 24
+abbrev pub maxItems : ℕ
+maxItems = 24
 
-abbrev pub addressesMost : ℕ
-addressesMost = 8
+abbrev pub maxAddresses : ℕ
+maxAddresses = 8
 
 -- numbers of one byte, two bytes and four bytes; the bits of an address
-abbrev pub byteMost : ℕ
-byteMost = 255
+abbrev pub maxByte : ℕ
+maxByte = 255
 
-abbrev pub wordMost : ℕ
-wordMost = 65535
+abbrev pub maxWord : ℕ
+maxWord = 65535
 
-abbrev pub addressMost : ℕ
-addressMost = 4294967295
+abbrev pub maxAddress : ℕ
+maxAddress = 4294967295
 
-abbrev pub prefixMost : ℕ
-prefixMost = 32
+abbrev pub maxPrefix : ℕ
+maxPrefix = 32
 
 -- Section "Numbers of refusal", 30: bytes of a lent packet and of a decoded buffer
-abbrev pub packetMost : ℕ
-packetMost = 2048
+abbrev pub maxPacket : ℕ
+maxPacket = 2048
 
-abbrev pub decodedMost : ℕ
-decodedMost = 4096
+abbrev pub maxDecoded : ℕ
+maxDecoded = 4096

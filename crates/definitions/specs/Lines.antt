@@ -7,26 +7,26 @@ use Rattle.definitions.specs.declared.table.Table.{Table}
 use Rattle.definitions.specs.declared.answers.Refusal.{Refusal}
 use Rattle.definitions.specs.declared.answers.ReadOutcome.{ReadOutcome}
 use Rattle.definitions.specs.declared.answers.ReadOutcome.the-variants.{Accepted, Refused}
-use Rattle.definitions.specs.declared.answers.Due.{Due}
-use Rattle.definitions.specs.declared.answers.Due.the-variants.{Fine, No}
+use Rattle.definitions.specs.declared.answers.Check.{Check}
+use Rattle.definitions.specs.declared.answers.Check.the-variants.{Pass, Refuse}
 use Rattle.definitions.specs.declared.answers.Reading.{Reading}
 use Rattle.definitions.specs.Limits.{Limits}
 use Rattle.definitions.specs.Refusals.{numberOf}
 use Rattle.definitions.specs.Reading.{read}
-use Rattle.definitions.specs.House.{decimal, houseText}
-use Rattle.definitions.specs.Writing.{writingDue}
+use Rattle.definitions.specs.Canonical.{decimal, canonicalText}
+use Rattle.definitions.specs.Writing.{writingCheck}
 
 -- refusal, tab, place
 abbrev pub refusedLine : Refusal → ℕ → List ℕ
 refusedLine r place = decimal (numberOf r) ++ (text "\t" ++ decimal place)
 
 -- `ok`, tab, house text; or the writer's refusal at place 0, its buffer being as long as a house text may be
-abbrev pub houseLine : Due → Table → List ℕ
-houseLine Fine t = text "ok\t" ++ houseText t
-houseLine (No r) t = refusedLine r 0
+abbrev pub canonicalLine : Check → Table → List ℕ
+canonicalLine Pass t = text "ok\t" ++ canonicalText t
+canonicalLine (Refuse r) t = refusedLine r 0
 
 abbrev pub lineBy : Limits → ReadOutcome → Table → List ℕ
-lineBy lim Accepted t = houseLine (writingDue lim t (lim .house)) t
+lineBy lim Accepted t = canonicalLine (writingCheck lim t (lim .canonical)) t
 lineBy lim (Refused r p) t = refusedLine r p
 
 abbrev pub readingLine : Limits → Reading → List ℕ

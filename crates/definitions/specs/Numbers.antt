@@ -4,8 +4,8 @@ use Prim.Native.Nat.{ℕ, _+_, _-_, _*_}
 use mathlib.Core.List.{List, [], _∷_}
 use lib.Dec.{leb}
 use Rattle.forms.specs.Bytes.{if_then_else_}
-use Rattle.forms.specs.Form.{Class, Form, byte, pair, star, made, bound}
-use Rattle.forms.specs.Pieces.{skip, or, some, sign}
+use Rattle.forms.specs.Form.{Class, Form, byte, pair, many, fmap, bound}
+use Rattle.forms.specs.Pieces.{preceded, or, some, literal}
 
 abbrev pub decimalDigits : Class
 decimalDigits = (48, 57) ∷ []
@@ -24,17 +24,17 @@ valueOf base a (b ∷ l) = valueOf base (a * base + digitValue b) l
 
 -- a decimal number up to a limit; one beyond it is placed at its first digit
 abbrev pub number : ℕ → Form ℕ
-number limit = bound (λ (n : ℕ). leb n limit) (λ (n : ℕ). 0) (made (valueOf 10 0) (some (byte decimalDigits)))
+number limit = bound (λ (n : ℕ). leb n limit) (λ (n : ℕ). 0) (fmap (valueOf 10 0) (some (byte decimalDigits)))
 
 -- decimal or hex: how many bytes stand before its first digit, and the number
 abbrev pub eitherBase : Form (ℕ × ℕ)
 eitherBase =
     or
-    (skip (sign 48)
-    (or (skip (byte ((120, 120) ∷ (88, 88) ∷ [])) (made (λ (l : List ℕ). (2, valueOf 16 0 l)) (some (byte hexDigits))))
-    (made (λ (l : List ℕ). (0, valueOf 10 0 l)) (star (byte decimalDigits)))))
-    (made (λ (p : ℕ × List ℕ). (0, valueOf 10 0 (p .0 ∷ p .1))) (pair (byte ((49, 57) ∷ [])) (star (byte decimalDigits))))
+    (preceded (literal 48)
+    (or (preceded (byte ((120, 120) ∷ (88, 88) ∷ [])) (fmap (λ (l : List ℕ). (2, valueOf 16 0 l)) (some (byte hexDigits))))
+    (fmap (λ (l : List ℕ). (0, valueOf 10 0 l)) (many (byte decimalDigits)))))
+    (fmap (λ (p : ℕ × List ℕ). (0, valueOf 10 0 (p .0 ∷ p .1))) (pair (byte ((49, 57) ∷ [])) (many (byte decimalDigits))))
 
 -- a number in either base up to a limit
 abbrev pub numeral : ℕ → Form ℕ
-numeral limit = made (λ (p : ℕ × ℕ). p .1) (bound (λ (p : ℕ × ℕ). leb (p .1) limit) (λ (p : ℕ × ℕ). p .0) eitherBase)
+numeral limit = fmap (λ (p : ℕ × ℕ). p .1) (bound (λ (p : ℕ × ℕ). leb (p .1) limit) (λ (p : ℕ × ℕ). p .0) eitherBase)

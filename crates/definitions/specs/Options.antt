@@ -11,15 +11,15 @@ use Rattle.forms.specs.Place.{Read, readAt}
 use Rattle.definitions.specs.declared.table.Side.the-variants.{Source, Destination}
 use Rattle.definitions.specs.declared.table.NumberField.the-variants as number
 use Rattle.definitions.specs.declared.table.HeaderField.the-variants as header
-use Rattle.definitions.specs.Entries.{Entry}
+use Rattle.definitions.specs.OptionValues.{OptionValue}
 use Rattle.definitions.specs.Forms.{nameForm, protocolForm, flowForm, addressForm, sameIpForm, numberForm, ttlForm, fieldForm, sizeForm, atForm, patternForm, contextForm, noCaseForm, distanceForm, withinForm}
 
 -- a row of the table: an option's name, and its form behind the name
 pub record Option : Type 1 where
   pub name : List ℕ
-  pub form : Form Entry
+  pub form : Form OptionValue
 
-abbrev pub row : String → Form Entry → Option
+abbrev pub row : String → Form OptionValue → Option
 row s f = record { name = text s; form = f }
 
 unfoldable pub optionTable : List Option
@@ -53,22 +53,22 @@ unfoldable pub inName : ℕ → Bool
 inName b = between 97 122 (lower b) || (between 48 57 b || (eqb b 95 || eqb b 46))
 
 -- an option's name is not listed, or it is and its form answers
-pub data Parsed : Type 0 where
-  unlisted : Parsed
-  listed : Read Entry → Parsed
+pub data NamedOption : Type 0 where
+  unlisted : NamedOption
+  listed : Read OptionValue → NamedOption
 
 -- the option with the name n, read behind its name; letter case is ignored
-unfoldable pub parsed : List Option → List ℕ → List ℕ → ℕ → Parsed
-parsed [] n s at = unlisted
-parsed (o ∷ os) n s at = if sameWord n (o .name) then listed (readAt (o .form) s at) else parsed os n s at
+unfoldable pub namedOption : List Option → List ℕ → List ℕ → ℕ → NamedOption
+namedOption [] n s at = unlisted
+namedOption (o ∷ os) n s at = if sameWord n (o .name) then listed (readAt (o .form) s at) else namedOption os n s at
 
 -- the length of the name at a place: the longest run of letters, digits, `_` and `.`
 abbrev pub nameLength : List ℕ → ℕ → ℕ
 nameLength s at = run inName (drop at s)
 
 -- the option whose first dash stands at a place
-unfoldable pub optionAt : List ℕ → ℕ → Parsed
-optionAt s at = parsed optionTable (take (nameLength s (at + 2)) (drop (at + 2) s)) s (at + 2 + nameLength s (at + 2))
+unfoldable pub optionAt : List ℕ → ℕ → NamedOption
+optionAt s at = namedOption optionTable (take (nameLength s (at + 2)) (drop (at + 2) s)) s (at + 2 + nameLength s (at + 2))
 
 -- ---- the frame: a byte that a text may hold, and what it opens with
 

@@ -6,40 +6,40 @@ use mathlib.Core.List.{List}
 use lib.ListN.{length, getD, take, drop}
 use lib.Dec.{eqb, ltb}
 use Rattle.forms.specs.Bytes.{if_then_else_}
-use Rattle.definitions.specs.declared.packet.Facts.{Facts}
+use Rattle.definitions.specs.declared.packet.PacketHeader.{PacketHeader}
 use Rattle.definitions.specs.declared.answers.Refusal.the-variants as refusal
-use Rattle.definitions.specs.declared.answers.Due.{Due}
-use Rattle.definitions.specs.declared.answers.Due.the-variants.{Fine, No}
+use Rattle.definitions.specs.declared.answers.Check.{Check}
+use Rattle.definitions.specs.declared.answers.Check.the-variants.{Pass, Refuse}
 use Rattle.definitions.specs.declared.answers.PacketAnswer.{PacketAnswer}
 use Rattle.definitions.specs.declared.answers.PacketAnswer.the-variants.{Seen, Refused}
-use Rattle.definitions.specs.Limits.{packetMost, decodedMost}
+use Rattle.definitions.specs.Limits.{maxPacket, maxDecoded}
 use Rattle.definitions.specs.Refusals.{refuseIf}
 
 -- a header field of so many bytes at a place, big end first
-unfoldable pub wide : ℕ → List ℕ → ℕ → ℕ
-wide zero d at = 0
-wide (suc n) d at = wide n d at * 256 + getD d (at + n) 0
+unfoldable pub bigEndian : ℕ → List ℕ → ℕ → ℕ
+bigEndian zero d at = 0
+bigEndian (suc n) d at = bigEndian n d at * 256 + getD d (at + n) 0
 
 -- ---- the IP header
 
 abbrev pub versionOf : List ℕ → ℕ
-versionOf d = wide 1 d 0 / 16
+versionOf d = bigEndian 1 d 0 / 16
 
 abbrev pub headerWords : List ℕ → ℕ
-headerWords d = wide 1 d 0 % 16
+headerWords d = bigEndian 1 d 0 % 16
 
 abbrev pub headerLength : List ℕ → ℕ
 headerLength d = headerWords d * 4
 
 abbrev pub totalLength : List ℕ → ℕ
-totalLength d = wide 2 d 2
+totalLength d = bigEndian 2 d 2
 
 -- the more-fragments bit and the 13 bits of the offset
 abbrev pub isFragment : List ℕ → Bool
-isFragment d = eqb (wide 2 d 6 / 8192 % 2) 1 || not (eqb (wide 2 d 6 % 8192) 0)
+isFragment d = eqb (bigEndian 2 d 6 / 8192 % 2) 1 || not (eqb (bigEndian 2 d 6 % 8192) 0)
 
 abbrev pub protocolOf : List ℕ → ℕ
-protocolOf d = wide 1 d 9
+protocolOf d = bigEndian 1 d 9
 
 -- The datagram is the first total-length bytes of the packet; the rest is padding
 abbrev pub datagramOf : List ℕ → List ℕ
@@ -47,8 +47,8 @@ datagramOf p = take (totalLength p) p
 
 -- ---- behind the IP header of a datagram
 
-abbrev pub behindHeader : List ℕ → List ℕ
-behindHeader d = drop (headerLength d) d
+abbrev pub afterHeader : List ℕ → List ℕ
+afterHeader d = drop (headerLength d) d
 
 abbrev pub isTcp : ℕ → Bool
 isTcp protocol = eqb protocol 6
@@ -66,7 +66,7 @@ hasPorts protocol = isTcp protocol || isUdp protocol
 
 -- the TCP header's offset field, in words
 abbrev pub tcpWords : List ℕ → ℕ
-tcpWords d = wide 1 (behindHeader d) 12 / 16
+tcpWords d = bigEndian 1 (afterHeader d) 12 / 16
 
 abbrev pub transportLength : List ℕ → ℕ
 transportLength d =
@@ -75,55 +75,55 @@ transportLength d =
     else 0
 
 abbrev pub portAt : List ℕ → ℕ → ℕ
-portAt d at = if hasPorts (protocolOf d) then wide 2 (behindHeader d) at else 0
+portAt d at = if hasPorts (protocolOf d) then bigEndian 2 (afterHeader d) at else 0
 
 -- THE FACTS of a datagram; the payload follows the TCP header, 8 bytes of UDP or ICMP header, or the IP header for other protocols
-unfoldable pub factsOf : List ℕ → Facts
-factsOf d =
+unfoldable pub headerOf : List ℕ → PacketHeader
+headerOf d =
     record {
       total = totalLength d;
       payload = headerLength d + transportLength d;
       protocol = protocolOf d;
-      tos = wide 1 d 1;
-      id = wide 2 d 4;
-      ttl = wide 1 d 8;
-      checksum = wide 2 d 10;
-      source = wide 4 d 12;
-      destination = wide 4 d 16;
+      tos = bigEndian 1 d 1;
+      id = bigEndian 2 d 4;
+      ttl = bigEndian 1 d 8;
+      checksum = bigEndian 2 d 10;
+      source = bigEndian 4 d 12;
+      destination = bigEndian 4 d 16;
       sport = portAt d 0;
       dport = portAt d 2;
     }
 
 abbrev pub payloadOf : List ℕ → List ℕ
-payloadOf d = drop (factsOf d .payload) d
+payloadOf d = drop (headerOf d .payload) d
 
 -- ---- 30 to 34, in this order, of a lent packet and a lent decoded buffer
 
 -- 34: under 20 bytes left, offset under 5 words or past the datagram; UDP, ICMP: under 8 left
 abbrev pub tcpShort : List ℕ → Bool
 tcpShort d =
-    ltb (length (behindHeader d)) 20 || (ltb (tcpWords d) 5 || ltb (length (behindHeader d)) (tcpWords d * 4))
+    ltb (length (afterHeader d)) 20 || (ltb (tcpWords d) 5 || ltb (length (afterHeader d)) (tcpWords d * 4))
 
 abbrev pub transportShort : List ℕ → Bool
 transportShort d =
     if isTcp (protocolOf d) then tcpShort d
-    else (isUdp (protocolOf d) || isIcmp (protocolOf d)) && ltb (length (behindHeader d)) 8
+    else (isUdp (protocolOf d) || isIcmp (protocolOf d)) && ltb (length (afterHeader d)) 8
 
 -- 33 and 34 are the datagram's own
-abbrev pub datagramDue : List ℕ → Due
-datagramDue d = refuseIf (isFragment d) refusal.Fragment (refuseIf (transportShort d) refusal.Transport Fine)
+abbrev pub datagramCheck : List ℕ → Check
+datagramCheck d = refuseIf (isFragment d) refusal.Fragment (refuseIf (transportShort d) refusal.Transport Pass)
 
-unfoldable pub packetDue : List ℕ → List ℕ → Due
-packetDue p decoded =
-    refuseIf (ltb packetMost (length p) || ltb decodedMost (length decoded)) refusal.LentLength
+unfoldable pub packetCheck : List ℕ → List ℕ → Check
+packetCheck p decoded =
+    refuseIf (ltb maxPacket (length p) || ltb maxDecoded (length decoded)) refusal.BufferLength
     (refuseIf (ltb (length p) 20 || not (eqb (versionOf p) 4)) refusal.NotIpv4
     (refuseIf (ltb (headerWords p) 5 || (ltb (totalLength p) (headerLength p) || ltb (length p) (totalLength p))) refusal.Lengths
-    (datagramDue (datagramOf p))))
+    (datagramCheck (datagramOf p))))
 
-abbrev pub packetBy : Due → List ℕ → PacketAnswer
-packetBy Fine d = Seen (factsOf d)
-packetBy (No r) d = Refused r
+abbrev pub packetBy : Check → List ℕ → PacketAnswer
+packetBy Pass d = Seen (headerOf d)
+packetBy (Refuse r) d = Refused r
 
 -- the facts of a lent packet, or 30 to 34
 unfoldable pub packetAnswer : List ℕ → List ℕ → PacketAnswer
-packetAnswer p decoded = packetBy (packetDue p decoded) (datagramOf p)
+packetAnswer p decoded = packetBy (packetCheck p decoded) (datagramOf p)

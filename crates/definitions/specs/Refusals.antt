@@ -4,8 +4,8 @@ use mathlib.Core.Bool.{Bool}
 use Rattle.forms.specs.Bytes.{if_then_else_}
 use Rattle.definitions.specs.declared.answers.Refusal.{Refusal}
 use Rattle.definitions.specs.declared.answers.Refusal.the-variants as refusal
-use Rattle.definitions.specs.declared.answers.Due.{Due}
-use Rattle.definitions.specs.declared.answers.Due.the-variants.{Fine, No}
+use Rattle.definitions.specs.declared.answers.Check.{Check}
+use Rattle.definitions.specs.declared.answers.Check.the-variants.{Pass, Refuse}
 use Rattle.definitions.specs.declared.answers.ReadOutcome.{ReadOutcome}
 use Rattle.definitions.specs.declared.answers.ReadOutcome.the-variants as outcome
 use Rattle.definitions.specs.declared.answers.PacketAnswer.{PacketAnswer}
@@ -21,19 +21,19 @@ abbrev pub numberOf : Refusal → ℕ
 numberOf refusal.TextLength = 1
 numberOf refusal.TextByte = 2
 numberOf refusal.Opening = 3
-numberOf refusal.NotDue = 4
+numberOf refusal.NeitherOptionNorEnd = 4
 numberOf refusal.NotListed = 5
 numberOf refusal.Form = 6
 numberOf refusal.Limit = 7
-numberOf refusal.Again = 8
-numberOf refusal.Orphan = 9
+numberOf refusal.Repeated = 8
+numberOf refusal.ModifierWithoutPattern = 9
 numberOf refusal.Unusable = 10
-numberOf refusal.TooMany = 11
+numberOf refusal.CountExceeded = 11
 numberOf refusal.Missing = 12
 numberOf refusal.IllFormed = 20
-numberOf refusal.HouseLength = 21
+numberOf refusal.CanonicalLength = 21
 numberOf refusal.ShortBuffer = 22
-numberOf refusal.LentLength = 30
+numberOf refusal.BufferLength = 30
 numberOf refusal.NotIpv4 = 31
 numberOf refusal.Lengths = 32
 numberOf refusal.Fragment = 33
@@ -44,9 +44,9 @@ numberOf refusal.EarlierCount = 36
 -- ---- A success has number and place 0
 
 -- what is due: its number, of a packet's fields too
-abbrev pub dueNumber : Due → ℕ
-dueNumber Fine = 0
-dueNumber (No r) = numberOf r
+abbrev pub checkNumber : Check → ℕ
+checkNumber Pass = 0
+checkNumber (Refuse r) = numberOf r
 
 -- reading: number and place
 abbrev pub readNumber : ReadOutcome → ℕ
@@ -96,10 +96,10 @@ foundOne (found.Refused r) = 0
 -- ---- the order of refusals
 
 -- the refusal r if the test holds, else what is due then
-abbrev pub refuseIf : Bool → Refusal → Due → Due
-refuseIf b r d = if b then No r else d
+abbrev pub refuseIf : Bool → Refusal → Check → Check
+refuseIf b r d = if b then Refuse r else d
 
 -- what is due first
-abbrev pub orElse : Due → Due → Due
-orElse Fine d = d
-orElse (No r) d = No r
+abbrev pub andThen : Check → Check → Check
+andThen Pass d = d
+andThen (Refuse r) d = Refuse r

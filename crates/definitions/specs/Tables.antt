@@ -14,13 +14,13 @@ use Rattle.definitions.specs.declared.table.Item.the-variants as item
 use Rattle.definitions.specs.declared.table.Address.{Address}
 use Rattle.definitions.specs.declared.table.Slot.{Slot}
 use Rattle.definitions.specs.declared.table.Table.{Table}
-use Rattle.definitions.specs.Limits.{nameMost, itemsMost, addressesMost}
+use Rattle.definitions.specs.Limits.{maxName, maxItems, maxAddresses}
 use Rattle.definitions.specs.Lists.{padded}
-use Rattle.definitions.specs.Entries.{Modifier, Context, NoCase, Distance, Within, Entry, Name, Protocol, Flow, Test, Pattern, Modified}
+use Rattle.definitions.specs.OptionValues.{Modifier, Context, NoCase, Distance, Within, OptionValue, Name, Protocol, Flow, Test, Pattern, Modified}
 
 -- ---- name, protocol and flow: of the first entry that says it
 
-unfoldable pub nameIn : List Entry → List ℕ
+unfoldable pub nameIn : List OptionValue → List ℕ
 nameIn [] = []
 nameIn (Name n ∷ es) = n
 nameIn (Protocol p ∷ es) = nameIn es
@@ -29,7 +29,7 @@ nameIn (Test it al ∷ es) = nameIn es
 nameIn (Pattern n b ∷ es) = nameIn es
 nameIn (Modified m ∷ es) = nameIn es
 
-unfoldable pub protocolIn : List Entry → ℕ
+unfoldable pub protocolIn : List OptionValue → ℕ
 protocolIn [] = 0
 protocolIn (Name n ∷ es) = protocolIn es
 protocolIn (Protocol p ∷ es) = p
@@ -38,7 +38,7 @@ protocolIn (Test it al ∷ es) = protocolIn es
 protocolIn (Pattern n b ∷ es) = protocolIn es
 protocolIn (Modified m ∷ es) = protocolIn es
 
-unfoldable pub flowIn : List Entry → flows.Flow
+unfoldable pub flowIn : List OptionValue → flows.Flow
 flowIn [] = flow.Any
 flowIn (Name n ∷ es) = flowIn es
 flowIn (Protocol p ∷ es) = flowIn es
@@ -51,16 +51,16 @@ flowIn (Modified m ∷ es) = flowIn es
 
 -- a pattern of n bytes without modifiers, and with one more
 abbrev pub bare : Bool → ℕ → patterns.Pattern
-bare negated n = record { negated = negated; len = n; context = context.Packet; nocase = false; distance = distance.Free; within = within.Free }
+bare negated n = record { negated = negated; len = n; context = context.Packet; nocase = false; distance = distance.Unset; within = within.Unset }
 
 abbrev pub with : Modifier → patterns.Pattern → patterns.Pattern
 with (Context c) p = record { negated = p .negated; len = p .len; context = c; nocase = p .nocase; distance = p .distance; within = p .within }
 with NoCase p = record { negated = p .negated; len = p .len; context = p .context; nocase = true; distance = p .distance; within = p .within }
-with (Distance d) p = record { negated = p .negated; len = p .len; context = p .context; nocase = p .nocase; distance = distance.By d; within = p .within }
-with (Within w) p = record { negated = p .negated; len = p .len; context = p .context; nocase = p .nocase; distance = p .distance; within = within.Of w }
+with (Distance d) p = record { negated = p .negated; len = p .len; context = p .context; nocase = p .nocase; distance = distance.Given d; within = p .within }
+with (Within w) p = record { negated = p .negated; len = p .len; context = p .context; nocase = p .nocase; distance = p .distance; within = within.Given w }
 
 -- the pattern p with the modifiers among the entries behind it, up to the next pattern
-unfoldable pub modified : List Entry → patterns.Pattern → patterns.Pattern
+unfoldable pub modified : List OptionValue → patterns.Pattern → patterns.Pattern
 modified [] p = p
 modified (Name n ∷ es) p = modified es p
 modified (Protocol q ∷ es) p = modified es p
@@ -75,12 +75,12 @@ abbrev pub noAddress : Address
 noAddress = record { number = 0; prefix = 0 }
 
 abbrev pub slotOf : Item → List Address → Slot
-slotOf it al = record { item = it; addresses = padded addressesMost noAddress al }
+slotOf it al = record { item = it; addresses = padded maxAddresses noAddress al }
 
 abbrev pub noSlot : Slot
 noSlot = slotOf item.Unused []
 
-unfoldable pub slotsIn : List Entry → List Slot
+unfoldable pub slotsIn : List OptionValue → List Slot
 slotsIn [] = []
 slotsIn (Name n ∷ es) = slotsIn es
 slotsIn (Protocol p ∷ es) = slotsIn es
@@ -90,7 +90,7 @@ slotsIn (Pattern n b ∷ es) = slotOf (item.Pattern (modified es (bare n (length
 slotsIn (Modified m ∷ es) = slotsIn es
 
 -- the pattern bytes, one pattern's behind the other's
-unfoldable pub bytesIn : List Entry → List ℕ
+unfoldable pub bytesIn : List OptionValue → List ℕ
 bytesIn [] = []
 bytesIn (Name n ∷ es) = bytesIn es
 bytesIn (Protocol p ∷ es) = bytesIn es
@@ -100,15 +100,15 @@ bytesIn (Pattern n b ∷ es) = b ++ bytesIn es
 bytesIn (Modified m ∷ es) = bytesIn es
 
 -- THE TABLE of the entries, with room for so many pattern bytes; of no entries it is the empty table of a refusal
-unfoldable pub tableOf : ℕ → List Entry → Table
+unfoldable pub tableOf : ℕ → List OptionValue → Table
 tableOf room es =
     record {
-      name = padded nameMost 0 (nameIn es);
+      name = padded maxName 0 (nameIn es);
       len = length (nameIn es);
       protocol = protocolIn es;
       flow = flowIn es;
       bytes = padded room 0 (bytesIn es);
       used = length (bytesIn es);
-      items = padded itemsMost noSlot (slotsIn es);
+      items = padded maxItems noSlot (slotsIn es);
       count = length (slotsIn es);
     }

@@ -29,9 +29,9 @@ use Rattle.definitions.specs.declared.table.Item.the-variants as item
 use Rattle.definitions.specs.declared.table.Address.{Address}
 use Rattle.definitions.specs.declared.packet.Direction.{Direction}
 use Rattle.definitions.specs.declared.packet.Direction.the-variants.{Client, Server}
-use Rattle.definitions.specs.declared.packet.Facts.{Facts}
-use Rattle.definitions.specs.declared.packet.Last.{Last}
-use Rattle.definitions.specs.declared.packet.Last.the-variants as last
+use Rattle.definitions.specs.declared.packet.PacketHeader.{PacketHeader}
+use Rattle.definitions.specs.declared.packet.LastMatch.{LastMatch}
+use Rattle.definitions.specs.declared.packet.LastMatch.the-variants as last
 use Rattle.definitions.specs.Packet.{hasPorts}
 use Rattle.definitions.specs.Fields.{View, sizeContext}
 
@@ -46,7 +46,7 @@ flowHolds flow.FromServer Server = true
 -- ---- tests of the header, by the facts of the datagram
 
 -- Address: equal in the first n bits to one in the list; `!` turns the whole answer
-abbrev pub packetAddress : Facts → Side → ℕ
+abbrev pub packetAddress : PacketHeader → Side → ℕ
 packetAddress f side.Source = f .source
 packetAddress f side.Destination = f .destination
 
@@ -57,13 +57,13 @@ unfoldable pub inAddresses : ℕ → List Address → Bool
 inAddresses x [] = false
 inAddresses x (a ∷ l) = sameBits (a .prefix) x (a .number) || inAddresses x l
 
-unfoldable pub addressHolds : Facts → AddressTest → List Address → Bool
+unfoldable pub addressHolds : PacketHeader → AddressTest → List Address → Bool
 addressHolds f a l =
     if a .negated then not (inAddresses (packetAddress f (a .side)) (take (a .count) l))
     else inAddresses (packetAddress f (a .side)) (take (a .count) l)
 
 -- ip_id, src_port, dst_port, ip_tos; a port test on other protocols than 6 and 17 doesn't hold
-unfoldable pub numberHolds : Facts → NumberField → ℕ → Bool
+unfoldable pub numberHolds : PacketHeader → NumberField → ℕ → Bool
 numberHolds f numberField.IpId n = eqb (f .id) n
 numberHolds f numberField.SourcePort n = hasPorts (f .protocol) && eqb (f .sport) n
 numberHolds f numberField.DestinationPort n = hasPorts (f .protocol) && eqb (f .dport) n
@@ -76,7 +76,7 @@ orderHolds order.Less x n = ltb x n
 orderHolds order.Greater x n = ltb n x
 
 -- Field test: field AND mask, compared
-abbrev pub headerValue : Facts → HeaderField → ℕ
+abbrev pub headerValue : PacketHeader → HeaderField → ℕ
 headerValue f headerField.TotalLength = f .total
 headerValue f headerField.Id = f .id
 headerValue f headerField.Checksum = f .checksum
@@ -90,20 +90,20 @@ operatorHolds operator.Greater x n = ltb n x
 operatorHolds operator.AtMost x n = leb x n
 operatorHolds operator.AtLeast x n = leb n x
 
-unfoldable pub fieldHolds : Facts → FieldTest → Bool
+unfoldable pub fieldHolds : PacketHeader → FieldTest → Bool
 fieldHolds f t = operatorHolds (t .operator) (bitAnd (headerValue f (t .field)) (t .mask)) (t .number)
 
 -- ---- data_at: what it is counted from. The payload's start; with relative the end of the last positive pattern before it, in its field
 
-abbrev pub atContext : Bool → Last → Context
+abbrev pub atContext : Bool → LastMatch → Context
 atContext false l = context.Packet
-atContext true last.Nothing = context.Packet
-atContext true (last.Was m) = m .context
+atContext true last.None = context.Packet
+atContext true (last.Some m) = m .context
 
-abbrev pub atStart : Bool → Last → ℕ
+abbrev pub atStart : Bool → LastMatch → ℕ
 atStart false l = 0
-atStart true last.Nothing = 0
-atStart true (last.Was m) = m .end
+atStart true last.None = 0
+atStart true (last.Some m) = m .end
 
 -- the byte at N after a start exists in a field of so many bytes
 abbrev pub atExists : ℕ → ℕ → ℕ → Bool
@@ -115,19 +115,19 @@ module _ (v : View) where
   unfoldable pub sizeHolds : SizeTest → Bool
   sizeHolds t = v .present (sizeContext (t .field)) && orderHolds (t .order) (length (v .field (sizeContext (t .field)))) (t .number)
 
-  unfoldable pub atHolds : AtTest → Last → Bool
+  unfoldable pub atHolds : AtTest → LastMatch → Bool
   atHolds t l =
       v .present (atContext (t .relative) l)
       && atExists (t .number) (atStart (t .relative) l) (length (v .field (atContext (t .relative) l)))
 
   -- a test, behind the last positive pattern; a slot that is not in use, and a pattern, are no tests
-  unfoldable pub testHolds : Item → List Address → Last → Bool
+  unfoldable pub testHolds : Item → List Address → LastMatch → Bool
   testHolds item.Unused al l = false
-  testHolds (item.Address a) al l = addressHolds (v .facts) a al
-  testHolds item.SameIp al l = eqb (v .facts .source) (v .facts .destination)
-  testHolds (item.Number t) al l = numberHolds (v .facts) (t .field) (t .number)
-  testHolds (item.Ttl t) al l = orderHolds (t .order) (v .facts .ttl) (t .number)
-  testHolds (item.Field t) al l = fieldHolds (v .facts) t
+  testHolds (item.Address a) al l = addressHolds (v .header) a al
+  testHolds item.SameIp al l = eqb (v .header .source) (v .header .destination)
+  testHolds (item.Number t) al l = numberHolds (v .header) (t .field) (t .number)
+  testHolds (item.Ttl t) al l = orderHolds (t .order) (v .header .ttl) (t .number)
+  testHolds (item.Field t) al l = fieldHolds (v .header) t
   testHolds (item.Size t) al l = sizeHolds t
   testHolds (item.At t) al l = atHolds t l
   testHolds (item.Pattern p) al l = false

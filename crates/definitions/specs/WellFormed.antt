@@ -18,20 +18,20 @@ use Rattle.definitions.specs.declared.table.Item.the-variants as item
 use Rattle.definitions.specs.declared.table.Address.{Address}
 use Rattle.definitions.specs.declared.table.Slot.{Slot}
 use Rattle.definitions.specs.declared.table.Table.{Table}
-use Rattle.definitions.specs.declared.packet.Last.the-variants.{Nothing}
-use Rattle.definitions.specs.Limits.{nameMost, patternsMost, testsMost, itemsMost, addressesMost, byteMost, wordMost, addressMost, prefixMost}
+use Rattle.definitions.specs.declared.packet.LastMatch.the-variants.{None}
+use Rattle.definitions.specs.Limits.{maxName, maxPatterns, maxTests, maxItems, maxAddresses, maxByte, maxWord, maxAddress, maxPrefix}
 use Rattle.definitions.specs.Lists.{all?}
-use Rattle.definitions.specs.Forms.{quotable, fieldMost, numberMost}
+use Rattle.definitions.specs.Forms.{quotable, maxField, maxNumber}
 use Rattle.definitions.specs.Items.{Kind, unused, addressed, patterned, plainTest, kindOf, patternsOf, slotsOf}
 use Rattle.definitions.specs.References.{usableRun}
 use Rattle.definitions.specs.Reading.{acceptedReading, readUnbounded}
 
 -- the lengths that a table's arrays have by their types
 pub record Shaped (room : ℕ) (t : Table) : Type 0 where
-  pub named : length (t .name) ≡ nameMost
+  pub named : length (t .name) ≡ maxName
   pub roomy : length (t .bytes) ≡ room
-  pub slotted : length (t .items) ≡ itemsMost
-  pub addressed : (sl : Slot) → Mem sl (t .items) → length (sl .addresses) ≡ addressesMost
+  pub slotted : length (t .items) ≡ maxItems
+  pub addressed : (sl : Slot) → Mem sl (t .items) → length (sl .addresses) ≡ maxAddresses
 
 -- THE STATEMENT: some text reads as the table. A text with more pattern bytes than the table's room reads as no table of this shape
 abbrev pub Readable : ℕ → Table → Type 0
@@ -44,33 +44,33 @@ isZero b = eqb b 0
 
 -- name: 1 to 64 bytes, none of them `"` or `;`; room unused is zero
 unfoldable pub nameFits : List ℕ → ℕ → Bool
-nameFits name n = between 1 nameMost n && (all? (has quotable) (take n name) && all? isZero (drop n name))
+nameFits name n = between 1 maxName n && (all? (has quotable) (take n name) && all? isZero (drop n name))
 
 -- addresses: four numbers 0..255 and a prefix of at most 32; unused ones zero
 abbrev pub addressFits : Address → Bool
-addressFits a = leb (a .number) addressMost && leb (a .prefix) prefixMost
+addressFits a = leb (a .number) maxAddress && leb (a .prefix) maxPrefix
 
 abbrev pub addressUnused : Address → Bool
 addressUnused a = isZero (a .number) && isZero (a .prefix)
 
 -- each number within its limit
 abbrev pub distanceFits : Distance → Bool
-distanceFits distance.Free = true
-distanceFits (distance.By d) = leb (natAbs (d .offset)) wordMost
+distanceFits distance.Unset = true
+distanceFits (distance.Given d) = leb (natAbs (d .offset)) maxWord
 
 abbrev pub withinFits : Within → Bool
-withinFits within.Free = true
-withinFits (within.Of w) = leb (w .number) wordMost
+withinFits within.Unset = true
+withinFits (within.Given w) = leb (w .number) maxWord
 
 unfoldable pub itemFits : Item → Bool
 itemFits item.Unused = false
-itemFits (item.Address a) = between 1 addressesMost (a .count)
+itemFits (item.Address a) = between 1 maxAddresses (a .count)
 itemFits item.SameIp = true
-itemFits (item.Number a) = leb (a .number) (numberMost (a .field))
-itemFits (item.Ttl a) = leb (a .number) byteMost
-itemFits (item.Field a) = leb (a .mask) (fieldMost (a .field)) && leb (a .number) (fieldMost (a .field))
-itemFits (item.Size a) = leb (a .number) wordMost
-itemFits (item.At a) = leb (a .number) wordMost
+itemFits (item.Number a) = leb (a .number) (maxNumber (a .field))
+itemFits (item.Ttl a) = leb (a .number) maxByte
+itemFits (item.Field a) = leb (a .mask) (maxField (a .field)) && leb (a .number) (maxField (a .field))
+itemFits (item.Size a) = leb (a .number) maxWord
+itemFits (item.At a) = leb (a .number) maxWord
 itemFits (item.Pattern p) = ltb 0 (p .len) && (distanceFits (p .distance) && withinFits (p .within))
 
 -- how many of a slot's addresses are in use
@@ -101,10 +101,10 @@ patternCount t = length (patternsOf (slotsOf t))
 -- at most 8 patterns and 16 tests
 unfoldable pub itemsFit : Table → Bool
 itemsFit t =
-    leb (t .count) itemsMost
+    leb (t .count) maxItems
     && (all? slotFits (slotsOf t)
     && (all? slotUnused (drop (t .count) (t .items))
-    && (leb (patternCount t) patternsMost && leb (t .count - patternCount t) testsMost)))
+    && (leb (patternCount t) maxPatterns && leb (t .count - patternCount t) maxTests)))
 
 -- pattern bytes in all
 unfoldable pub bytesOf : List Pattern → ℕ
@@ -116,12 +116,12 @@ unfoldable pub bytesFit : Table → Bool
 bytesFit t =
     eqb (t .used) (bytesOf (patternsOf (slotsOf t)))
     && (leb (t .used) (length (t .bytes))
-    && (all? (λ (b : ℕ). leb b byteMost) (take (t .used) (t .bytes)) && all? isZero (drop (t .used) (t .bytes))))
+    && (all? (λ (b : ℕ). leb b maxByte) (take (t .used) (t .bytes)) && all? isZero (drop (t .used) (t .bytes))))
 
 unfoldable pub wellFormed : Table → Bool
 wellFormed t =
     nameFits (t .name) (t .len)
-    && (leb (t .protocol) byteMost
+    && (leb (t .protocol) maxByte
     && (itemsFit t
     && (bytesFit t
-    && eqb (usableRun Nothing (patternsOf (slotsOf t))) (patternCount t))))
+    && eqb (usableRun None (patternsOf (slotsOf t))) (patternCount t))))

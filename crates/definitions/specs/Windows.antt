@@ -9,41 +9,41 @@ use lib.Signed.{leZ}
 use Rattle.forms.specs.Bytes.{if_then_else_, lower}
 use Rattle.definitions.specs.declared.table.Reference.{Reference}
 use Rattle.definitions.specs.declared.table.Reference.the-variants as reference
-use Rattle.definitions.specs.declared.table.Shift.{Shift}
+use Rattle.definitions.specs.declared.table.DistanceValue.{DistanceValue}
 use Rattle.definitions.specs.declared.table.Distance.{Distance}
 use Rattle.definitions.specs.declared.table.Distance.the-variants as distance
 use Rattle.definitions.specs.declared.table.Within.{Within}
 use Rattle.definitions.specs.declared.table.Within.the-variants as within
 use Rattle.definitions.specs.declared.table.Pattern.{Pattern}
-use Rattle.definitions.specs.declared.packet.Last.{Last}
-use Rattle.definitions.specs.declared.packet.Last.the-variants.{Nothing, Was}
+use Rattle.definitions.specs.declared.packet.LastMatch.{LastMatch}
+use Rattle.definitions.specs.declared.packet.LastMatch.the-variants.{None, Some}
 
 -- r is 0, or with `match` the end of the last positive pattern before, if there is one
-abbrev pub lastEnd : Last → ℕ
-lastEnd Nothing = 0
-lastEnd (Was m) = m .end
+abbrev pub lastEnd : LastMatch → ℕ
+lastEnd None = 0
+lastEnd (Some m) = m .end
 
-abbrev pub base : Last → Reference → ℕ
+abbrev pub base : LastMatch → Reference → ℕ
 base l reference.Match = lastEnd l
 base l reference.Packet = 0
 base l reference.Context = 0
 
 -- s = r + distance (0 if not given), or s = L - distance with reverse; with neither range the window is 0 to L
-abbrev pub shifted : Last → ℕ → Shift → ℤ
+abbrev pub shifted : LastMatch → ℕ → DistanceValue → ℤ
 shifted l len d = if d .reverse then pos len -ℤ d .offset else pos (base l (d .reference)) +ℤ d .offset
 
-abbrev pub windowStart : Last → ℕ → Distance → Within → ℤ
-windowStart l len (distance.By d) w = shifted l len d
-windowStart l len distance.Free (within.Of w) = pos (base l (w .reference))
-windowStart l len distance.Free within.Free = pos 0
+abbrev pub windowStart : LastMatch → ℕ → Distance → Within → ℤ
+windowStart l len (distance.Given d) w = shifted l len d
+windowStart l len distance.Unset (within.Given w) = pos (base l (w .reference))
+windowStart l len distance.Unset within.Unset = pos 0
 
 -- the window ends at L, or at the smaller of s + within and L
 abbrev pub beforeEnd : ℤ → Within → ℕ → ℕ → Bool
-beforeEnd s within.Free len e = leb e len
-beforeEnd s (within.Of w) len e = leb e len && leZ (pos e) (s +ℤ pos (w .number))
+beforeEnd s within.Unset len e = leb e len
+beforeEnd s (within.Given w) len e = leb e len && leZ (pos e) (s +ℤ pos (w .number))
 
 -- p is at least s (and, a natural number, at least 0), and p + n at most the end
-unfoldable pub inWindow : Pattern → Last → ℕ → ℕ → Bool
+unfoldable pub inWindow : Pattern → LastMatch → ℕ → ℕ → Bool
 inWindow p l len at =
     leZ (windowStart l len (p .distance) (p .within)) (pos at)
     && beforeEnd (windowStart l len (p .distance) (p .within)) (p .within) len (at + p .len)
@@ -59,5 +59,5 @@ standsAt nocase (x ∷ b) [] = false
 standsAt nocase (x ∷ b) (y ∷ l) = alike nocase x y && standsAt nocase b l
 
 -- the pattern p with the bytes b lies at a place of the field f
-unfoldable pub lies : Pattern → List ℕ → Last → List ℕ → ℕ → Bool
+unfoldable pub lies : Pattern → List ℕ → LastMatch → List ℕ → ℕ → Bool
 lies p b l f at = inWindow p l (length f) at && standsAt (p .nocase) b (drop at f)

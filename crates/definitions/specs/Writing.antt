@@ -6,34 +6,34 @@ use lib.ListN.{length, drop}
 use lib.Dec.{ltb}
 use Rattle.definitions.specs.declared.table.Table.{Table}
 use Rattle.definitions.specs.declared.answers.Refusal.the-variants as refusal
-use Rattle.definitions.specs.declared.answers.Due.{Due}
-use Rattle.definitions.specs.declared.answers.Due.the-variants.{Fine, No}
+use Rattle.definitions.specs.declared.answers.Check.{Check}
+use Rattle.definitions.specs.declared.answers.Check.the-variants.{Pass, Refuse}
 use Rattle.definitions.specs.declared.answers.Writing.{Writing}
 use Rattle.definitions.specs.declared.answers.Writing.the-variants.{Written, Refused}
 use Rattle.definitions.specs.Limits.{Limits}
 use Rattle.definitions.specs.Refusals.{refuseIf}
 use Rattle.definitions.specs.WellFormed.{wellFormed}
-use Rattle.definitions.specs.House.{houseText}
+use Rattle.definitions.specs.Canonical.{canonicalText}
 
 -- 20, 21, 22, in this order, for a buffer of n bytes
-unfoldable pub writingDue : Limits → Table → ℕ → Due
-writingDue lim t n =
+unfoldable pub writingCheck : Limits → Table → ℕ → Check
+writingCheck lim t n =
     refuseIf (not (wellFormed t)) refusal.IllFormed
-    (refuseIf (ltb (lim .house) (length (houseText t))) refusal.HouseLength
-    (refuseIf (ltb n (length (houseText t))) refusal.ShortBuffer Fine))
+    (refuseIf (ltb (lim .canonical) (length (canonicalText t))) refusal.CanonicalLength
+    (refuseIf (ltb n (length (canonicalText t))) refusal.ShortBuffer Pass))
 
-abbrev pub writtenIf : Due → ℕ → Writing
-writtenIf Fine n = Written n
-writtenIf (No r) n = Refused r
+abbrev pub writtenIf : Check → ℕ → Writing
+writtenIf Pass n = Written n
+writtenIf (Refuse r) n = Refused r
 
 -- no output written where it is refused
-abbrev pub bufferIf : Due → List ℕ → List ℕ → List ℕ
-bufferIf Fine house out = house ++ drop (length house) out
-bufferIf (No r) house out = out
+abbrev pub bufferIf : Check → List ℕ → List ℕ → List ℕ
+bufferIf Pass canonical out = canonical ++ drop (length canonical) out
+bufferIf (Refuse r) canonical out = out
 
 -- the answer, and the buffer afterwards
 unfoldable pub writes : Limits → Table → List ℕ → Writing
-writes lim t out = writtenIf (writingDue lim t (length out)) (length (houseText t))
+writes lim t out = writtenIf (writingCheck lim t (length out)) (length (canonicalText t))
 
 unfoldable pub bufferAfter : Limits → Table → List ℕ → List ℕ
-bufferAfter lim t out = bufferIf (writingDue lim t (length out)) (houseText t) out
+bufferAfter lim t out = bufferIf (writingCheck lim t (length out)) (canonicalText t) out

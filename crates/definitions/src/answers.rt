@@ -1,5 +1,5 @@
 // The answers of the public entries. specs/Refusals.antt gives document 01's number and values for each case.
-use crate::packet::Facts;
+use crate::packet::PacketHeader;
 use crate::packet::Placement;
 use crate::table::Table;
 
@@ -8,19 +8,19 @@ pub enum Refusal {
     TextLength,
     TextByte,
     Opening,
-    NotDue,
+    NeitherOptionNorEnd,
     NotListed,
     Form,
     Limit,
-    Again,
-    Orphan,
+    Repeated,
+    ModifierWithoutPattern,
     Unusable,
-    TooMany,
+    CountExceeded,
     Missing,
     IllFormed,
-    HouseLength,
+    CanonicalLength,
     ShortBuffer,
-    LentLength,
+    BufferLength,
     NotIpv4,
     Lengths,
     Fragment,
@@ -30,9 +30,9 @@ pub enum Refusal {
 }
 
 // Nothing is due, or a refusal.
-pub enum Due {
-    Fine,
-    No(Refusal),
+pub enum Check {
+    Pass,
+    Refuse(Refusal),
 }
 
 // The reader's answer: the table, or a refusal with its place and the empty table.
@@ -55,7 +55,7 @@ pub enum Writing {
 
 // A packet's facts, or a refusal.
 pub enum PacketAnswer {
-    Seen(Facts),
+    Seen(PacketHeader),
     Refused(Refusal),
 }
 
@@ -80,7 +80,7 @@ pub struct Answer {
 }
 
 // One ask of a list of asks.
-pub enum Ask {
+pub enum Query {
     First,
     Next,
 }

@@ -3,7 +3,7 @@
 // Bytes of a text, and of a house text.
 pub const TEXT_BYTES: usize = 1024;
 
-pub const HOUSE_BYTES: usize = 1024;
+pub const CANONICAL_BYTES: usize = 1024;
 
 // What a table holds: pattern bytes in all, bytes of the name, patterns, tests, items, addresses of one test.
 pub const PATTERN_BYTES: usize = 1024;
@@ -24,13 +24,13 @@ pub const PACKET_BYTES: usize = 2048;
 pub const DECODED_BYTES: usize = 4096;
 
 // Numbers of one byte and of two bytes, a distance either way, and the bits of an address.
-pub const BYTE_MOST: u64 = 255;
+pub const MAX_BYTE: u64 = 255;
 
-pub const WORD_MOST: u64 = 65535;
+pub const MAX_WORD: u64 = 65535;
 
-pub const OFFSET_MOST: i32 = 65535;
+pub const MAX_OFFSET: i32 = 65535;
 
-pub const PREFIX_MOST: u8 = 32;
+pub const MAX_PREFIX: u8 = 32;
 
 // The options of document 01's table.
 pub const OPTIONS: usize = 22;

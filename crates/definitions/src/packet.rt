@@ -10,7 +10,7 @@ pub enum Direction {
 
 // The facts of a datagram by value: its length, where its payload starts, and the header fields that tests compare.
 // The ports are 0 where the protocol has none.
-pub struct Facts {
+pub struct PacketHeader {
     pub total: usize,
     pub payload: usize,
     pub protocol: u8,
@@ -53,9 +53,9 @@ pub struct Match {
 }
 
 // The last positive pattern before an item, if there is one.
-pub enum Last {
-    Nothing,
-    Was(Match),
+pub enum LastMatch {
+    None,
+    Some(Match),
 }
 
 // An entry of a placement: where a positive pattern lies, counted from its field's start.

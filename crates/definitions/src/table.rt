@@ -117,7 +117,7 @@ pub enum Reference {
 }
 
 // distance: not given, or by so much. -0 is 0, since the offset is one signed number.
-pub struct Shift {
+pub struct DistanceValue {
     pub offset: i32,
     pub reference: Reference,
     pub reverse: bool,
@@ -125,20 +125,20 @@ pub struct Shift {
 
 // distance, if given.
 pub enum Distance {
-    Free,
-    By(Shift),
+    Unset,
+    Given(DistanceValue),
 }
 
 // within: not given, or so many bytes.
-pub struct Reach {
+pub struct WithinValue {
     pub number: u16,
     pub reference: Reference,
 }
 
 // within, if given.
 pub enum Within {
-    Free,
-    Of(Reach),
+    Unset,
+    Given(WithinValue),
 }
 
 // A pattern with its modifiers. Its bytes are the next `len` of the table's, behind those of the patterns before it.

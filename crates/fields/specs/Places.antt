@@ -20,8 +20,8 @@ chosen payload decoded Payload = payload
 chosen payload decoded Decoded = decoded
 
 -- the buffer of a context: `bufferOf`, of whatever stands for the two buffers, as the references that a caller lends
-abbrev pub lentOf : {A : Type 0} → A → A → Context → A
-lentOf payload decoded c = chosen payload decoded (bufferNamed c)
+abbrev pub ownBuffer : {A : Type 0} → A → A → Context → A
+ownBuffer payload decoded c = chosen payload decoded (bufferNamed c)
 
 abbrev pub placeOf : List ℕ → FieldMap → Context → Place
 placeOf payload m c = record { buffer = bufferNamed c; span = spanOf payload m c }

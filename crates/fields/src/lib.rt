@@ -2,13 +2,13 @@
 pub mod places;
 
 ghost use mathlib.Core.Path.{_≡_};
-ghost use Rattle.definitions.specs.Fields.{present, fieldOf, fieldSpan, fieldsDue, fieldPasses};
+ghost use Rattle.definitions.specs.Fields.{present, fieldOf, fieldSpan, fieldsCheck, fieldPasses};
 ghost use Rattle.field_parts.specs.Parts.{PartOf};
-ghost use Rattle.fields.specs.Places.{lentOf};
+ghost use Rattle.fields.specs.Places.{ownBuffer};
 use crate::places::part_of_one;
 use crate::places::passes_one;
 use crate::places::place_of;
-use definitions::answers::Due;
+use definitions::answers::Check;
 use definitions::answers::Refusal;
 use definitions::packet::FieldMap;
 use definitions::table::Context;
@@ -27,7 +27,7 @@ pub fn is_present(m: FieldMap, c: Context) -> bool
 // that buffer's start.
 pub fn field_of<'a>(payload: &'a [u8], decoded: &'a [u8], m: FieldMap, c: Context) -> &'a [u8]
     ensures bytes { λ r. ⌜ now r ≡ fieldOf (now (payload .entry)) (now (decoded .entry)) m c ⌝ }
-    ensures part { λ r. ⌜ PartOf (lentOf (payload .entry) (decoded .entry) c) (fieldSpan (now (payload .entry)) (now (decoded .entry)) m c) r ⌝ }
+    ensures part { λ r. ⌜ PartOf (ownBuffer (payload .entry) (decoded .entry) c) (fieldSpan (now (payload .entry)) (now (decoded .entry)) m c) r ⌝ }
 {
     let place = place_of(payload.len(), m, c);
     let buffer = place.buffer;
@@ -46,8 +46,8 @@ fn field_passes(payload: &[u8], decoded: &[u8], m: FieldMap, c: Context) -> bool
 }
 
 // Refusal 35, if a present field's span passes its buffer.
-pub fn fields_due(payload: &[u8], decoded: &[u8], m: FieldMap) -> Due
-    ensures { λ r. ⌜ r ≡ fieldsDue (now (payload .entry)) (now (decoded .entry)) m ⌝ }
+pub fn fields_check(payload: &[u8], decoded: &[u8], m: FieldMap) -> Check
+    ensures { λ r. ⌜ r ≡ fieldsCheck (now (payload .entry)) (now (decoded .entry)) m ⌝ }
 {
     let uri = field_passes(payload, decoded, m, Context::Uri);
     let header = field_passes(payload, decoded, m, Context::Header);
@@ -56,8 +56,8 @@ pub fn fields_due(payload: &[u8], decoded: &[u8], m: FieldMap) -> Due
     let host = field_passes(payload, decoded, m, Context::Host);
     let file = field_passes(payload, decoded, m, Context::File);
     if uri | header | body | banner | host | file {
-        Due::No(Refusal::FieldSpan)
+        Check::Refuse(Refusal::FieldSpan)
     } else {
-        Due::Fine
+        Check::Pass
     }
 }

@@ -8,10 +8,10 @@ use lib.ListN.{length, length-append, getD, drop, length-drop, drop-of-length-le
 use lib.Seq.{drop-drop, drop-append-seam, drop-cons}
 use Rattle.forms.specs.Bytes.{if_then_else_}
 use Rattle.forms.proofs.Bools.{by-cases}
-use Rattle.forms.specs.Form.{Class, has, Form, tell, byte, pair, alt, star, made, bound}
-use Rattle.forms.specs.Scan.{Scan, Got, Stop, onGot, empty, first, begins, scan, onward, over}
-use Rattle.forms.specs.Pieces.{skip, before}
-use Rattle.forms.specs.Place.{Read, Is, Far, No, within, placed, readAt, mapped, farther, both-read, bounded}
+use Rattle.forms.specs.Form.{Class, has, Form, pure, byte, pair, alt, many, fmap, bound}
+use Rattle.forms.specs.Scan.{Scan, Got, Stop, onGot, nullable, firstSet, begins, scan, onward, over}
+use Rattle.forms.specs.Pieces.{preceded, terminated}
+use Rattle.forms.specs.Place.{Read, Parsed, OutOfRange, Failed, within, placed, readAt, mapped, farther, both-read, bounded}
 use Rattle.forms.proofs.Sound.{sound-loose}
 use Rattle.forms.proofs.Places.{star-unroll, star-over}
 
@@ -52,17 +52,17 @@ map-one h s [] (Got a r) = refl
 map-one h s (x ∷ o) (Got a r) = refl
 map-one h s o (Stop r) = refl
 
-pub made-at : {A B : Type 0} (h : A → B) (f : Form A) (s : List ℕ) (i : ℕ) → readAt (made h f) s i ≡ mapped h (readAt f s i)
+pub made-at : {A B : Type 0} (h : A → B) (f : Form A) (s : List ℕ) (i : ℕ) → readAt (fmap h f) s i ≡ mapped h (readAt f s i)
 unfolding readAt scan over
 made-at h f s i = map-one h s (over f (drop i s)) (scan f (drop i s))
 
-pub alt-at : {A : Type 0} (f g : Form A) (s : List ℕ) (i : ℕ) → readAt (alt f g) s i ≡ (if begins (first f) (drop i s) then (readAt f s i) else (readAt g s i))
+pub alt-at : {A : Type 0} (f g : Form A) (s : List ℕ) (i : ℕ) → readAt (alt f g) s i ≡ (if begins (firstSet f) (drop i s) then (readAt f s i) else (readAt g s i))
 unfolding readAt scan over
-alt-at f g s i = by-cases (begins (first f) (drop i s)) (λ t. rw t) (λ t. rw t)
+alt-at f g s i = by-cases (begins (firstSet f) (drop i s)) (λ t. rw t) (λ t. rw t)
 
-pub tell-at : {A : Type 0} (a : A) (s : List ℕ) (i : ℕ) → i ≤ length s → readAt (tell a) s i ≡ Is a i
+pub tell-at : {A : Type 0} (a : A) (s : List ℕ) (i : ℕ) → i ≤ length s → readAt (pure a) s i ≡ Parsed a i
 unfolding readAt scan over
-tell-at a s i h = ap (Is a) (place-at s i h)
+tell-at a s i h = ap (Parsed a) (place-at s i h)
 
 bound-one : {A : Type 0} (t : A → Bool) (j : A → ℕ) (s l : List ℕ) (o : List (List ℕ)) (r : Scan A) → placed s (o ++ onward r (λ a m. (if t a then [] else (drop (j a) l ∷ [])))) r ≡ bounded t (λ a. length s - length (drop (j a) l)) (placed s o r)
 bound-one t j s l [] (Got a r) = by-cases (t a) (λ x. rw x) (λ x. rw x)
@@ -73,44 +73,44 @@ pub bound-at : {A : Type 0} (t : A → Bool) (j : A → ℕ) (f : Form A) (s : L
 unfolding readAt scan over
 bound-at t j f s i = bound-one t j s (drop i s) (over f (drop i s)) (scan f (drop i s))
 
-pub byte-at : (c : Class) (s : List ℕ) (i : ℕ) → i < length s → readAt (byte c) s i ≡ (if has c (getD s i 0) then (Is (getD s i 0) (i + 1)) else (No i))
+pub byte-at : (c : Class) (s : List ℕ) (i : ℕ) → i < length s → readAt (byte c) s i ≡ (if has c (getD s i 0) then (Parsed (getD s i 0) (i + 1)) else (Failed i))
 unfolding readAt scan over
 byte-at c s i h =
     let e1 : length s - length (drop (suc i) s) ≡ i + 1 = omega (arith, h, length-drop (suc i) s) in
     let e2 : length s - suc (length (drop (suc i) s)) ≡ i = omega (arith, h, length-drop (suc i) s) in
     rw (drop-cons s i 0 h) (by-cases (has c (getD s i 0)) (λ t. rw (t, e1)) (λ t. rw (t, e2)))
 
-pub byte-end : (c : Class) (s : List ℕ) → readAt (byte c) s (length s) ≡ No (length s)
+pub byte-end : (c : Class) (s : List ℕ) → readAt (byte c) s (length s) ≡ Failed (length s)
 unfolding readAt scan over
-byte-end c s = rw (drop-of-length-le s {i = length s} (omega arith)) (let e : length s - 0 ≡ length s = omega arith in ap No e)
+byte-end c s = rw (drop-of-length-le s {i = length s} (omega arith)) (let e : length s - 0 ≡ length s = omega arith in ap Failed e)
 
 pub mapped-both : {A B C : Type 0} (h : A × B → C) (r : Read A) (k : ℕ → Read B) → mapped h (both-read (λ (x : A) (y : B). (x, y)) r k) ≡ both-read (λ (x : A) (y : B). h (x, y)) r k
-mapped-both {A} {B} {C} h (Is a n) k = by (k n)
+mapped-both {A} {B} {C} h (Parsed a n) k = by (k n)
   where
     by : (r : Read B) → mapped h (mapped (λ (y : B). (a, y)) r) ≡ mapped (λ (y : B). h (a, y)) r
-    by (Is b m) = refl
-    by (Far p m) = refl
-    by (No p) = refl
-mapped-both {A} {B} {C} h (Far p n) k = by (k n)
+    by (Parsed b m) = refl
+    by (OutOfRange p m) = refl
+    by (Failed p) = refl
+mapped-both {A} {B} {C} h (OutOfRange p n) k = by (k n)
   where
     by : (r : Read B) → mapped h (farther {B = A × B} p r) ≡ farther p r
-    by (Is b m) = refl
-    by (Far q m) = refl
-    by (No q) = refl
-mapped-both h (No p) k = refl
+    by (Parsed b m) = refl
+    by (OutOfRange q m) = refl
+    by (Failed q) = refl
+mapped-both h (Failed p) k = refl
 
 module _ {A B : Type 0} (f : Form A) (g : Form B) (s : List ℕ) (i : ℕ) (h : i ≤ length s) where
-  pub skip-at : readAt (skip f g) s i ≡ both-read (λ (x : A) (y : B). y) (readAt f s i) (λ n. readAt g s n)
+  pub skip-at : readAt (preceded f g) s i ≡ both-read (λ (x : A) (y : B). y) (readAt f s i) (λ n. readAt g s n)
   skip-at = made-at (λ (p : A × B). p .1) (pair f g) s i ∙ ap (mapped (λ (p : A × B). p .1)) (pair-at f g s i h) ∙ mapped-both (λ (p : A × B). p .1) (readAt f s i) (λ n. readAt g s n)
 
-  pub before-at : readAt (before f g) s i ≡ both-read (λ (x : A) (y : B). x) (readAt f s i) (λ n. readAt g s n)
+  pub before-at : readAt (terminated f g) s i ≡ both-read (λ (x : A) (y : B). x) (readAt f s i) (λ n. readAt g s n)
   before-at = made-at (λ (p : A × B). p .0) (pair f g) s i ∙ ap (mapped (λ (p : A × B). p .0)) (pair-at f g s i h) ∙ mapped-both (λ (p : A × B). p .0) (readAt f s i) (λ n. readAt g s n)
 
 -- one more, or none
-pub star-at : {A : Type 0} (f : Form A) → not (empty f) ≡ true → (s : List ℕ) (i : ℕ) → i ≤ length s → readAt (star f) s i ≡ (if begins (first f) (drop i s) then (both-read (λ (x : A) (xs : List A). x ∷ xs) (readAt f s i) (λ n. readAt (star f) s n)) else (Is [] i))
+pub star-at : {A : Type 0} (f : Form A) → not (nullable f) ≡ true → (s : List ℕ) (i : ℕ) → i ≤ length s → readAt (many f) s i ≡ (if begins (firstSet f) (drop i s) then (both-read (λ (x : A) (xs : List A). x ∷ xs) (readAt f s i) (λ n. readAt (many f) s n)) else (Parsed [] i))
 unfolding readAt
 star-at {A} f n s i h =
     rw (star-unroll f n (drop i s), star-over f n (drop i s))
-    (by-cases (begins (first f) (drop i s))
-    (λ t. rw t (join-two (λ (x : A) (xs : List A). x ∷ xs) f (star f) s i h (scan f (drop i s)) refl))
+    (by-cases (begins (firstSet f) (drop i s))
+    (λ t. rw t (join-two (λ (x : A) (xs : List A). x ∷ xs) f (many f) s i h (scan f (drop i s)) refl))
     (λ t. rw (t, place-at s i h)))

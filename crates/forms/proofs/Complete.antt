@@ -11,8 +11,8 @@ use lib.Dec.{ltb, leb}
 use borrow.Author.Tests.{leb-true, ltb-true}
 use Rattle.forms.specs.Bytes.{if_then_else_}
 use Rattle.forms.proofs.Bools.{by-cases, both-left, both-right}
-use Rattle.forms.specs.Form.{Class, has, Form, tell, byte, pair, alt, star, made, bound, Row, none, more, Means}
-use Rattle.forms.specs.Scan.{Scan, Got, empty, first, further, begins, loop, scan, overs, over, clear, apart, fair}
+use Rattle.forms.specs.Form.{Class, has, Form, pure, byte, pair, alt, many, fmap, bound, Row, none, more, Means}
+use Rattle.forms.specs.Scan.{Scan, Got, nullable, firstSet, followSet, begins, loop, scan, overs, over, clear, apart, isLL1}
 use Rattle.forms.proofs.Sound.{never}
 
 -- ---- classes
@@ -72,9 +72,9 @@ app-nil : (y z : List ℕ) → [] ≡ y ++ z → (y ≡ []) × (z ≡ [])
 app-nil [] z e = (refl, sym e)
 app-nil (b ∷ y) z e = never (cc)
 
-pub empty-of : {A : Type 0} (k : Bool) (f : Form A) (v : A) → Means k f [] v → empty f ≡ true
+pub empty-of : {A : Type 0} (k : Bool) (f : Form A) (v : A) → Means k f [] v → nullable f ≡ true
 unfolding Means
-empty-of k (tell a) v m = refl
+empty-of k (pure a) v m = refl
 empty-of k (byte c) v m = let q = m .0 in never (cc)
 empty-of k (pair f g) v m =
     let n = app-nil (m .0) (m .1) (m .2) in
@@ -82,9 +82,9 @@ empty-of k (pair f g) v m =
     let b = empty-of k g (v .1) (subst (λ y. Means k g y (v .1)) (n .1) (m .4)) in
     rw (a, b)
 empty-of k (alt f g) v (inl m) = rw (empty-of k f v m)
-empty-of k (alt f g) v (inr m) = by-cases (empty f) (λ t. rw t) (λ t. rw t (empty-of k g v m))
-empty-of k (star f) v m = refl
-empty-of k (made h f) v m = empty-of k f (m .0) (m .2)
+empty-of k (alt f g) v (inr m) = by-cases (nullable f) (λ t. rw t) (λ t. rw t (empty-of k g v m))
+empty-of k (many f) v m = refl
+empty-of k (fmap h f) v m = empty-of k f (m .0) (m .2)
 empty-of k (bound p j f) v m = empty-of k f v (m .0)
 
 cons-app : (y z : List ℕ) (b : ℕ) (l : List ℕ) → b ∷ l ≡ y ++ z → ((y ≡ []) × (z ≡ b ∷ l)) ⊎ ((t : List ℕ) × (y ≡ b ∷ t))
@@ -95,22 +95,22 @@ row-first : {A : Type 0} (P : List ℕ → A → Type 0) (c : Class) → ((b : �
 row-first P c h none b l e = never (cc)
 row-first P c h (more {x} {y} {v} p q) b l e = ⊎-elim (λ n. row-first P c h q b l (n .1)) (λ n. h b (n .0) v (subst (λ u. P u v) (n .1) p)) (cons-app x y b l (sym e))
 
-pub first-of : {A : Type 0} (k : Bool) (f : Form A) (b : ℕ) (l : List ℕ) (v : A) → Means k f (b ∷ l) v → has (first f) b ≡ true
+pub first-of : {A : Type 0} (k : Bool) (f : Form A) (b : ℕ) (l : List ℕ) (v : A) → Means k f (b ∷ l) v → has (firstSet f) b ≡ true
 unfolding Means
-first-of k (tell a) b l v m = let q = m .0 in never (cc)
+first-of k (pure a) b l v m = let q = m .0 in never (cc)
 first-of k (byte c) b l v m = let q : b ≡ v = let r = m .0 in cc in rw q (m .1)
 first-of k (pair f g) b l v m =
     ⊎-elim
     (λ n.
     let t = empty-of k f (v .0) (subst (λ y. Means k f y (v .0)) (n .0) (m .3)) in
     let u = first-of k g b l (v .1) (subst (λ y. Means k g y (v .1)) (n .1) (m .4)) in
-    rw t (has-right (first f) (first g) b u))
-    (λ n. has-left (first f) _ b (first-of k f b (n .0) (v .0) (subst (λ y. Means k f y (v .0)) (n .1) (m .3))))
+    rw t (has-right (firstSet f) (firstSet g) b u))
+    (λ n. has-left (firstSet f) _ b (first-of k f b (n .0) (v .0) (subst (λ y. Means k f y (v .0)) (n .1) (m .3))))
     (cons-app (m .0) (m .1) b l (m .2))
-first-of k (alt f g) b l v (inl m) = has-left (first f) (first g) b (first-of k f b l v m)
-first-of k (alt f g) b l v (inr m) = has-right (first f) (first g) b (first-of k g b l v m)
-first-of k (star f) b l v m = row-first (λ x w. Means k f x w) (first f) (λ a y w n. first-of k f a y w n) m b l refl
-first-of k (made h f) b l v m = first-of k f b l (m .0) (m .2)
+first-of k (alt f g) b l v (inl m) = has-left (firstSet f) (firstSet g) b (first-of k f b l v m)
+first-of k (alt f g) b l v (inr m) = has-right (firstSet f) (firstSet g) b (first-of k g b l v m)
+first-of k (many f) b l v m = row-first (λ x w. Means k f x w) (firstSet f) (λ a y w n. first-of k f a y w n) m b l refl
+first-of k (fmap h f) b l v m = first-of k f b l (m .0) (m .2)
 first-of k (bound p j f) b l v m = first-of k f b l v (m .0)
 
 -- ---- complete
@@ -148,49 +148,49 @@ module _ {A : Type 0} (k : Bool) (P : List ℕ → A → Type 0) (c d : Class) (
 pub both3 : (a b c : Bool) → ((a && b) && c) ≡ true → (a ≡ true) × (b ≡ true) × (c ≡ true)
 both3 a b c e = let x = both-left (a && b) c e in (both-left a b x, both-right a b x, both-right (a && b) c e)
 
-pub no-empty : {A : Type 0} (k : Bool) (f : Form A) → not (empty f) ≡ true → (v : A) → Means k f [] v → _≡_ {A = ℕ} 0 1
+pub no-empty : {A : Type 0} (k : Bool) (f : Form A) → not (nullable f) ≡ true → (v : A) → Means k f [] v → _≡_ {A = ℕ} 0 1
 no-empty k f e v m = let t = empty-of k f v m in let q : false ≡ true = rw t at e in cc
 
 -- COMPLETE, with the bounds or without
-pub complete : {A : Type 0} (k : Bool) (f : Form A) → fair f ≡ true → (x : List ℕ) (v : A) (r : List ℕ) → Means k f x v → begins (further f) r ≡ false → Reads k f (x ++ r) v r
+pub complete : {A : Type 0} (k : Bool) (f : Form A) → isLL1 f ≡ true → (x : List ℕ) (v : A) (r : List ℕ) → Means k f x v → begins (followSet f) r ≡ false → Reads k f (x ++ r) v r
 unfolding scan Means over
-complete k (tell a) w x v r m z = let e = m .0 in let g = m .1 in (rw (e, g), λ q. refl)
+complete k (pure a) w x v r m z = let e = m .0 in let g = m .1 in (rw (e, g), λ q. refl)
 complete k (byte c) w x v r m z = let e = m .0 in let t = m .1 in (rw (e, t), λ q. refl)
 complete k (pair f g) w x v r m z =
-    let b = both3 (fair f) (fair g) (apart (further f) (first g)) w in
+    let b = both3 (isLL1 f) (isLL1 g) (apart (followSet f) (firstSet g)) w in
     let i = m .0 in
     let j = m .1 in
-    let e1 : begins (further f) (j ++ r) ≡ false =
-    quiet (further f) j r
-    (λ e. let t = empty-of k g (v .1) (subst (λ y. Means k g y (v .1)) e (m .4)) in lacks-right (further g) (further f) r (rw t at z))
-    (λ a t e. apart-lacks (further f) (first g) a (b .2) (first-of k g a t (v .1) (subst (λ y. Means k g y (v .1)) e (m .4)))) in
+    let e1 : begins (followSet f) (j ++ r) ≡ false =
+    quiet (followSet f) j r
+    (λ e. let t = empty-of k g (v .1) (subst (λ y. Means k g y (v .1)) e (m .4)) in lacks-right (followSet g) (followSet f) r (rw t at z))
+    (λ a t e. apart-lacks (followSet f) (firstSet g) a (b .2) (first-of k g a t (v .1) (subst (λ y. Means k g y (v .1)) e (m .4)))) in
     let e2 = complete k f (b .0) i (v .0) (j ++ r) (m .3) e1 in
-    let e3 = complete k g (b .1) j (v .1) r (m .4) (lacks-left (further g) (if empty g then (further f) else []) r z) in
+    let e3 = complete k g (b .1) j (v .1) r (m .4) (lacks-left (followSet g) (if nullable g then (followSet f) else []) r z) in
     let e4 = m .2 in
     (rw (e4, append-assoc, e2 .0, e3 .0), λ q. rw (e4, append-assoc, e2 .0, e2 .1 q, e3 .1 q))
 complete k (alt f g) w x v r (inl m) z =
-    let b = both3 (fair f) (fair g) ((not (empty f)) && (apart (first f) (first g))) w in
-    let n = both-left (not (empty f)) (apart (first f) (first g)) (b .2) in
-    let e1 : begins (first f) (x ++ r) ≡ true = loud (first f) x r (λ e. no-empty k f n v (subst (λ y. Means k f y v) e m)) (λ a t e. first-of k f a t v (subst (λ y. Means k f y v) e m)) in
-    let e2 = complete k f (b .0) x v r m (lacks-left (further f) (further g ++ (if empty g then (first f) else [])) r z) in
+    let b = both3 (isLL1 f) (isLL1 g) ((not (nullable f)) && (apart (firstSet f) (firstSet g))) w in
+    let n = both-left (not (nullable f)) (apart (firstSet f) (firstSet g)) (b .2) in
+    let e1 : begins (firstSet f) (x ++ r) ≡ true = loud (firstSet f) x r (λ e. no-empty k f n v (subst (λ y. Means k f y v) e m)) (λ a t e. first-of k f a t v (subst (λ y. Means k f y v) e m)) in
+    let e2 = complete k f (b .0) x v r m (lacks-left (followSet f) (followSet g ++ (if nullable g then (firstSet f) else [])) r z) in
     (rw e1 (e2 .0), λ q. rw e1 (e2 .1 q))
 complete k (alt f g) w x v r (inr m) z =
-    let b = both3 (fair f) (fair g) ((not (empty f)) && (apart (first f) (first g))) w in
-    let n = both-right (not (empty f)) (apart (first f) (first g)) (b .2) in
-    let z1 = lacks-right (further f) (further g ++ (if empty g then (first f) else [])) r z in
-    let e1 : begins (first f) (x ++ r) ≡ false =
-    quiet (first f) x r
-    (λ e. let t = empty-of k g v (subst (λ y. Means k g y v) e m) in lacks-right (further g) (first f) r (rw t at z1))
-    (λ a t e. apart-lacks (first f) (first g) a n (first-of k g a t v (subst (λ y. Means k g y v) e m))) in
-    let e2 = complete k g (b .1) x v r m (lacks-left (further g) (if empty g then (first f) else []) r z1) in
+    let b = both3 (isLL1 f) (isLL1 g) ((not (nullable f)) && (apart (firstSet f) (firstSet g))) w in
+    let n = both-right (not (nullable f)) (apart (firstSet f) (firstSet g)) (b .2) in
+    let z1 = lacks-right (followSet f) (followSet g ++ (if nullable g then (firstSet f) else [])) r z in
+    let e1 : begins (firstSet f) (x ++ r) ≡ false =
+    quiet (firstSet f) x r
+    (λ e. let t = empty-of k g v (subst (λ y. Means k g y v) e m) in lacks-right (followSet g) (firstSet f) r (rw t at z1))
+    (λ a t e. apart-lacks (firstSet f) (firstSet g) a n (first-of k g a t v (subst (λ y. Means k g y v) e m))) in
+    let e2 = complete k g (b .1) x v r m (lacks-left (followSet g) (if nullable g then (firstSet f) else []) r z1) in
     (rw e1 (e2 .0), λ q. rw e1 (e2 .1 q))
-complete k (star f) w x v r m z =
-    let b = both-left (fair f) ((not (empty f)) && (apart (further f) (first f))) w in
-    let b2 = both-right (fair f) ((not (empty f)) && (apart (further f) (first f))) w in
-    let n = both-left (not (empty f)) (apart (further f) (first f)) b2 in
-    let n2 = both-right (not (empty f)) (apart (further f) (first f)) b2 in
-    loop-complete k (λ y u. Means k f y u) (first f) (further f) (λ t. scan f t) (λ t. over f t) (λ y u t p q. complete k f b y u t p q) (λ a t u p. first-of k f a t u p) (λ u p. no-empty k f n u p) n2 m (length (x ++ r)) r (le-refl _) z
-complete k (made h f) w x v r m z =
+complete k (many f) w x v r m z =
+    let b = both-left (isLL1 f) ((not (nullable f)) && (apart (followSet f) (firstSet f))) w in
+    let b2 = both-right (isLL1 f) ((not (nullable f)) && (apart (followSet f) (firstSet f))) w in
+    let n = both-left (not (nullable f)) (apart (followSet f) (firstSet f)) b2 in
+    let n2 = both-right (not (nullable f)) (apart (followSet f) (firstSet f)) b2 in
+    loop-complete k (λ y u. Means k f y u) (firstSet f) (followSet f) (λ t. scan f t) (λ t. over f t) (λ y u t p q. complete k f b y u t p q) (λ a t u p. first-of k f a t u p) (λ u p. no-empty k f n u p) n2 m (length (x ++ r)) r (le-refl _) z
+complete k (fmap h f) w x v r m z =
     let e1 = complete k f w x (m .0) r (m .2) z in
     let e2 = m .1 in
     (rw (e1 .0, e2), e1 .1)

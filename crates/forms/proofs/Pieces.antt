@@ -9,13 +9,13 @@ use lib.ListN.{length, take, drop}
 use lib.Dec.{eqb, eqb·suc-zero}
 use Rattle.forms.specs.Bytes.{if_then_else_, run}
 use Rattle.forms.proofs.Bools.{by-cases, both-left, both-right}
-use Rattle.forms.specs.Form.{Class, has, Form, tell, byte, pair, alt, star, made, bound}
-use Rattle.forms.specs.Scan.{Scan, Got, Stop, onGot, first, begins, one, loop, scan, onward, overs, over}
-use Rattle.forms.specs.Pieces.{skip, some}
+use Rattle.forms.specs.Form.{Class, has, Form, pure, byte, pair, alt, many, fmap, bound}
+use Rattle.forms.specs.Scan.{Scan, Got, Stop, onGot, firstSet, begins, one, loop, scan, onward, overs, over}
+use Rattle.forms.specs.Pieces.{preceded, some}
 use Rattle.forms.proofs.Sound.{never}
 
 module _ {A B : Type 0} (f : Form A) (g : Form B) (l : List ℕ) where
-  pub skip-scan : scan (skip f g) l ≡ onGot (scan f l) (λ a r. scan g r)
+  pub skip-scan : scan (preceded f g) l ≡ onGot (scan f l) (λ a r. scan g r)
   unfolding scan
   skip-scan = go (scan f l)
     where
@@ -36,7 +36,7 @@ module _ (c : Class) (p : ℕ → Bool) (e : (b : ℕ) → has c b ≡ p b) wher
   loop-bytes (suc k) [] h = refl
   loop-bytes (suc k) (b ∷ l) h = by-cases (p b) (λ t. rw (e b, t, loop-bytes k l (omega (arith, h)))) (λ t. rw (e b, t))
 
-  pub star-bytes : (l : List ℕ) → scan (star (byte c)) l ≡ Got (take (run p l) l) (drop (run p l) l)
+  pub star-bytes : (l : List ℕ) → scan (many (byte c)) l ≡ Got (take (run p l) l) (drop (run p l) l)
   unfolding scan
   star-bytes l = loop-bytes (length l) l (le-refl _)
 
@@ -47,12 +47,12 @@ module _ (c : Class) (p : ℕ → Bool) (e : (b : ℕ) → has c b ≡ p b) wher
 
 -- a form without bounds breaks none
 abbrev pub free : {A : Type 0} → Form A → Bool
-free (tell a) = true
+free (pure a) = true
 free (byte c) = true
 free (pair f g) = ((free f) && (free g))
 free (alt f g) = ((free f) && (free g))
-free (star f) = free f
-free (made h f) = free f
+free (many f) = free f
+free (fmap h f) = free f
 free (bound p j f) = false
 
 onward-none : {A : Type 0} (o : Scan A) (k : A → List ℕ → List (List ℕ)) → ((a : A) (r : List ℕ) → k a r ≡ []) → onward o k ≡ []
@@ -66,10 +66,10 @@ overs-free {A} c s o h (suc k) l = by-cases (begins c l) (λ t. rw (t, h l) (onw
 
 pub over-free : {A : Type 0} (f : Form A) → free f ≡ true → (l : List ℕ) → over f l ≡ []
 unfolding over
-over-free (tell a) w l = refl
+over-free (pure a) w l = refl
 over-free (byte c) w l = refl
 over-free (pair f g) w l = rw (over-free f (both-left (free f) (free g) w) l) (onward-none (scan f l) (λ a r. over g r) (λ a r. over-free g (both-right (free f) (free g) w) r))
-over-free (alt f g) w l = by-cases (begins (first f) l) (λ t. rw t (over-free f (both-left (free f) (free g) w) l)) (λ t. rw t (over-free g (both-right (free f) (free g) w) l))
-over-free (star f) w l = overs-free (first f) (λ m. scan f m) (λ m. over f m) (λ m. over-free f w m) (length l) l
-over-free (made h f) w l = over-free f w l
+over-free (alt f g) w l = by-cases (begins (firstSet f) l) (λ t. rw t (over-free f (both-left (free f) (free g) w) l)) (λ t. rw t (over-free g (both-right (free f) (free g) w) l))
+over-free (many f) w l = overs-free (firstSet f) (λ m. scan f m) (λ m. over f m) (λ m. over-free f w m) (length l) l
+over-free (fmap h f) w l = over-free f w l
 over-free (bound p j f) w l = never (cc)

@@ -10,8 +10,8 @@ use lib.ListN.{length, length-append, take}
 use borrow.Author.Tests.{le-leb}
 use Rattle.forms.specs.Bytes.{if_then_else_}
 use Rattle.forms.proofs.Bools.{by-cases, both-left, both-right}
-use Rattle.forms.specs.Form.{Class, has, Form, tell, byte, pair, alt, star, made, bound, Row, none, more, Means}
-use Rattle.forms.specs.Scan.{Scan, Got, Stop, onGot, empty, first, further, begins, one, loop, scan, onward, overs, over, apart, filled, fair}
+use Rattle.forms.specs.Form.{Class, has, Form, pure, byte, pair, alt, many, fmap, bound, Row, none, more, Means}
+use Rattle.forms.specs.Scan.{Scan, Got, Stop, onGot, nullable, firstSet, followSet, begins, one, loop, scan, onward, overs, over, apart, filled, isLL1}
 use Rattle.forms.proofs.Sound.{never, sound, sound-loose, stop-split, Read}
 use Rattle.forms.proofs.Complete.{complete, Reads, both3, no-empty, some-byte}
 
@@ -22,22 +22,22 @@ unfolding has
 has-one [] e = never (cc)
 has-one (r ∷ c) e = (r .0, rw (le-leb (r .0) (r .0) (le-refl _), e))
 
-member : {A : Type 0} (f : Form A) → fair f ≡ true → (x : List ℕ) × (v : A) × Means false f x v
+member : {A : Type 0} (f : Form A) → isLL1 f ≡ true → (x : List ℕ) × (v : A) × Means false f x v
 unfolding Means
-member (tell a) w = ([], a, (refl, refl))
+member (pure a) w = ([], a, (refl, refl))
 member (byte c) w = let h = has-one c w in (h .0 ∷ [], h .0, (refl, h .1))
 member (pair f g) w =
-    let b = both3 (fair f) (fair g) (apart (further f) (first g)) w in
+    let b = both3 (isLL1 f) (isLL1 g) (apart (followSet f) (firstSet g)) w in
     let i = member f (b .0) in
     let j = member g (b .1) in
     (i .0 ++ j .0, (i .1, j .1), (i .0, j .0, refl, i .2, j .2))
 member (alt f g) w =
-    let b = both3 (fair f) (fair g) ((not (empty f)) && (apart (first f) (first g))) w in
+    let b = both3 (isLL1 f) (isLL1 g) ((not (nullable f)) && (apart (firstSet f) (firstSet g))) w in
     let i = member f (b .0) in
     (i .0, i .1, inl (i .2))
-member (star f) w = ([], [], none)
+member (many f) w = ([], [], none)
 member (bound p j f) w = let i = member f w in (i .0, i .1, (i .2, λ q. never (cc)))
-member (made h f) w = let i = member f w in (i .0, h (i .1), (i .1, refl, i .2))
+member (fmap h f) w = let i = member f w in (i .0, h (i .1), (i .1, refl, i .2))
 
 -- l is p and then r, and p begins a text of P
 abbrev pub Begun : {A : Type 0} → (List ℕ → A → Type 0) → List ℕ → List ℕ → Type 0
@@ -52,8 +52,8 @@ one-begun c w (b ∷ l) r e =
     (λ t. let q : _≡_ {A = Scan ℕ} (Stop (b ∷ l)) (Stop r) = rw t at e in let y : b ∷ l ≡ r = cc in ([], h .0 ∷ [], h .0, y, (refl, h .1)))
 
 -- behind a text of P
-behind : (x p l m r : List ℕ) → l ≡ x ++ m → m ≡ p ++ r → l ≡ (x ++ p) ++ r
-behind x p l m r e g = rw (e, g) (sym (append-assoc x p r))
+after : (x p l m r : List ℕ) → l ≡ x ++ m → m ≡ p ++ r → l ≡ (x ++ p) ++ r
+after x p l m r e g = rw (e, g) (sym (append-assoc x p r))
 
 loop-begun : {A : Type 0} (P : List ℕ → A → Type 0) (c : Class) (s : List ℕ → Scan A) → ((l : List ℕ) (v : A) (r : List ℕ) → s l ≡ Got v r → Read P l v r) → ((l r : List ℕ) → s l ≡ Stop r → Begun P l r) → (k : ℕ) (l r : List ℕ) → loop c s k l ≡ Stop r → Begun (Row P) l r
 unfolding loop
@@ -68,18 +68,18 @@ loop-begun P c s g h (suc k) l r e =
     (λ u.
     let i = g l (q .0) (q .1) (q .2) in
     let j = loop-begun P c s g h k (q .1) r u in
-    (i .0 ++ j .0, j .1, q .0 ∷ j .2, behind (i .0) (j .0) l (q .1) r (i .1) (j .3), rw append-assoc (more (i .2) (j .4))))
+    (i .0 ++ j .0, j .1, q .0 ∷ j .2, after (i .0) (j .0) l (q .1) r (i .1) (j .3), rw append-assoc (more (i .2) (j .4))))
     (λ u. let z = u .3 in never (cc))
     (stop-split (loop c s k (q .1)) _ r (q .3)))
     (stop-split (s l) _ r (rw t at e)))
     (λ t. let q : Got [] l ≡ Stop r = rw t at e in never (cc))
 
-pub begun : {A : Type 0} (f : Form A) → fair f ≡ true → (l r : List ℕ) → scan f l ≡ Stop r → Begun (λ x w. Means false f x w) l r
+pub begun : {A : Type 0} (f : Form A) → isLL1 f ≡ true → (l r : List ℕ) → scan f l ≡ Stop r → Begun (λ x w. Means false f x w) l r
 unfolding scan Means
-begun (tell a) w l r e = never (cc)
+begun (pure a) w l r e = never (cc)
 begun (byte c) w l r e = one-begun c w l r e
 begun (pair f g) w l r e =
-    let b = both3 (fair f) (fair g) (apart (further f) (first g)) w in
+    let b = both3 (isLL1 f) (isLL1 g) (apart (followSet f) (firstSet g)) w in
     ⊎-elim
     (λ q.
     let i = begun f (b .0) l r q in
@@ -90,20 +90,20 @@ begun (pair f g) w l r e =
     (λ u.
     let i = sound-loose f l (q .0) (q .1) (q .2) in
     let j = begun g (b .1) (q .1) r u in
-    (i .0 ++ j .0, j .1, (q .0, j .2), behind (i .0) (j .0) l (q .1) r (i .1) (j .3), (i .0, j .0 ++ j .1, append-assoc (i .0) (j .0) (j .1), i .2, j .4)))
+    (i .0 ++ j .0, j .1, (q .0, j .2), after (i .0) (j .0) l (q .1) r (i .1) (j .3), (i .0, j .0 ++ j .1, append-assoc (i .0) (j .0) (j .1), i .2, j .4)))
     (λ u. let z = u .3 in never (cc))
     (stop-split (scan g (q .1)) _ r (q .3)))
     (stop-split (scan f l) _ r e)
 begun (alt f g) w l r e =
-    let b = both3 (fair f) (fair g) ((not (empty f)) && (apart (first f) (first g))) w in
-    by-cases (begins (first f) l)
+    let b = both3 (isLL1 f) (isLL1 g) ((not (nullable f)) && (apart (firstSet f) (firstSet g))) w in
+    by-cases (begins (firstSet f) l)
     (λ t. let i = begun f (b .0) l r (rw t at e) in (i .0, i .1, i .2, i .3, inl (i .4)))
     (λ t. let i = begun g (b .1) l r (rw t at e) in (i .0, i .1, i .2, i .3, inr (i .4)))
-begun (star f) w l r e =
-    let b = both-left (fair f) ((not (empty f)) && (apart (further f) (first f))) w in
-    loop-begun (λ x v. Means false f x v) (first f) (λ m. scan f m) (λ m v t q. sound-loose f m v t q) (λ m t q. begun f b m t q) (length l) l r e
+begun (many f) w l r e =
+    let b = both-left (isLL1 f) ((not (nullable f)) && (apart (followSet f) (firstSet f))) w in
+    loop-begun (λ x v. Means false f x v) (firstSet f) (λ m. scan f m) (λ m v t q. sound-loose f m v t q) (λ m t q. begun f b m t q) (length l) l r e
 begun (bound p j f) w l r e = let i = begun f w l r e in (i .0, i .1, i .2, i .3, (i .4, λ q. never (cc)))
-begun (made h f) w l r e =
+begun (fmap h f) w l r e =
     ⊎-elim
     (λ q. let i = begun f w l r q in (i .0, i .1, h (i .2), i .3, (i .2, refl, i .4)))
     (λ q. let z = q .3 in never (cc))
@@ -143,7 +143,7 @@ local-bind {A} {B} s k l i h = go (s l) refl
         let d1 : l ≡ i .passed ++ m = i .split ∙ rw e in
         record {
           passed = i .passed ++ j .passed;
-          split = rw e (behind (i .passed) (j .passed) l m (rest (k a m)) d1 (j .split));
+          split = rw e (after (i .passed) (j .passed) l m (rest (k a m)) d1 (j .split));
           same = λ u q.
               let q1 : take 1 (rest (k a m)) ≡ take 1 u = rw e at q in
               let q2 : take 1 m ≡ take 1 (j .passed ++ u) = ap (take 1) (j .split) ∙ alike (j .passed) (rest (k a m)) u q1 in
@@ -264,38 +264,38 @@ module _ {A : Type 0} (c : Class) (s : List ℕ → Scan A) (eats : (l : List �
       (local-bind s _ l (h l) (λ a m e. local-bind (λ m. loop c s (length m) m) _ m (local-loop h n m (omega (arith, eats l a m e, g))) (λ vs t q. local-got (a ∷ vs) t)))
       (local-got [] l))
 
-eats-of : {A : Type 0} (f : Form A) → not (empty f) ≡ true → (l : List ℕ) (v : A) (r : List ℕ) → scan f l ≡ Got v r → length r < length l
+eats-of : {A : Type 0} (f : Form A) → not (nullable f) ≡ true → (l : List ℕ) (v : A) (r : List ℕ) → scan f l ≡ Got v r → length r < length l
 eats-of f n l v r e =
     let i = sound-loose f l v r e in
     let h = some-byte (i .0) (λ z. no-empty false f n v (subst (λ x. Means false f x v) z (i .2))) in
     omega (arith, h, ap length (i .1) ∙ length-append (i .0) r)
 
 -- one turn of a star
-pub star-unroll : {A : Type 0} (f : Form A) → not (empty f) ≡ true → (l : List ℕ) → scan (star f) l ≡ (if begins (first f) l then (onGot (scan f l) (λ a r. onGot (scan (star f) r) (λ vs t. Got (a ∷ vs) t))) else (Got [] l))
+pub star-unroll : {A : Type 0} (f : Form A) → not (nullable f) ≡ true → (l : List ℕ) → scan (many f) l ≡ (if begins (firstSet f) l then (onGot (scan f l) (λ a r. onGot (scan (many f) r) (λ vs t. Got (a ∷ vs) t))) else (Got [] l))
 unfolding scan once
-star-unroll f n l = unroll (first f) (λ m. scan f m) (λ m v r e. eats-of f n m v r e) l
+star-unroll f n l = unroll (firstSet f) (λ m. scan f m) (λ m v r e. eats-of f n m v r e) l
 
-pub star-over : {A : Type 0} (f : Form A) → not (empty f) ≡ true → (l : List ℕ) → over (star f) l ≡ (if begins (first f) l then (over f l ++ onward (scan f l) (λ a r. over (star f) r)) else [])
+pub star-over : {A : Type 0} (f : Form A) → not (nullable f) ≡ true → (l : List ℕ) → over (many f) l ≡ (if begins (firstSet f) l then (over f l ++ onward (scan f l) (λ a r. over (many f) r)) else [])
 unfolding over
-star-over f n l = unroll-over (first f) (λ m. scan f m) (λ m v r e. eats-of f n m v r e) (λ m. over f m) l
+star-over f n l = unroll-over (firstSet f) (λ m. scan f m) (λ m v r e. eats-of f n m v r e) (λ m. over f m) l
 
-local : {A : Type 0} (f : Form A) → fair f ≡ true → (l : List ℕ) → Local (λ m. scan f m) l
+local : {A : Type 0} (f : Form A) → isLL1 f ≡ true → (l : List ℕ) → Local (λ m. scan f m) l
 unfolding scan
-local (tell a) w l = local-got a l
+local (pure a) w l = local-got a l
 local (byte c) w l = local-one c l
 local (pair f g) w l =
-    let b = both3 (fair f) (fair g) (apart (further f) (first g)) w in
+    let b = both3 (isLL1 f) (isLL1 g) (apart (followSet f) (firstSet g)) w in
     local-bind (λ m. scan f m) _ l (local f (b .0) l) (λ a m e. local-bind (λ m. scan g m) _ m (local g (b .1) m) (λ v t q. local-got (a, v) t))
 local (alt f g) w l =
-    let b = both3 (fair f) (fair g) ((not (empty f)) && (apart (first f) (first g))) w in
-    local-pick (first f) (λ m. scan f m) (λ m. scan g m) l (local f (b .0) l) (local g (b .1) l)
-local (star f) w l =
-    let b = both-left (fair f) ((not (empty f)) && (apart (further f) (first f))) w in
-    let b2 = both-right (fair f) ((not (empty f)) && (apart (further f) (first f))) w in
-    let n = both-left (not (empty f)) (apart (further f) (first f)) b2 in
-    local-loop (first f) (λ m. scan f m) (λ m v r e. eats-of f n m v r e) (λ m. local f b m) (length l) l (le-refl _)
+    let b = both3 (isLL1 f) (isLL1 g) ((not (nullable f)) && (apart (firstSet f) (firstSet g))) w in
+    local-pick (firstSet f) (λ m. scan f m) (λ m. scan g m) l (local f (b .0) l) (local g (b .1) l)
+local (many f) w l =
+    let b = both-left (isLL1 f) ((not (nullable f)) && (apart (followSet f) (firstSet f))) w in
+    let b2 = both-right (isLL1 f) ((not (nullable f)) && (apart (followSet f) (firstSet f))) w in
+    let n = both-left (not (nullable f)) (apart (followSet f) (firstSet f)) b2 in
+    local-loop (firstSet f) (λ m. scan f m) (λ m v r e. eats-of f n m v r e) (λ m. local f b m) (length l) l (le-refl _)
 local (bound p j f) w l = local f w l
-local (made h f) w l = local-bind (λ m. scan f m) _ l (local f w l) (λ a m e. local-got (h a) m)
+local (fmap h f) w l = local-bind (λ m. scan f m) _ l (local f w l) (λ a m e. local-got (h a) m)
 
 -- ---- the theorems
 
@@ -309,7 +309,7 @@ pub record StopsAt {A : Type 0} (f : Form A) (l r : List ℕ) : Type 0 where
   pub no-further : (b : ℕ) (t y : List ℕ) (v : A) → r ≡ b ∷ t → Means false f (passed ++ b ∷ y) v → ⊥
 
 -- THE PLACE where the scanner stops
-pub stops-at : {A : Type 0} (f : Form A) → fair f ≡ true → (l r : List ℕ) → scan f l ≡ Stop r → StopsAt f l r
+pub stops-at : {A : Type 0} (f : Form A) → isLL1 f ≡ true → (l r : List ℕ) → scan f l ≡ Stop r → StopsAt f l r
 stops-at {A} f w l r e =
     let i = begun f w l r e in
     let j = local f w l in
@@ -331,14 +331,14 @@ stops-at {A} f w l r e =
     }
 
 -- THE FORM EXACTLY: the scanner reads the whole of l with value v, and with k true breaks no bound, exactly if l is of the form with value v
-pub exactly : {A : Type 0} (k : Bool) (f : Form A) → fair f ≡ true → (l : List ℕ) (v : A) → Reads k f l v [] ↔ Means k f l v
+pub exactly : {A : Type 0} (k : Bool) (f : Form A) → isLL1 f ≡ true → (l : List ℕ) (v : A) → Reads k f l v [] ↔ Means k f l v
 exactly k f w l v = (
   λ e. let i = sound k f l v [] (e .0) (e .1) in subst (λ x. Means k f x v) (sym (i .1 ∙ append-nil (i .0))) (i .2),
   λ m. subst (λ x. Reads k f x v []) (append-nil l) (complete k f w l v [] m refl),
 )
 
 -- so a text has one value
-pub unambiguous : {A : Type 0} (k : Bool) (f : Form A) → fair f ≡ true → (l : List ℕ) (v u : A) → Means k f l v → Means k f l u → v ≡ u
+pub unambiguous : {A : Type 0} (k : Bool) (f : Form A) → isLL1 f ≡ true → (l : List ℕ) (v u : A) → Means k f l v → Means k f l u → v ≡ u
 unambiguous k f w l v u m n =
     let a = exactly k f w l v .1 m .0 in
     let b = exactly k f w l u .1 n .0 in

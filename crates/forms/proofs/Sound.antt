@@ -8,8 +8,8 @@ use native.Mathlib.Omega.{arith}
 use lib.ListN.{length, drop}
 use Rattle.forms.specs.Bytes.{if_then_else_}
 use Rattle.forms.proofs.Bools.{by-cases}
-use Rattle.forms.specs.Form.{Class, has, Form, tell, byte, pair, alt, star, made, bound, Row, none, more, Means}
-use Rattle.forms.specs.Scan.{Scan, Got, Stop, onGot, first, begins, one, loop, scan, onward, overs, over}
+use Rattle.forms.specs.Form.{Class, has, Form, pure, byte, pair, alt, many, fmap, bound, Row, none, more, Means}
+use Rattle.forms.specs.Scan.{Scan, Got, Stop, onGot, firstSet, begins, one, loop, scan, onward, overs, over}
 
 pub never : {A : Type 0} → _≡_ {A = ℕ} 0 1 → A
 never e = absurd (omega (arith, e))
@@ -80,7 +80,7 @@ bound-kept false l e = never (cc)
 -- SOUND, with the bounds or without
 pub sound : {A : Type 0} (k : Bool) (f : Form A) (l : List ℕ) (v : A) (r : List ℕ) → scan f l ≡ Got v r → (k ≡ true → over f l ≡ []) → Read (λ x w. Means k f x w) l v r
 unfolding scan Means over
-sound k (tell a) l v r e u = let z : v ≡ a = cc in let y : l ≡ r = cc in ([], y, (refl, z))
+sound k (pure a) l v r e u = let z : v ≡ a = cc in let y : l ≡ r = cc in ([], y, (refl, z))
 sound k (byte c) l v r e u = one-sound c l v r e
 sound k (pair f g) l v r e u =
     let p = got-split (scan f l) _ v r e in
@@ -88,11 +88,11 @@ sound k (pair f g) l v r e u =
     let u1 : k ≡ true → (over f l ≡ []) × (over g (p .1) ≡ []) = λ w. rw (p .2) at (app-nil (over f l) _ (u w)) in
     read-pair (λ x w. Means k f x w) (λ x w. Means k g x w) l (p .1) (q .1) r (p .0) (q .0) v (sound k f l (p .0) (p .1) (p .2) (λ w. u1 w .0)) (sound k g (p .1) (q .0) (q .1) (q .2) (λ w. u1 w .1)) (q .3)
 sound k (alt f g) l v r e u =
-    by-cases (begins (first f) l)
+    by-cases (begins (firstSet f) l)
     (λ t. let i = sound k f l v r (rw t at e) (λ w. rw t at (u w)) in (i .0, i .1, inl (i .2)))
     (λ t. let i = sound k g l v r (rw t at e) (λ w. rw t at (u w)) in (i .0, i .1, inr (i .2)))
-sound k (star f) l v r e u = loop-sound k (λ x w. Means k f x w) (first f) (λ m. scan f m) (λ m. over f m) (λ m w t q z. sound k f m w t q z) (length l) l v r e u
-sound k (made h f) l v r e u =
+sound k (many f) l v r e u = loop-sound k (λ x w. Means k f x w) (firstSet f) (λ m. scan f m) (λ m. over f m) (λ m w t q z. sound k f m w t q z) (length l) l v r e u
+sound k (fmap h f) l v r e u =
     let p = got-split (scan f l) _ v r e in
     let i = sound k f l (p .0) (p .1) (p .2) u in
     let w : Got (h (p .0)) (p .1) ≡ Got v r = p .3 in

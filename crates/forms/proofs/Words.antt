@@ -9,7 +9,7 @@ use lib.Dec.{eqb, leb}
 use borrow.Author.Tests.{eqb-true, eqb-false, eq-eqb, ne-eqb, le-leb, lt-leb, leb-true, not-true}
 use Rattle.forms.specs.Bytes.{if_then_else_, between, lower, sameWord}
 use Rattle.forms.specs.Form.{Class, has, Means}
-use Rattle.forms.specs.Pieces.{says}
+use Rattle.forms.specs.Pieces.{keyword}
 use Rattle.forms.proofs.Bools.{by-cases, both-left, both-right}
 use Rattle.forms.proofs.Sound.{never}
 
@@ -74,7 +74,7 @@ small-parts : (y : ℕ) (w : List ℕ) → small (y ∷ w) ≡ true → (capital
 unfolding small
 small-parts y w s = (not-true (capital y) (both-left (not (capital y)) (small w) s), both-right (not (capital y)) (small w) s)
 
-says-is : {A : Type 0} (k : Bool) (w : List ℕ) (a : A) → small w ≡ true → (x : List ℕ) (v : A) → Means k (says w a) x v → (sameWord x w ≡ true) × (v ≡ a)
+says-is : {A : Type 0} (k : Bool) (w : List ℕ) (a : A) → small w ≡ true → (x : List ℕ) (v : A) → Means k (keyword w a) x v → (sameWord x w ≡ true) × (v ≡ a)
 unfolding Means sameWord
 says-is k [] a s x v m = let e = m .0 in (rw e, m .1)
 says-is k (y ∷ w) a s x v m =
@@ -85,7 +85,7 @@ says-is k (y ∷ w) a s x v m =
     let q : eqb (lower (m .0 .0)) y ≡ true = sym (any-case y (m .0 .0) (c .0)) ∙ r .3 .1 in
     (ap (λ t. sameWord t (y ∷ w)) e ∙ ap (λ t. t && sameWord (r .1) w) q ∙ i .0, m .1 ∙ i .1)
 
-says-makes : {A : Type 0} (k : Bool) (w : List ℕ) (a : A) → small w ≡ true → (x : List ℕ) (v : A) → sameWord x w ≡ true → v ≡ a → Means k (says w a) x v
+says-makes : {A : Type 0} (k : Bool) (w : List ℕ) (a : A) → small w ≡ true → (x : List ℕ) (v : A) → sameWord x w ≡ true → v ≡ a → Means k (keyword w a) x v
 unfolding Means sameWord
 says-makes k [] a s [] v e q = (refl, q)
 says-makes k [] a s (b ∷ x) v e q = never (cc)
@@ -95,5 +95,5 @@ says-makes k (y ∷ w) a s (b ∷ x) v e q =
     ((b, v), refl, (b ∷ [], x, refl, (refl, any-case y b (c .0) ∙ both-left (eqb (lower b) y) (sameWord x w) e), says-makes k w a (c .1) x v (both-right (eqb (lower b) y) (sameWord x w) e) q))
 
 -- THE MEANING of a word's form: the word, its letters in either case
-pub says-means : {A : Type 0} (k : Bool) (w : List ℕ) (a : A) → small w ≡ true → (x : List ℕ) (v : A) → Means k (says w a) x v ↔ ((sameWord x w ≡ true) × (v ≡ a))
+pub says-means : {A : Type 0} (k : Bool) (w : List ℕ) (a : A) → small w ≡ true → (x : List ℕ) (v : A) → Means k (keyword w a) x v ↔ ((sameWord x w ≡ true) × (v ≡ a))
 says-means k w a s x v = (λ m. says-is k w a s x v m, λ m. says-makes k w a s x v (m .0) (m .1))

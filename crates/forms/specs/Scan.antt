@@ -1,4 +1,4 @@
--- Scanning a form from the front of a byte list, one byte of look-ahead deciding; and `fair`, a computed test of the forms for which
+-- Scanning a form from the front of a byte list, one byte of look-ahead deciding; and `isLL1`, a computed test of the forms for which
 -- that is right. proofs/Places.antt shows that for fair forms the scanner reads exactly what the form means.
 use Prim.Native.Nat.{ℕ, zero, suc}
 use mathlib.Core.Bool.{Bool, true, false, not, _&&_, _||_}
@@ -6,7 +6,7 @@ use mathlib.Core.List.{List, [], _∷_, _++_}
 use lib.ListN.{length, drop}
 use lib.Dec.{ltb, leb}
 use Rattle.forms.specs.Bytes.{if_then_else_}
-use Rattle.forms.specs.Form.{Class, has, Form, tell, byte, pair, alt, star, made, bound}
+use Rattle.forms.specs.Form.{Class, has, Form, pure, byte, pair, alt, many, fmap, bound}
 
 -- the value and what is left behind it; or what is left where the form cannot go on
 pub data Scan (A : Type 0) : Type 0 where
@@ -18,24 +18,24 @@ onGot (Got a l) k = k a l
 onGot (Stop l) k = Stop l
 
 -- whether the empty text is of the form
-abbrev pub empty : {A : Type 0} → Form A → Bool
-empty (tell a) = true
-empty (byte c) = false
-empty (pair f g) = empty f && empty g
-empty (alt f g) = empty f || empty g
-empty (star f) = true
-empty (made h f) = empty f
-empty (bound p j f) = empty f
+abbrev pub nullable : {A : Type 0} → Form A → Bool
+nullable (pure a) = true
+nullable (byte c) = false
+nullable (pair f g) = nullable f && nullable g
+nullable (alt f g) = nullable f || nullable g
+nullable (many f) = true
+nullable (fmap h f) = nullable f
+nullable (bound p j f) = nullable f
 
 -- the bytes that a text of the form can begin with
-abbrev pub first : {A : Type 0} → Form A → Class
-first (tell a) = []
-first (byte c) = c
-first (pair f g) = first f ++ (if empty f then first g else [])
-first (alt f g) = first f ++ first g
-first (star f) = first f
-first (made h f) = first f
-first (bound p j f) = first f
+abbrev pub firstSet : {A : Type 0} → Form A → Class
+firstSet (pure a) = []
+firstSet (byte c) = c
+firstSet (pair f g) = firstSet f ++ (if nullable f then firstSet g else [])
+firstSet (alt f g) = firstSet f ++ firstSet g
+firstSet (many f) = firstSet f
+firstSet (fmap h f) = firstSet f
+firstSet (bound p j f) = firstSet f
 
 abbrev pub begins : Class → List ℕ → Bool
 begins c [] = false
@@ -51,12 +51,12 @@ loop c s zero l = Got [] l
 loop c s (suc k) l = if begins c l then onGot (s l) (λ a r. onGot (loop c s k r) (λ vs t. Got (a ∷ vs) t)) else Got [] l
 
 unfoldable pub scan : {A : Type 0} → Form A → List ℕ → Scan A
-scan (tell a) l = Got a l
+scan (pure a) l = Got a l
 scan (byte c) l = one c l
 scan (pair f g) l = onGot (scan f l) (λ a r. onGot (scan g r) (λ b t. Got (a, b) t))
-scan (alt f g) l = if begins (first f) l then scan f l else scan g l
-scan (star f) l = loop (first f) (λ m. scan f m) (length l) l
-scan (made h f) l = onGot (scan f l) (λ a r. Got (h a) r)
+scan (alt f g) l = if begins (firstSet f) l then scan f l else scan g l
+scan (many f) l = loop (firstSet f) (λ m. scan f m) (length l) l
+scan (fmap h f) l = onGot (scan f l) (λ a r. Got (h a) r)
 scan (bound p j f) l = scan f l
 
 -- ---- broken bounds: what is left at each, from the left
@@ -70,25 +70,25 @@ overs c s o zero l = []
 overs c s o (suc k) l = if begins c l then o l ++ onward (s l) (λ a r. overs c s o k r) else []
 
 unfoldable pub over : {A : Type 0} → Form A → List ℕ → List (List ℕ)
-over (tell a) l = []
+over (pure a) l = []
 over (byte c) l = []
 over (pair f g) l = over f l ++ onward (scan f l) (λ a r. over g r)
-over (alt f g) l = if begins (first f) l then over f l else over g l
-over (star f) l = overs (first f) (λ m. scan f m) (λ m. over f m) (length l) l
-over (made h f) l = over f l
+over (alt f g) l = if begins (firstSet f) l then over f l else over g l
+over (many f) l = overs (firstSet f) (λ m. scan f m) (λ m. over f m) (length l) l
+over (fmap h f) l = over f l
 over (bound p j f) l = over f l ++ onward (scan f l) (λ a r. if p a then [] else drop (j a) l ∷ [])
 
 -- ---- fair: one byte decides
 
 -- the bytes with which a text of the form can go on to a longer one
-abbrev pub further : {A : Type 0} → Form A → Class
-further (tell a) = []
-further (byte c) = []
-further (pair f g) = further g ++ (if empty g then further f else [])
-further (alt f g) = further f ++ (further g ++ (if empty g then first f else []))
-further (star f) = further f ++ first f
-further (made h f) = further f
-further (bound p j f) = further f
+abbrev pub followSet : {A : Type 0} → Form A → Class
+followSet (pure a) = []
+followSet (byte c) = []
+followSet (pair f g) = followSet g ++ (if nullable g then followSet f else [])
+followSet (alt f g) = followSet f ++ (followSet g ++ (if nullable g then firstSet f else []))
+followSet (many f) = followSet f ++ firstSet f
+followSet (fmap h f) = followSet f
+followSet (bound p j f) = followSet f
 
 abbrev pub clear : ℕ × ℕ → Class → Bool
 clear r [] = true
@@ -103,11 +103,11 @@ abbrev pub filled : Class → Bool
 filled [] = false
 filled (r ∷ c) = leb (r .0) (r .1)
 
-abbrev pub fair : {A : Type 0} → Form A → Bool
-fair (tell a) = true
-fair (byte c) = filled c
-fair (pair f g) = (fair f && fair g) && apart (further f) (first g)
-fair (alt f g) = (fair f && fair g) && (not (empty f) && apart (first f) (first g))
-fair (star f) = fair f && (not (empty f) && apart (further f) (first f))
-fair (made h f) = fair f
-fair (bound p j f) = fair f
+abbrev pub isLL1 : {A : Type 0} → Form A → Bool
+isLL1 (pure a) = true
+isLL1 (byte c) = filled c
+isLL1 (pair f g) = (isLL1 f && isLL1 g) && apart (followSet f) (firstSet g)
+isLL1 (alt f g) = (isLL1 f && isLL1 g) && (not (nullable f) && apart (firstSet f) (firstSet g))
+isLL1 (many f) = isLL1 f && (not (nullable f) && apart (followSet f) (firstSet f))
+isLL1 (fmap h f) = isLL1 f
+isLL1 (bound p j f) = isLL1 f

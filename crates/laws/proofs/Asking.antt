@@ -16,16 +16,16 @@ use Rattle.definitions.specs.declared.packet.FieldMap.{FieldMap}
 use Rattle.definitions.specs.declared.packet.Start.{Start}
 use Rattle.definitions.specs.declared.packet.Placement.{Placement}
 use Rattle.definitions.specs.declared.answers.Refusal.{Refusal}
-use Rattle.definitions.specs.declared.answers.Due.the-variants.{Fine, No}
+use Rattle.definitions.specs.declared.answers.Check.the-variants.{Pass, Refuse}
 use Rattle.definitions.specs.declared.answers.Answer.{Answer}
-use Rattle.definitions.specs.declared.answers.Ask.{Ask}
-use Rattle.definitions.specs.declared.answers.Ask.the-variants.{First, Next}
-use Rattle.definitions.specs.Limits.{patternsMost}
+use Rattle.definitions.specs.declared.answers.Query.{Query}
+use Rattle.definitions.specs.declared.answers.Query.the-variants.{First, Next}
+use Rattle.definitions.specs.Limits.{maxPatterns}
 use Rattle.definitions.specs.Starts.{startAt}
 use Rattle.definitions.specs.Fields.{viewOf}
 use Rattle.definitions.specs.Placements.{lexLess, positives, itemsOf}
-use Rattle.definitions.specs.Answers.{placementOf, foundAnswer, noneAnswer, refusedAnswer, headOf, verdictDue, placementsOf, firstAnswer, nextAnswer}
-use Rattle.definitions.specs.Asks.{answers}
+use Rattle.definitions.specs.Answers.{placementOf, foundAnswer, noneAnswer, refusedAnswer, headOf, inputCheck, placementsOf, firstAnswer, nextAnswer}
+use Rattle.definitions.specs.Queries.{answers}
 use Rattle.laws.proofs.LexOrder.{lexLess-not-self}
 use Rattle.laws.proofs.Rising.{Rising, keep-after}
 use Rattle.laws.proofs.Listing.{listed-length}
@@ -36,13 +36,13 @@ module _ (t : Table) (p decoded : List ℕ) (dir : Direction) (m : FieldMap) whe
   unfolding placementsOf
   each-length q n = listed-length t (viewOf p decoded m) dir q n
 
-  module _ (due : verdictDue t p decoded dir m ≡ Fine) where
+  module _ (check : inputCheck t p decoded dir m ≡ Pass) where
     next-after : (pre : List (List Start)) (q : List Start) (rest : List (List Start)) → placementsOf t p decoded dir m ≡ pre ++ q ∷ rest
         → nextAnswer t p decoded dir m (placementOf q) ≡ headOf rest
     unfolding nextAnswer
     next-after pre q rest e =
         let n : Mem q (placementsOf t p decoded dir m) = subst (λ (l : List (List Start)). Mem q l) (sym e) (append-right pre (here refl)) in
-        rw (due, eq-eqb (length q) (positives (itemsOf t)) (each-length q n), take-append-seam q (replicate (patternsMost - length q) (startAt 0)), e)
+        rw (check, eq-eqb (length q) (positives (itemsOf t)) (each-length q n), take-append-seam q (replicate (maxPatterns - length q) (startAt 0)), e)
         (ap headOf (keep-after pre q rest (subst Rising e (placements-rise t p decoded dir m))))
 
     from-one : (pre : List (List Start)) (q : List Start) (rest : List (List Start)) → placementsOf t p decoded dir m ≡ pre ++ q ∷ rest
@@ -56,8 +56,8 @@ module _ (t : Table) (p decoded : List ℕ) (dir : Direction) (m : FieldMap) whe
     from-list : (l : List (List Start)) (h : Placement) → placementsOf t p decoded dir m ≡ l
         → answers t p decoded dir m h (First ∷ replicate (length l) Next) ≡ map foundAnswer l ++ (noneAnswer ∷ [])
     unfolding answers firstAnswer
-    from-list [] h e = rw (due, e)
-    from-list (q ∷ rest) h e = rw (due, e) (ap (λ (l : List Answer). foundAnswer q ∷ l) (from-one [] q rest e))
+    from-list [] h e = rw (check, e)
+    from-list (q ∷ rest) h e = rw (check, e) (ap (λ (l : List Answer). foundAnswer q ∷ l) (from-one [] q rest e))
 
     pub all-listed : (h : Placement)
         → answers t p decoded dir m h (First ∷ replicate (length (placementsOf t p decoded dir m)) Next)
@@ -65,12 +65,12 @@ module _ (t : Table) (p decoded : List ℕ) (dir : Direction) (m : FieldMap) whe
     all-listed h = from-list (placementsOf t p decoded dir m) h refl
 
   -- whatever is held
-  pub all-refused : (r : Refusal) → verdictDue t p decoded dir m ≡ No r → (h : Placement) (asks : List Ask)
-      → answers t p decoded dir m h asks ≡ map (λ (a : Ask). refusedAnswer r) asks
+  pub all-refused : (r : Refusal) → inputCheck t p decoded dir m ≡ Refuse r → (h : Placement) (queries : List Query)
+      → answers t p decoded dir m h queries ≡ map (λ (a : Query). refusedAnswer r) queries
   unfolding answers firstAnswer nextAnswer
   all-refused r e h [] = refl
-  all-refused r e h (First ∷ asks) = rw e (ap (λ (l : List Answer). refusedAnswer r ∷ l) (all-refused r e (placementOf []) asks))
-  all-refused r e h (Next ∷ asks) = rw e (ap (λ (l : List Answer). refusedAnswer r ∷ l) (all-refused r e (placementOf []) asks))
+  all-refused r e h (First ∷ queries) = rw e (ap (λ (l : List Answer). refusedAnswer r ∷ l) (all-refused r e (placementOf []) queries))
+  all-refused r e h (Next ∷ queries) = rw e (ap (λ (l : List Answer). refusedAnswer r ∷ l) (all-refused r e (placementOf []) queries))
 
   -- with no positive pattern there is one empty placement or none
   pub empty-or-none : positives (itemsOf t) ≡ 0 → (placementsOf t p decoded dir m ≡ []) ⊎ (placementsOf t p decoded dir m ≡ [] ∷ [])

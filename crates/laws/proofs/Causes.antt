@@ -11,21 +11,21 @@ use Rattle.definitions.specs.declared.table.Table.{Table}
 use Rattle.definitions.specs.declared.packet.FieldMap.{FieldMap}
 use Rattle.definitions.specs.declared.packet.Placement.{Placement}
 use Rattle.definitions.specs.declared.answers.Refusal.the-variants as refusal
-use Rattle.definitions.specs.declared.answers.Due.the-variants.{Fine}
+use Rattle.definitions.specs.declared.answers.Check.the-variants.{Pass}
 use Rattle.definitions.specs.declared.answers.ReadOutcome.{ReadOutcome}
 use Rattle.definitions.specs.declared.answers.ReadOutcome.the-variants as outcome
-use Rattle.definitions.specs.Limits.{Limits, packetMost, decodedMost}
+use Rattle.definitions.specs.Limits.{Limits, maxPacket, maxDecoded}
 use Rattle.definitions.specs.Lists.{any?, all?}
-use Rattle.definitions.specs.Refusals.{dueNumber, readNumber, writeNumber, packetNumber, verdictNumber, foundNumber, orElse}
+use Rattle.definitions.specs.Refusals.{checkNumber, readNumber, writeNumber, packetNumber, verdictNumber, foundNumber, andThen}
 use Rattle.definitions.specs.Reading.{read}
 use Rattle.definitions.specs.WellFormed.{wellFormed}
-use Rattle.definitions.specs.House.{houseText}
-use Rattle.definitions.specs.Writing.{writingDue, writes}
-use Rattle.definitions.specs.Packet.{versionOf, headerWords, headerLength, totalLength, isFragment, datagramOf, payloadOf, transportShort, packetDue, packetAnswer}
-use Rattle.definitions.specs.Fields.{fieldPasses, mapped, fieldsDue}
+use Rattle.definitions.specs.Canonical.{canonicalText}
+use Rattle.definitions.specs.Writing.{writingCheck, writes}
+use Rattle.definitions.specs.Packet.{versionOf, headerWords, headerLength, totalLength, isFragment, datagramOf, payloadOf, transportShort, packetCheck, packetAnswer}
+use Rattle.definitions.specs.Fields.{fieldPasses, mapped, fieldsCheck}
 use Rattle.definitions.specs.Placements.{itemsOf, positives}
-use Rattle.definitions.specs.Answers.{verdictDue, verdictAnswer, firstAnswer, earlierDue, nextAnswer}
-use Rattle.laws.proofs.Dues.{among, among-more, DueAmong, refuse-among, else-among}
+use Rattle.definitions.specs.Answers.{inputCheck, verdictAnswer, firstAnswer, earlierCheck, nextAnswer}
+use Rattle.laws.proofs.Checks.{among, among-more, CheckAmong, refuse-among, else-among}
 use Rattle.laws.proofs.Numbers.{write-number, packet-number, verdict-number, first-number, next-number}
 use Rattle.laws.proofs.Places.{readCauses, OutcomeFits, read-fits}
 
@@ -46,26 +46,26 @@ nextCauses = 0 ∷ 20 ∷ 30 ∷ 31 ∷ 32 ∷ 33 ∷ 34 ∷ 35 ∷ 36 ∷ []
 
 -- ---- what is due
 
-writing-among : (lim : Limits) (t : Table) (n : ℕ) → DueAmong writeCauses (writingDue lim t n)
-unfolding writingDue any?
+writing-among : (lim : Limits) (t : Table) (n : ℕ) → CheckAmong writeCauses (writingCheck lim t n)
+unfolding writingCheck any?
 writing-among lim t n =
     refuse-among writeCauses (not (wellFormed t)) refusal.IllFormed _ refl
-    (refuse-among writeCauses (ltb (lim .house) (length (houseText t))) refusal.HouseLength _ refl
-    (refuse-among writeCauses (ltb n (length (houseText t))) refusal.ShortBuffer Fine refl refl))
+    (refuse-among writeCauses (ltb (lim .canonical) (length (canonicalText t))) refusal.CanonicalLength _ refl
+    (refuse-among writeCauses (ltb n (length (canonicalText t))) refusal.ShortBuffer Pass refl refl))
 
-packet-among : (p decoded : List ℕ) → DueAmong packetCauses (packetDue p decoded)
-unfolding packetDue any?
+packet-among : (p decoded : List ℕ) → CheckAmong packetCauses (packetCheck p decoded)
+unfolding packetCheck any?
 packet-among p decoded =
-    refuse-among packetCauses (ltb packetMost (length p) || ltb decodedMost (length decoded)) refusal.LentLength _ refl
+    refuse-among packetCauses (ltb maxPacket (length p) || ltb maxDecoded (length decoded)) refusal.BufferLength _ refl
     (refuse-among packetCauses (ltb (length p) 20 || not (eqb (versionOf p) 4)) refusal.NotIpv4 _ refl
     (refuse-among packetCauses (ltb (headerWords p) 5 || (ltb (totalLength p) (headerLength p) || ltb (length p) (totalLength p))) refusal.Lengths _ refl
     (refuse-among packetCauses (isFragment (datagramOf p)) refusal.Fragment _ refl
-    (refuse-among packetCauses (transportShort (datagramOf p)) refusal.Transport Fine refl refl))))
+    (refuse-among packetCauses (transportShort (datagramOf p)) refusal.Transport Pass refl refl))))
 
 -- the fields' answer is what is due
-pub fields-causes : (payload decoded : List ℕ) (m : FieldMap) → among fieldsCauses (dueNumber (fieldsDue payload decoded m)) ≡ true
-unfolding fieldsDue any?
-fields-causes payload decoded m = refuse-among fieldsCauses (any? (fieldPasses payload decoded m) mapped) refusal.FieldSpan Fine refl refl
+pub fields-causes : (payload decoded : List ℕ) (m : FieldMap) → among fieldsCauses (checkNumber (fieldsCheck payload decoded m)) ≡ true
+unfolding fieldsCheck any?
+fields-causes payload decoded m = refuse-among fieldsCauses (any? (fieldPasses payload decoded m) mapped) refusal.FieldSpan Pass refl refl
 
 -- ---- of what the entries answer
 
@@ -87,20 +87,20 @@ pub packet-causes : (p decoded : List ℕ) → among packetCauses (packetNumber 
 packet-causes p decoded = ap (among packetCauses) (packet-number p decoded) ∙ packet-among p decoded
 
 module _ (t : Table) (p decoded : List ℕ) (dir : Direction) (m : FieldMap) where
-  verdict-among : DueAmong verdictCauses (verdictDue t p decoded dir m)
-  unfolding verdictDue any? all?
+  verdict-among : CheckAmong verdictCauses (inputCheck t p decoded dir m)
+  unfolding inputCheck any? all?
   verdict-among =
       refuse-among verdictCauses (not (wellFormed t)) refusal.IllFormed _ refl
-      (else-among verdictCauses (packetDue p decoded) (fieldsDue (payloadOf (datagramOf p)) decoded m)
-      (among-more packetCauses verdictCauses (dueNumber (packetDue p decoded)) refl (packet-among p decoded))
-      (among-more fieldsCauses verdictCauses (dueNumber (fieldsDue (payloadOf (datagramOf p)) decoded m)) refl (fields-causes (payloadOf (datagramOf p)) decoded m)))
+      (else-among verdictCauses (packetCheck p decoded) (fieldsCheck (payloadOf (datagramOf p)) decoded m)
+      (among-more packetCauses verdictCauses (checkNumber (packetCheck p decoded)) refl (packet-among p decoded))
+      (among-more fieldsCauses verdictCauses (checkNumber (fieldsCheck (payloadOf (datagramOf p)) decoded m)) refl (fields-causes (payloadOf (datagramOf p)) decoded m)))
 
-  next-among : (h : Placement) → DueAmong nextCauses (orElse (verdictDue t p decoded dir m) (earlierDue t p decoded dir m h))
+  next-among : (h : Placement) → CheckAmong nextCauses (andThen (inputCheck t p decoded dir m) (earlierCheck t p decoded dir m h))
   unfolding any? all?
   next-among h =
-      else-among nextCauses (verdictDue t p decoded dir m) (earlierDue t p decoded dir m h)
-      (among-more verdictCauses nextCauses (dueNumber (verdictDue t p decoded dir m)) refl verdict-among)
-      (refuse-among nextCauses (not (eqb (h .count) (positives (itemsOf t)))) refusal.EarlierCount Fine refl refl)
+      else-among nextCauses (inputCheck t p decoded dir m) (earlierCheck t p decoded dir m h)
+      (among-more verdictCauses nextCauses (checkNumber (inputCheck t p decoded dir m)) refl verdict-among)
+      (refuse-among nextCauses (not (eqb (h .count) (positives (itemsOf t)))) refusal.EarlierCount Pass refl refl)
 
   pub verdict-causes : among verdictCauses (verdictNumber (verdictAnswer t p decoded dir m)) ≡ true
   verdict-causes = ap (among verdictCauses) (verdict-number t p decoded dir m) ∙ verdict-among

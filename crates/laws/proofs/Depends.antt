@@ -19,23 +19,23 @@ use Rattle.definitions.specs.declared.packet.FieldSpan.the-variants.{Absent, At
 use Rattle.definitions.specs.declared.packet.FieldMap.{FieldMap}
 use Rattle.definitions.specs.declared.packet.Placement.{Placement}
 use Rattle.definitions.specs.declared.answers.Refusal.the-variants as refusal
-use Rattle.definitions.specs.declared.answers.Due.{Due}
-use Rattle.definitions.specs.declared.answers.Due.the-variants.{Fine, No}
+use Rattle.definitions.specs.declared.answers.Check.{Check}
+use Rattle.definitions.specs.declared.answers.Check.the-variants.{Pass, Refuse}
 use Rattle.definitions.specs.declared.answers.Answer.{Answer}
-use Rattle.definitions.specs.Limits.{packetMost, decodedMost}
+use Rattle.definitions.specs.Limits.{maxPacket, maxDecoded}
 use Rattle.definitions.specs.Lists.{any?, keep}
-use Rattle.definitions.specs.Refusals.{refuseIf, orElse}
+use Rattle.definitions.specs.Refusals.{refuseIf, andThen}
 use Rattle.definitions.specs.WellFormed.{wellFormed}
-use Rattle.definitions.specs.Packet.{wide, totalLength, datagramOf, factsOf, payloadOf, datagramDue, packetDue}
-use Rattle.definitions.specs.Fields.{View, viewOf, bufferOf, spanOf, isAt, passes, shown, cut, fieldOf, present, fieldsDue}
+use Rattle.definitions.specs.Packet.{bigEndian, totalLength, datagramOf, headerOf, payloadOf, datagramCheck, packetCheck}
+use Rattle.definitions.specs.Fields.{View, viewOf, bufferOf, spanOf, isAt, passes, shown, cut, fieldOf, present, fieldsCheck}
 use Rattle.definitions.specs.Placements.{listed, lexLess}
-use Rattle.definitions.specs.Answers.{startsOf, headOf, unless, verdictBy, verdictDue, placementsOf, verdictAnswer, firstAnswer, earlierDue, nextAnswer}
-use Rattle.laws.proofs.Dues.{refuse-same, refuse-fine, else-same, else-fine, neither}
+use Rattle.definitions.specs.Answers.{startsOf, headOf, unless, verdictBy, inputCheck, placementsOf, verdictAnswer, firstAnswer, earlierCheck, nextAnswer}
+use Rattle.laws.proofs.Checks.{refuse-same, refuse-fine, else-same, else-fine, neither}
 
 -- two packets and two decoded buffers that a verdict cannot tell apart
 pub record Alike (p p′ decoded decoded′ : List ℕ) (m : FieldMap) : Type 0 where
-  pub lent : length p ≡ length p′
-  pub lent-decoded : length decoded ≡ length decoded′
+  pub buffer : length p ≡ length p′
+  pub buffer-decoded : length decoded ≡ length decoded′
   pub front : take 4 p ≡ take 4 p′
   pub datagrams : totalLength p ≤ length p → datagramOf p ≡ datagramOf p′
   pub fields : totalLength p ≤ length p → (c : Context) → present m c ≡ true
@@ -90,7 +90,7 @@ absent-same payload decoded decoded′ m context.File e = refl
 
 -- 30 to 32 by the lent lengths, the first byte and the total length, then what is due of the datagram
 abbrev tooLong : ℕ → ℕ → Bool
-tooLong n k = ltb packetMost n || ltb decodedMost k
+tooLong n k = ltb maxPacket n || ltb maxDecoded k
 
 abbrev otherVersion : ℕ → ℕ → Bool
 otherVersion n b = ltb n 20 || not (eqb (b / 16) 4)
@@ -98,72 +98,72 @@ otherVersion n b = ltb n 20 || not (eqb (b / 16) 4)
 abbrev wrongLengths : ℕ → ℕ → ℕ → Bool
 wrongLengths n b total = ltb (b % 16) 5 || (ltb total (b % 16 * 4) || ltb n total)
 
-unfoldable dueBy : ℕ → ℕ → ℕ → ℕ → Due → Due
-dueBy n k b total d =
-    refuseIf (tooLong n k) refusal.LentLength (refuseIf (otherVersion n b) refusal.NotIpv4 (refuseIf (wrongLengths n b total) refusal.Lengths d))
+unfoldable checkBy : ℕ → ℕ → ℕ → ℕ → Check → Check
+checkBy n k b total d =
+    refuseIf (tooLong n k) refusal.BufferLength (refuseIf (otherVersion n b) refusal.NotIpv4 (refuseIf (wrongLengths n b total) refusal.Lengths d))
 
 lengths-within : (n b total : ℕ) → wrongLengths n b total ≡ false → total ≤ n
 lengths-within n b total e = ltb-false n total (neither (ltb total (b % 16 * 4)) (ltb n total) (neither (ltb (b % 16) 5) (ltb total (b % 16 * 4) || ltb n total) e .1) .1)
 
 -- the datagram is looked at only where it lies in the lent bytes
-due-by-same : (n k b total : ℕ) (d d′ : Due) → (total ≤ n → d ≡ d′) → dueBy n k b total d ≡ dueBy n k b total d′
-unfolding dueBy
-due-by-same n k b total d d′ f =
-    ap (λ (u : Due). refuseIf (tooLong n k) refusal.LentLength (refuseIf (otherVersion n b) refusal.NotIpv4 u))
+check-by-same : (n k b total : ℕ) (d d′ : Check) → (total ≤ n → d ≡ d′) → checkBy n k b total d ≡ checkBy n k b total d′
+unfolding checkBy
+check-by-same n k b total d d′ f =
+    ap (λ (u : Check). refuseIf (tooLong n k) refusal.BufferLength (refuseIf (otherVersion n b) refusal.NotIpv4 u))
     (refuse-same (wrongLengths n b total) refusal.Lengths d d′ (λ e. f (lengths-within n b total e)))
 
-due-by-within : (n k b total : ℕ) (d : Due) → dueBy n k b total d ≡ Fine → total ≤ n
-unfolding dueBy
-due-by-within n k b total d e =
-    let lengths : Due = refuseIf (wrongLengths n b total) refusal.Lengths d in
-    let x = refuse-fine (tooLong n k) refusal.LentLength (refuseIf (otherVersion n b) refusal.NotIpv4 lengths) e .1 in
+check-by-within : (n k b total : ℕ) (d : Check) → checkBy n k b total d ≡ Pass → total ≤ n
+unfolding checkBy
+check-by-within n k b total d e =
+    let lengths : Check = refuseIf (wrongLengths n b total) refusal.Lengths d in
+    let x = refuse-fine (tooLong n k) refusal.BufferLength (refuseIf (otherVersion n b) refusal.NotIpv4 lengths) e .1 in
     let y = refuse-fine (otherVersion n b) refusal.NotIpv4 lengths x .1 in
     lengths-within n b total (refuse-fine (wrongLengths n b total) refusal.Lengths d y .0)
 
-due-by : (p decoded : List ℕ) → packetDue p decoded ≡ dueBy (length p) (length decoded) (wide 1 p 0) (totalLength p) (datagramDue (datagramOf p))
-unfolding packetDue dueBy
-due-by p decoded = refl
+check-by : (p decoded : List ℕ) → packetCheck p decoded ≡ checkBy (length p) (length decoded) (bigEndian 1 p 0) (totalLength p) (datagramCheck (datagramOf p))
+unfolding packetCheck checkBy
+check-by p decoded = refl
 
-verdict-by-same : (d : Due) (l l′ : List (List Start)) → (d ≡ Fine → l ≡ l′) → verdictBy d l ≡ verdictBy d l′
-verdict-by-same Fine l l′ f = ap (verdictBy Fine) (f refl)
-verdict-by-same (No r) l l′ f = refl
+verdict-by-same : (d : Check) (l l′ : List (List Start)) → (d ≡ Pass → l ≡ l′) → verdictBy d l ≡ verdictBy d l′
+verdict-by-same Pass l l′ f = ap (verdictBy Pass) (f refl)
+verdict-by-same (Refuse r) l l′ f = refl
 
-unless-same : (d : Due) (a a′ : Answer) → (d ≡ Fine → a ≡ a′) → unless d a ≡ unless d a′
-unless-same Fine a a′ f = f refl
-unless-same (No r) a a′ f = refl
+unless-same : (d : Check) (a a′ : Answer) → (d ≡ Pass → a ≡ a′) → unless d a ≡ unless d a′
+unless-same Pass a a′ f = f refl
+unless-same (Refuse r) a a′ f = refl
 
 module _ (p p′ decoded decoded′ : List ℕ) (m : FieldMap) (h : Alike p p′ decoded decoded′ m) where
-  first-same : wide 1 p 0 ≡ wide 1 p′ 0
-  unfolding wide
+  first-same : bigEndian 1 p 0 ≡ bigEndian 1 p′ 0
+  unfolding bigEndian
   first-same = ap (λ (b : ℕ). 0 * 256 + b) (byte0 p ∙ ap (λ (l : List ℕ). getD l 0 0) (h .front) ∙ sym (byte0 p′))
 
   total-same : totalLength p ≡ totalLength p′
-  unfolding wide
+  unfolding bigEndian
   total-same =
       let b : getD p 2 0 ≡ getD p′ 2 0 = byte2 p ∙ ap (λ (l : List ℕ). getD l 2 0) (h .front) ∙ sym (byte2 p′) in
       let c : getD p 3 0 ≡ getD p′ 3 0 = byte3 p ∙ ap (λ (l : List ℕ). getD l 3 0) (h .front) ∙ sym (byte3 p′) in
       rw (b, c)
 
-  front-same : (d : Due)
-      → dueBy (length p) (length decoded) (wide 1 p 0) (totalLength p) d ≡ dueBy (length p′) (length decoded′) (wide 1 p′ 0) (totalLength p′) d
-  front-same d = rw (h .lent, h .lent-decoded, first-same, total-same)
+  front-same : (d : Check)
+      → checkBy (length p) (length decoded) (bigEndian 1 p 0) (totalLength p) d ≡ checkBy (length p′) (length decoded′) (bigEndian 1 p′ 0) (totalLength p′) d
+  front-same d = rw (h .buffer, h .buffer-decoded, first-same, total-same)
 
-  packet-due-same : packetDue p decoded ≡ packetDue p′ decoded′
-  packet-due-same =
-      due-by p decoded
-      ∙ due-by-same (length p) (length decoded) (wide 1 p 0) (totalLength p) (datagramDue (datagramOf p)) (datagramDue (datagramOf p′)) (λ w. ap datagramDue (h .datagrams w))
-      ∙ front-same (datagramDue (datagramOf p′))
-      ∙ sym (due-by p′ decoded′)
+  packet-check-same : packetCheck p decoded ≡ packetCheck p′ decoded′
+  packet-check-same =
+      check-by p decoded
+      ∙ check-by-same (length p) (length decoded) (bigEndian 1 p 0) (totalLength p) (datagramCheck (datagramOf p)) (datagramCheck (datagramOf p′)) (λ w. ap datagramCheck (h .datagrams w))
+      ∙ front-same (datagramCheck (datagramOf p′))
+      ∙ sym (check-by p′ decoded′)
 
-  packet-within : packetDue p decoded ≡ Fine → totalLength p ≤ length p
-  packet-within e = due-by-within (length p) (length decoded) (wide 1 p 0) (totalLength p) (datagramDue (datagramOf p)) (sym (due-by p decoded) ∙ e)
+  packet-within : packetCheck p decoded ≡ Pass → totalLength p ≤ length p
+  packet-within e = check-by-within (length p) (length decoded) (bigEndian 1 p 0) (totalLength p) (datagramCheck (datagramOf p)) (sym (check-by p decoded) ∙ e)
 
   one-passes : (payload : List ℕ) (c : Context) → passes (spanOf payload m c) (bufferOf payload decoded c) ≡ passes (spanOf payload m c) (bufferOf payload decoded′ c)
-  one-passes payload c = passes-same (spanOf payload m c) (bufferOf payload decoded c) (bufferOf payload decoded′ c) (buffer-same payload decoded decoded′ (h .lent-decoded) c)
+  one-passes payload c = passes-same (spanOf payload m c) (bufferOf payload decoded c) (bufferOf payload decoded′ c) (buffer-same payload decoded decoded′ (h .buffer-decoded) c)
 
-  fields-due-same : (payload : List ℕ) → fieldsDue payload decoded m ≡ fieldsDue payload decoded′ m
-  unfolding fieldsDue any?
-  fields-due-same payload =
+  fields-check-same : (payload : List ℕ) → fieldsCheck payload decoded m ≡ fieldsCheck payload decoded′ m
+  unfolding fieldsCheck any?
+  fields-check-same payload =
       rw (one-passes payload context.Uri, one-passes payload context.Header, one-passes payload context.Host)
 
   module _ (w : totalLength p ≤ length p) where
@@ -176,41 +176,41 @@ module _ (p p′ decoded decoded′ : List ℕ) (m : FieldMap) (h : Alike p p′
 
     view-same : viewOf p decoded m ≡ viewOf p′ decoded′ m
     view-same =
-        ap (λ (f : Context → List ℕ). record { facts = factsOf (datagramOf p); present = present m; field = f }) (fun-ext field-same)
-        ∙ ap (λ (d : List ℕ). record { facts = factsOf d; present = present m; field = fieldOf (payloadOf d) decoded′ m }) (h .datagrams w)
+        ap (λ (f : Context → List ℕ). record { header = headerOf (datagramOf p); present = present m; field = f }) (fun-ext field-same)
+        ∙ ap (λ (d : List ℕ). record { header = headerOf d; present = present m; field = fieldOf (payloadOf d) decoded′ m }) (h .datagrams w)
 
   module _ (t : Table) (dir : Direction) where
-    due-same : verdictDue t p decoded dir m ≡ verdictDue t p′ decoded′ dir m
-    unfolding verdictDue
-    due-same =
+    check-same : inputCheck t p decoded dir m ≡ inputCheck t p′ decoded′ dir m
+    unfolding inputCheck
+    check-same =
         ap (refuseIf (not (wellFormed t)) refusal.IllFormed)
-        (else-same (packetDue p decoded) (fieldsDue (payloadOf (datagramOf p)) decoded m) (fieldsDue (payloadOf (datagramOf p′)) decoded′ m)
-        (λ e. fields-due-same (payloadOf (datagramOf p)) ∙ ap (λ (d : List ℕ). fieldsDue (payloadOf d) decoded′ m) (h .datagrams (packet-within e)))
-        ∙ ap (λ (d : Due). orElse d (fieldsDue (payloadOf (datagramOf p′)) decoded′ m)) packet-due-same)
+        (else-same (packetCheck p decoded) (fieldsCheck (payloadOf (datagramOf p)) decoded m) (fieldsCheck (payloadOf (datagramOf p′)) decoded′ m)
+        (λ e. fields-check-same (payloadOf (datagramOf p)) ∙ ap (λ (d : List ℕ). fieldsCheck (payloadOf d) decoded′ m) (h .datagrams (packet-within e)))
+        ∙ ap (λ (d : Check). andThen d (fieldsCheck (payloadOf (datagramOf p′)) decoded′ m)) packet-check-same)
 
-    list-same : verdictDue t p decoded dir m ≡ Fine → placementsOf t p decoded dir m ≡ placementsOf t p′ decoded′ dir m
-    unfolding placementsOf verdictDue
+    list-same : inputCheck t p decoded dir m ≡ Pass → placementsOf t p decoded dir m ≡ placementsOf t p′ decoded′ dir m
+    unfolding placementsOf inputCheck
     list-same e =
         let f = refuse-fine (not (wellFormed t)) refusal.IllFormed _ e .1 in
-        ap (λ (v : View). listed t v dir) (view-same (packet-within (else-fine (packetDue p decoded) _ f .0)))
+        ap (λ (v : View). listed t v dir) (view-same (packet-within (else-fine (packetCheck p decoded) _ f .0)))
 
     pub verdict-depends : verdictAnswer t p decoded dir m ≡ verdictAnswer t p′ decoded′ dir m
     unfolding verdictAnswer
     verdict-depends =
-        verdict-by-same (verdictDue t p decoded dir m) (placementsOf t p decoded dir m) (placementsOf t p′ decoded′ dir m) list-same
-        ∙ ap (λ (d : Due). verdictBy d (placementsOf t p′ decoded′ dir m)) due-same
+        verdict-by-same (inputCheck t p decoded dir m) (placementsOf t p decoded dir m) (placementsOf t p′ decoded′ dir m) list-same
+        ∙ ap (λ (d : Check). verdictBy d (placementsOf t p′ decoded′ dir m)) check-same
 
     pub first-depends : firstAnswer t p decoded dir m ≡ firstAnswer t p′ decoded′ dir m
     unfolding firstAnswer
     first-depends =
-        unless-same (verdictDue t p decoded dir m) (headOf (placementsOf t p decoded dir m)) (headOf (placementsOf t p′ decoded′ dir m)) (λ e. ap headOf (list-same e))
-        ∙ ap (λ (d : Due). unless d (headOf (placementsOf t p′ decoded′ dir m))) due-same
+        unless-same (inputCheck t p decoded dir m) (headOf (placementsOf t p decoded dir m)) (headOf (placementsOf t p′ decoded′ dir m)) (λ e. ap headOf (list-same e))
+        ∙ ap (λ (d : Check). unless d (headOf (placementsOf t p′ decoded′ dir m))) check-same
 
     pub next-depends : (held : Placement) → nextAnswer t p decoded dir m held ≡ nextAnswer t p′ decoded′ dir m held
     unfolding nextAnswer
     next-depends held =
         let least : List (List Start) → Answer = λ l. headOf (keep (lexLess (startsOf held)) l) in
-        let due : Due → Due = λ d. orElse d (earlierDue t p decoded dir m held) in
-        unless-same (due (verdictDue t p decoded dir m)) (least (placementsOf t p decoded dir m)) (least (placementsOf t p′ decoded′ dir m))
-        (λ e. ap least (list-same (else-fine (verdictDue t p decoded dir m) _ e .0)))
-        ∙ ap (λ (d : Due). unless (due d) (least (placementsOf t p′ decoded′ dir m))) due-same
+        let check : Check → Check = λ d. andThen d (earlierCheck t p decoded dir m held) in
+        unless-same (check (inputCheck t p decoded dir m)) (least (placementsOf t p decoded dir m)) (least (placementsOf t p′ decoded′ dir m))
+        (λ e. ap least (list-same (else-fine (inputCheck t p decoded dir m) _ e .0)))
+        ∙ ap (λ (d : Check). unless (check d) (least (placementsOf t p′ decoded′ dir m))) check-same

@@ -6,7 +6,7 @@ use lib.Dec.{ltb}
 use lib.ListN.{length, length-append}
 use borrow.Author.Tests.{ltb-false}
 use Rattle.forms.proofs.Bools.{by-cases}
-use Rattle.definitions.specs.House.{digitsOf, decimal}
+use Rattle.definitions.specs.Canonical.{digitsOf, decimal}
 
 -- the least number of one digit more than d + 1
 unfoldable tens : ℕ → ℕ

@@ -10,12 +10,12 @@ use Rattle.definitions.specs.declared.table.Table.{Table}
 use Rattle.definitions.specs.declared.packet.FieldMap.{FieldMap}
 use Rattle.definitions.specs.declared.packet.Start.{Start}
 use Rattle.definitions.specs.declared.packet.Placement.{Placement}
-use Rattle.definitions.specs.declared.answers.Due.the-variants.{Fine}
+use Rattle.definitions.specs.declared.answers.Check.the-variants.{Pass}
 use Rattle.definitions.specs.Fields.{viewOf}
 use Rattle.definitions.specs.Lists.{keep}
-use Rattle.definitions.specs.Refusals.{orElse}
+use Rattle.definitions.specs.Refusals.{andThen}
 use Rattle.definitions.specs.Placements.{lexLess}
-use Rattle.definitions.specs.Answers.{startsOf, foundAnswer, noneAnswer, verdictDue, placementsOf, earlierDue, nextAnswer}
+use Rattle.definitions.specs.Answers.{startsOf, foundAnswer, noneAnswer, inputCheck, placementsOf, earlierCheck, nextAnswer}
 use Rattle.laws.proofs.Keep.{keep-in, keep-of}
 use Rattle.laws.proofs.Rising.{Rising, keep-rises}
 use Rattle.laws.proofs.Listing.{listed-rising}
@@ -72,14 +72,14 @@ module _ (t : Table) (p decoded : List ℕ) (dir : Direction) (m : FieldMap) whe
   pub after-none : (b : List Start) → (keep (lexLess b) (placementsOf t p decoded dir m) ≡ []) ↔ NoneAfter b (placementsOf t p decoded dir m)
   after-none b = kept-none b (placementsOf t p decoded dir m)
 
-  pub next-least : (h : Placement) → orElse (verdictDue t p decoded dir m) (earlierDue t p decoded dir m h) ≡ Fine
+  pub next-least : (h : Placement) → andThen (inputCheck t p decoded dir m) (earlierCheck t p decoded dir m h) ≡ Pass
       → ((q : List Start) × (nextAnswer t p decoded dir m h ≡ foundAnswer q) × Least (startsOf h) q (placementsOf t p decoded dir m))
       ⊎ ((nextAnswer t p decoded dir m h ≡ noneAnswer) × NoneAfter (startsOf h) (placementsOf t p decoded dir m))
   unfolding nextAnswer
-  next-least h due = go (keep (lexLess (startsOf h)) (placementsOf t p decoded dir m)) refl
+  next-least h check = go (keep (lexLess (startsOf h)) (placementsOf t p decoded dir m)) refl
     where
       go : (l : List (List Start)) → keep (lexLess (startsOf h)) (placementsOf t p decoded dir m) ≡ l
           → ((q : List Start) × (nextAnswer t p decoded dir m h ≡ foundAnswer q) × Least (startsOf h) q (placementsOf t p decoded dir m))
           ⊎ ((nextAnswer t p decoded dir m h ≡ noneAnswer) × NoneAfter (startsOf h) (placementsOf t p decoded dir m))
-      go [] e = inr (rw (due, e), after-none (startsOf h) .0 e)
-      go (q ∷ qs) e = inl (q, rw (due, e), after-least (startsOf h) q qs e)
+      go [] e = inr (rw (check, e), after-none (startsOf h) .0 e)
+      go (q ∷ qs) e = inl (q, rw (check, e), after-least (startsOf h) q qs e)

@@ -11,15 +11,15 @@ use lib.ListN.{length}
 use Rattle.definitions.specs.declared.packet.Direction.{Direction}
 use Rattle.definitions.specs.declared.table.Pattern.{Pattern}
 use Rattle.definitions.specs.declared.table.Table.{Table}
-use Rattle.definitions.specs.declared.packet.Last.{Last}
-use Rattle.definitions.specs.declared.packet.Last.the-variants.{Nothing}
+use Rattle.definitions.specs.declared.packet.LastMatch.{LastMatch}
+use Rattle.definitions.specs.declared.packet.LastMatch.the-variants.{None}
 use Rattle.definitions.specs.declared.packet.Start.{Start}
 use Rattle.definitions.specs.Starts.{startBefore}
 use Rattle.definitions.specs.References.{lastAfter}
 use Rattle.definitions.specs.Fields.{View}
 use Rattle.definitions.specs.Tests.{testHolds}
 use Rattle.definitions.specs.Lists.{none?}
-use Rattle.definitions.specs.Placements.{spread, onlyIf, Wanted, placed, nowhere, tested, itemsOf, positives, liesIn, starts, nowhereHolds, Meets, placements, headHolds, MeetsTable, listed, lexLess}
+use Rattle.definitions.specs.Placements.{spread, onlyIf, Constraint, matched, unmatched, tested, itemsOf, positives, liesIn, starts, unmatchedHolds, Meets, placements, headHolds, MeetsTable, listed, lexLess}
 use Rattle.laws.proofs.LexOrder.{lexLess-same, lexLess-head}
 use Rattle.laws.proofs.Rising.{Rises, rises-append, Rising, rising-once}
 use Rattle.laws.proofs.PatternStarts.{starts-in, starts-of, starts-rise}
@@ -75,74 +75,74 @@ nowhere-in (y ∷ l) x e m = false≢true e
 
 module _ (v : View) where
   -- a negated pattern holds where its field is present and it lies nowhere
-  absent-in : (p : Pattern) (b : List ℕ) (l : Last) → none? (starts v p b l) ≡ true → (x : Start) → liesIn v p b l x ≡ false
+  absent-in : (p : Pattern) (b : List ℕ) (l : LastMatch) → none? (starts v p b l) ≡ true → (x : Start) → liesIn v p b l x ≡ false
   absent-in p b l e x = go (liesIn v p b l x) refl
     where
       go : (t : Bool) → liesIn v p b l x ≡ t → liesIn v p b l x ≡ false
       go true h = absurd (nowhere-in (starts v p b l) x e (starts-of v p b l x h))
       go false h = h
 
-  absent-of : (p : Pattern) (b : List ℕ) (l : Last) → ((x : Start) → liesIn v p b l x ≡ false) → none? (starts v p b l) ≡ true
+  absent-of : (p : Pattern) (b : List ℕ) (l : LastMatch) → ((x : Start) → liesIn v p b l x ≡ false) → none? (starts v p b l) ≡ true
   absent-of p b l h = go (starts v p b l) (λ x n. starts-in v p b l x n)
     where
       go : (k : List Start) → ((x : Start) → Mem x k → liesIn v p b l x ≡ true) → none? k ≡ true
       go [] g = refl
       go (y ∷ k) g = absurd (false≢true (sym (h y) ∙ g y (here refl)))
 
-  nowhere-holds-in : (p : Pattern) (b : List ℕ) (l : Last) → nowhereHolds v p b l ≡ true
+  nowhere-holds-in : (p : Pattern) (b : List ℕ) (l : LastMatch) → unmatchedHolds v p b l ≡ true
       → (v .present (p .context) ≡ true) × ((x : Start) → liesIn v p b l x ≡ false)
-  unfolding nowhereHolds
+  unfolding unmatchedHolds
   nowhere-holds-in p b l e =
       let w = both (v .present (p .context)) (none? (starts v p b l)) e in
       (w .0, absent-in p b l (w .1))
 
-  nowhere-holds-of : (p : Pattern) (b : List ℕ) (l : Last) → v .present (p .context) ≡ true → ((x : Start) → liesIn v p b l x ≡ false)
-      → nowhereHolds v p b l ≡ true
-  unfolding nowhereHolds
+  nowhere-holds-of : (p : Pattern) (b : List ℕ) (l : LastMatch) → v .present (p .context) ≡ true → ((x : Start) → liesIn v p b l x ≡ false)
+      → unmatchedHolds v p b l ≡ true
+  unfolding unmatchedHolds
   nowhere-holds-of p b l e h = pair (v .present (p .context)) (none? (starts v p b l)) e (absent-of p b l h)
 
   -- the list of placements holds exactly those that meet the items
-  pub placements-meet : (ws : List Wanted) (l : Last) (q : List Start) → Mem q (placements v ws l) → Meets v ws l q
+  pub placements-meet : (ws : List Constraint) (l : LastMatch) (q : List Start) → Mem q (placements v ws l) → Meets v ws l q
   unfolding placements Meets
   placements-meet [] l [] n = tt
   placements-meet [] l (s ∷ q) n = ⊎-elim (λ e. cons≢nil e) (λ k. not-nil k) (cases-cons n)
-  placements-meet (placed p b ∷ ws) l [] n = nil≢cons (spread-in (λ (s : Start). placements v ws (lastAfter l p s)) (starts v p b l) [] n .2)
-  placements-meet (placed p b ∷ ws) l (s ∷ q) n =
+  placements-meet (matched p b ∷ ws) l [] n = nil≢cons (spread-in (λ (s : Start). placements v ws (lastAfter l p s)) (starts v p b l) [] n .2)
+  placements-meet (matched p b ∷ ws) l (s ∷ q) n =
       let w = spread-in (λ (x : Start). placements v ws (lastAfter l p x)) (starts v p b l) (s ∷ q) n in
       let e : s ≡ w .0 = head-eq-of-cons-eq (w .2) in
       let f : q ≡ w .1 = tail-eq-of-cons-eq (w .2) in (
         subst (λ (x : Start). liesIn v p b l x ≡ true) (sym e) (starts-in v p b l (w .0) (w .3)),
         placements-meet ws (lastAfter l p s) q (mem-cast f (subst (λ (x : Start). Mem (w .1) (placements v ws (lastAfter l p x))) (sym e) (w .4))),
       )
-  placements-meet (nowhere p b ∷ ws) l q n =
-      let w = only-in (nowhereHolds v p b l) (placements v ws l) q n in
+  placements-meet (unmatched p b ∷ ws) l q n =
+      let w = only-in (unmatchedHolds v p b l) (placements v ws l) q n in
       let h = nowhere-holds-in p b l (w .0) in
       (h .0, h .1, placements-meet ws l q (w .1))
   placements-meet (tested it al ∷ ws) l q n =
       let w = only-in (testHolds v it al l) (placements v ws l) q n in
       (w .0, placements-meet ws l q (w .1))
 
-  pub meeting-placed : (ws : List Wanted) (l : Last) (q : List Start) → Meets v ws l q → Mem q (placements v ws l)
+  pub meeting-placed : (ws : List Constraint) (l : LastMatch) (q : List Start) → Meets v ws l q → Mem q (placements v ws l)
   unfolding placements Meets
   meeting-placed [] l [] h = here refl
   meeting-placed [] l (s ∷ q) h = absurd h
-  meeting-placed (placed p b ∷ ws) l [] h = absurd h
-  meeting-placed (placed p b ∷ ws) l (s ∷ q) h =
+  meeting-placed (matched p b ∷ ws) l [] h = absurd h
+  meeting-placed (matched p b ∷ ws) l (s ∷ q) h =
       spread-of (λ (x : Start). placements v ws (lastAfter l p x)) (starts v p b l) s q (starts-of v p b l s (h .0))
       (meeting-placed ws (lastAfter l p s) q (h .1))
-  meeting-placed (nowhere p b ∷ ws) l q h =
-      only-of (nowhereHolds v p b l) (placements v ws l) q (nowhere-holds-of p b l (h .0) (h .1)) (meeting-placed ws l q (h .2))
+  meeting-placed (unmatched p b ∷ ws) l q h =
+      only-of (unmatchedHolds v p b l) (placements v ws l) q (nowhere-holds-of p b l (h .0) (h .1)) (meeting-placed ws l q (h .2))
   meeting-placed (tested it al ∷ ws) l q h =
       only-of (testHolds v it al l) (placements v ws l) q (h .0) (meeting-placed ws l q (h .1))
 
   -- a placement that meets the items has a start for each positive pattern
-  pub meets-length : (ws : List Wanted) (l : Last) (q : List Start) → Meets v ws l q → length q ≡ positives ws
+  pub meets-length : (ws : List Constraint) (l : LastMatch) (q : List Start) → Meets v ws l q → length q ≡ positives ws
   unfolding Meets positives
   meets-length [] l [] h = refl
   meets-length [] l (s ∷ q) h = absurd h
-  meets-length (placed p b ∷ ws) l [] h = absurd h
-  meets-length (placed p b ∷ ws) l (s ∷ q) h = let e = meets-length ws (lastAfter l p s) q (h .1) in omega arith
-  meets-length (nowhere p b ∷ ws) l q h = let e = meets-length ws l q (h .2) in omega arith
+  meets-length (matched p b ∷ ws) l [] h = absurd h
+  meets-length (matched p b ∷ ws) l (s ∷ q) h = let e = meets-length ws (lastAfter l p s) q (h .1) in omega arith
+  meets-length (unmatched p b ∷ ws) l q h = let e = meets-length ws l q (h .2) in omega arith
   meets-length (tested it al ∷ ws) l q h = let e = meets-length ws l q (h .1) in omega arith
 
 rising-map : (s : Start) (l : List (List Start)) → Rising l → Rising (map (λ (u : List Start). s ∷ u) l)
@@ -172,25 +172,25 @@ rising-only : (t : Bool) (l : List (List Start)) → Rising l → Rising (onlyIf
 rising-only true l h = h
 rising-only false l h = tt
 
-pub placements-rising : (v : View) (ws : List Wanted) (l : Last) → Rising (placements v ws l)
+pub placements-rising : (v : View) (ws : List Constraint) (l : LastMatch) → Rising (placements v ws l)
 unfolding placements
 placements-rising v [] l = ((λ q n. absurd (not-nil n)), tt)
-placements-rising v (placed p b ∷ ws) l =
+placements-rising v (matched p b ∷ ws) l =
     rising-spread (λ (s : Start). placements v ws (lastAfter l p s)) (starts v p b l) (starts-rise v p b l) (λ s. placements-rising v ws (lastAfter l p s))
-placements-rising v (nowhere p b ∷ ws) l = rising-only (nowhereHolds v p b l) (placements v ws l) (placements-rising v ws l)
+placements-rising v (unmatched p b ∷ ws) l = rising-only (unmatchedHolds v p b l) (placements v ws l) (placements-rising v ws l)
 placements-rising v (tested it al ∷ ws) l = rising-only (testHolds v it al l) (placements v ws l) (placements-rising v ws l)
 
 -- the laws of the list of placements of a table
 pub listed-meets : (t : Table) (v : View) (dir : Direction) (q : List Start) → Mem q (listed t v dir) ↔ MeetsTable t v dir q
 unfolding listed MeetsTable
 listed-meets t v dir q = (
-  (λ n. let w = only-in (headHolds t v dir) (placements v (itemsOf t) Nothing) q n in (w .0, placements-meet v (itemsOf t) Nothing q (w .1))),
-  (λ h. only-of (headHolds t v dir) (placements v (itemsOf t) Nothing) q (h .0) (meeting-placed v (itemsOf t) Nothing q (h .1))),
+  (λ n. let w = only-in (headHolds t v dir) (placements v (itemsOf t) None) q n in (w .0, placements-meet v (itemsOf t) None q (w .1))),
+  (λ h. only-of (headHolds t v dir) (placements v (itemsOf t) None) q (h .0) (meeting-placed v (itemsOf t) None q (h .1))),
 )
 
 pub listed-rising : (t : Table) (v : View) (dir : Direction) → Rising (listed t v dir)
 unfolding listed
-listed-rising t v dir = rising-only (headHolds t v dir) (placements v (itemsOf t) Nothing) (placements-rising v (itemsOf t) Nothing)
+listed-rising t v dir = rising-only (headHolds t v dir) (placements v (itemsOf t) None) (placements-rising v (itemsOf t) None)
 
 pub listed-once : (t : Table) (v : View) (dir : Direction) (xs ys : List (List Start)) (q : List Start) → listed t v dir ≡ xs ++ (q ∷ ys)
     → (Mem q xs → ⊥) × (Mem q ys → ⊥)
@@ -199,4 +199,4 @@ listed-once t v dir xs ys q e = rising-once xs q ys (subst Rising e (listed-risi
 -- each has a start for each positive pattern
 pub listed-length : (t : Table) (v : View) (dir : Direction) (q : List Start) → Mem q (listed t v dir) → length q ≡ positives (itemsOf t)
 unfolding MeetsTable
-listed-length t v dir q n = meets-length v (itemsOf t) Nothing q (listed-meets t v dir q .0 n .1)
+listed-length t v dir q n = meets-length v (itemsOf t) None q (listed-meets t v dir q .0 n .1)

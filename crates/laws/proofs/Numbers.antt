@@ -9,57 +9,57 @@ use Rattle.definitions.specs.declared.packet.Direction.{Direction}
 use Rattle.definitions.specs.declared.table.Table.{Table}
 use Rattle.definitions.specs.declared.packet.FieldMap.{FieldMap}
 use Rattle.definitions.specs.declared.packet.Placement.{Placement}
-use Rattle.definitions.specs.declared.answers.Due.{Due}
-use Rattle.definitions.specs.declared.answers.Due.the-variants.{Fine, No}
+use Rattle.definitions.specs.declared.answers.Check.{Check}
+use Rattle.definitions.specs.declared.answers.Check.the-variants.{Pass, Refuse}
 use Rattle.definitions.specs.Limits.{Limits}
 use Rattle.definitions.specs.Lists.{keep}
-use Rattle.definitions.specs.Refusals.{dueNumber, writeNumber, packetNumber, verdictNumber, foundNumber, orElse}
-use Rattle.definitions.specs.House.{houseText}
-use Rattle.definitions.specs.Writing.{writingDue, writtenIf, writes}
-use Rattle.definitions.specs.Packet.{datagramOf, packetDue, packetBy, packetAnswer}
+use Rattle.definitions.specs.Refusals.{checkNumber, writeNumber, packetNumber, verdictNumber, foundNumber, andThen}
+use Rattle.definitions.specs.Canonical.{canonicalText}
+use Rattle.definitions.specs.Writing.{writingCheck, writtenIf, writes}
+use Rattle.definitions.specs.Packet.{datagramOf, packetCheck, packetBy, packetAnswer}
 use Rattle.definitions.specs.Placements.{lexLess}
-use Rattle.definitions.specs.Answers.{startsOf, headOf, unless, verdictBy, verdictDue, placementsOf, verdictAnswer, firstAnswer, earlierDue, nextAnswer}
+use Rattle.definitions.specs.Answers.{startsOf, headOf, unless, verdictBy, inputCheck, placementsOf, verdictAnswer, firstAnswer, earlierCheck, nextAnswer}
 
 -- ---- of anything due
 
-written-number : (d : Due) (n : ℕ) → writeNumber (writtenIf d n) ≡ dueNumber d
-written-number Fine n = refl
-written-number (No r) n = refl
+written-number : (d : Check) (n : ℕ) → writeNumber (writtenIf d n) ≡ checkNumber d
+written-number Pass n = refl
+written-number (Refuse r) n = refl
 
-packet-by-number : (d : Due) (g : List ℕ) → packetNumber (packetBy d g) ≡ dueNumber d
-packet-by-number Fine g = refl
-packet-by-number (No r) g = refl
+packet-by-number : (d : Check) (g : List ℕ) → packetNumber (packetBy d g) ≡ checkNumber d
+packet-by-number Pass g = refl
+packet-by-number (Refuse r) g = refl
 
-verdict-by-number : (d : Due) (l : List (List Start)) → verdictNumber (verdictBy d l) ≡ dueNumber d
-verdict-by-number Fine [] = refl
-verdict-by-number Fine (q ∷ l) = refl
-verdict-by-number (No r) l = refl
+verdict-by-number : (d : Check) (l : List (List Start)) → verdictNumber (verdictBy d l) ≡ checkNumber d
+verdict-by-number Pass [] = refl
+verdict-by-number Pass (q ∷ l) = refl
+verdict-by-number (Refuse r) l = refl
 
-unless-number : (d : Due) (l : List (List Start)) → foundNumber (unless d (headOf l) .found) ≡ dueNumber d
-unless-number Fine [] = refl
-unless-number Fine (q ∷ l) = refl
-unless-number (No r) l = refl
+unless-number : (d : Check) (l : List (List Start)) → foundNumber (unless d (headOf l) .found) ≡ checkNumber d
+unless-number Pass [] = refl
+unless-number Pass (q ∷ l) = refl
+unless-number (Refuse r) l = refl
 
 -- ---- of what the entries answer
 
-pub write-number : (lim : Limits) (t : Table) (out : List ℕ) → writeNumber (writes lim t out) ≡ dueNumber (writingDue lim t (length out))
+pub write-number : (lim : Limits) (t : Table) (out : List ℕ) → writeNumber (writes lim t out) ≡ checkNumber (writingCheck lim t (length out))
 unfolding writes
-write-number lim t out = written-number (writingDue lim t (length out)) (length (houseText t))
+write-number lim t out = written-number (writingCheck lim t (length out)) (length (canonicalText t))
 
-pub packet-number : (p decoded : List ℕ) → packetNumber (packetAnswer p decoded) ≡ dueNumber (packetDue p decoded)
+pub packet-number : (p decoded : List ℕ) → packetNumber (packetAnswer p decoded) ≡ checkNumber (packetCheck p decoded)
 unfolding packetAnswer
-packet-number p decoded = packet-by-number (packetDue p decoded) (datagramOf p)
+packet-number p decoded = packet-by-number (packetCheck p decoded) (datagramOf p)
 
 module _ (t : Table) (p decoded : List ℕ) (dir : Direction) (m : FieldMap) where
-  pub verdict-number : verdictNumber (verdictAnswer t p decoded dir m) ≡ dueNumber (verdictDue t p decoded dir m)
+  pub verdict-number : verdictNumber (verdictAnswer t p decoded dir m) ≡ checkNumber (inputCheck t p decoded dir m)
   unfolding verdictAnswer
-  verdict-number = verdict-by-number (verdictDue t p decoded dir m) (placementsOf t p decoded dir m)
+  verdict-number = verdict-by-number (inputCheck t p decoded dir m) (placementsOf t p decoded dir m)
 
-  pub first-number : foundNumber (firstAnswer t p decoded dir m .found) ≡ dueNumber (verdictDue t p decoded dir m)
+  pub first-number : foundNumber (firstAnswer t p decoded dir m .found) ≡ checkNumber (inputCheck t p decoded dir m)
   unfolding firstAnswer
-  first-number = unless-number (verdictDue t p decoded dir m) (placementsOf t p decoded dir m)
+  first-number = unless-number (inputCheck t p decoded dir m) (placementsOf t p decoded dir m)
 
-  pub next-number : (h : Placement) → foundNumber (nextAnswer t p decoded dir m h .found) ≡ dueNumber (orElse (verdictDue t p decoded dir m) (earlierDue t p decoded dir m h))
+  pub next-number : (h : Placement) → foundNumber (nextAnswer t p decoded dir m h .found) ≡ checkNumber (andThen (inputCheck t p decoded dir m) (earlierCheck t p decoded dir m h))
   unfolding nextAnswer
   next-number h =
-      unless-number (orElse (verdictDue t p decoded dir m) (earlierDue t p decoded dir m h)) (keep (lexLess (startsOf h)) (placementsOf t p decoded dir m))
+      unless-number (andThen (inputCheck t p decoded dir m) (earlierCheck t p decoded dir m h)) (keep (lexLess (startsOf h)) (placementsOf t p decoded dir m))

@@ -15,7 +15,7 @@ use Rattle.forms.proofs.Bools.{both-left, both-right}
 use Rattle.definitions.specs.declared.table.Within.{Within}
 use Rattle.definitions.specs.declared.table.Within.the-variants as within
 use Rattle.definitions.specs.declared.table.Pattern.{Pattern}
-use Rattle.definitions.specs.declared.packet.Last.{Last}
+use Rattle.definitions.specs.declared.packet.LastMatch.{LastMatch}
 use Rattle.definitions.specs.declared.packet.Start.{Start}
 use Rattle.definitions.specs.Starts.{startAt, startBefore}
 use Rattle.definitions.specs.Fields.{View}
@@ -50,10 +50,10 @@ numbers-rise a (suc m) = ((λ s n. number-before a s (numbers-in (suc a) m s n))
 -- ---- a pattern ends within its field
 
 before-le : (s : ℤ) (w : Within) (len e : ℕ) → beforeEnd s w len e ≡ true → e ≤ len
-before-le s within.Free len e h = leb-true e len h
-before-le s (within.Of w) len e h = leb-true e len (both-left (leb e len) (leZ (pos e) (s +ℤ pos (w .number))) h)
+before-le s within.Unset len e h = leb-true e len h
+before-le s (within.Given w) len e h = leb-true e len (both-left (leb e len) (leZ (pos e) (s +ℤ pos (w .number))) h)
 
-lies-within : (p : Pattern) (b : List ℕ) (l : Last) (f : List ℕ) (x : ℕ) → lies p b l f x ≡ true → x ≤ length f
+lies-within : (p : Pattern) (b : List ℕ) (l : LastMatch) (f : List ℕ) (x : ℕ) → lies p b l f x ≡ true → x ≤ length f
 unfolding lies inWindow
 lies-within p b l f x e =
     let s = windowStart l (length f) (p .distance) (p .within) in
@@ -63,7 +63,7 @@ lies-within p b l f x e =
 
 -- ---- the starts of a pattern
 
-module _ (v : View) (p : Pattern) (b : List ℕ) (l : Last) where
+module _ (v : View) (p : Pattern) (b : List ℕ) (l : LastMatch) where
   lies-inside : (s : Start) → liesIn v p b l s ≡ true → s .at ≤ length (v .field (p .context))
   unfolding liesIn
   lies-inside s e = lies-within p b l (v .field (p .context)) (s .at) (both-right (v .present (p .context)) (lies p b l (v .field (p .context)) (s .at)) e)

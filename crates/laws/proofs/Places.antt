@@ -9,24 +9,24 @@ use lib.ListN.{length, getD, take, drop, length-take, length-drop}
 use lib.Dec.{eqb, ltb, leb}
 use borrow.Author.Tests.{ltb-true, ltb-false, not-false}
 use Rattle.forms.specs.Bytes.{if_then_else_, run}
-use Rattle.forms.specs.Place.{Is, Far, No}
+use Rattle.forms.specs.Place.{Parsed, OutOfRange, Failed}
 use Rattle.forms.proofs.Bools.{by-cases}
 use Rattle.definitions.specs.declared.answers.Refusal.{Refusal}
 use Rattle.definitions.specs.declared.answers.Refusal.the-variants as refusal
-use Rattle.definitions.specs.declared.answers.Due.{Due}
-use Rattle.definitions.specs.declared.answers.Due.the-variants as due
+use Rattle.definitions.specs.declared.answers.Check.{Check}
+use Rattle.definitions.specs.declared.answers.Check.the-variants as check
 use Rattle.definitions.specs.declared.answers.ReadOutcome.{ReadOutcome}
 use Rattle.definitions.specs.declared.answers.ReadOutcome.the-variants as outcome
 use Rattle.definitions.specs.declared.answers.Reading.{Reading}
-use Rattle.definitions.specs.Limits.{Limits, testsMost, patternsMost, addressesMost}
+use Rattle.definitions.specs.Limits.{Limits, maxTests, maxPatterns, maxAddresses}
 use Rattle.definitions.specs.Lists.{any?, none?, keep, keepOne, count, sameBytes}
 use Rattle.definitions.specs.Refusals.{numberOf, readPlace}
-use Rattle.definitions.specs.Entries.{Entry, Name, Protocol, Flow, Test, Pattern, Modified}
-use Rattle.definitions.specs.Options.{Parsed, unlisted, listed, optionAt, printable, opening}
-use Rattle.definitions.specs.Standing.{isTest, isPattern, sameKind, sameModifier, latest, dueFor, missing}
-use Rattle.definitions.specs.Reading.{Said, entriesOf, Options, ended, refused, unlessDue, taken, isSpace, dashes, options, patternDash, judged, finished, readUnbounded, read}
+use Rattle.definitions.specs.OptionValues.{OptionValue, Name, Protocol, Flow, Test, Pattern, Modified}
+use Rattle.definitions.specs.Options.{NamedOption, unlisted, listed, optionAt, printable, opening}
+use Rattle.definitions.specs.Occurrences.{isTest, isPattern, sameKind, sameModifier, latest, occurrenceCheck, missing}
+use Rattle.definitions.specs.Reading.{Located, optionValuesOf, Options, ended, refused, unlessRefused, optionStep, isSpace, dashes, options, patternDash, checkedTable, finished, readUnbounded, read}
 use Rattle.definitions.specs.References.{usableIn}
-use Rattle.laws.proofs.Dues.{among, DueAmong, refuse-among}
+use Rattle.laws.proofs.Checks.{among, CheckAmong, refuse-among}
 
 -- the numbers of a reading
 abbrev pub readCauses : List ℕ
@@ -38,70 +38,70 @@ Fits n r p = (among readCauses (numberOf r) ≡ true) × (p ≤ n)
 
 -- ---- what is due for an entry
 
-due-for-among : (es : List Entry) (e : Entry) → DueAmong readCauses (dueFor es e)
-unfolding dueFor any?
-due-for-among es (Name n) = refuse-among readCauses (any? (sameKind (Name n)) es) refusal.Again due.Fine refl refl
-due-for-among es (Protocol p) = refuse-among readCauses (any? (sameKind (Protocol p)) es) refusal.Again due.Fine refl refl
-due-for-among es (Flow f) = refuse-among readCauses (any? (sameKind (Flow f)) es) refusal.Again due.Fine refl refl
-due-for-among es (Test it al) = refuse-among readCauses (ltb addressesMost (length al) || leb testsMost (count isTest es)) refusal.TooMany due.Fine refl refl
-due-for-among es (Pattern n b) = refuse-among readCauses (leb patternsMost (count isPattern es)) refusal.TooMany due.Fine refl refl
-due-for-among es (Modified m) =
-    refuse-among readCauses (eqb (count isPattern es) 0) refusal.Orphan _ refl
-    (refuse-among readCauses (any? (sameModifier m) (latest [] es)) refusal.Again due.Fine refl refl)
+check-for-among : (es : List OptionValue) (e : OptionValue) → CheckAmong readCauses (occurrenceCheck es e)
+unfolding occurrenceCheck any?
+check-for-among es (Name n) = refuse-among readCauses (any? (sameKind (Name n)) es) refusal.Repeated check.Pass refl refl
+check-for-among es (Protocol p) = refuse-among readCauses (any? (sameKind (Protocol p)) es) refusal.Repeated check.Pass refl refl
+check-for-among es (Flow f) = refuse-among readCauses (any? (sameKind (Flow f)) es) refusal.Repeated check.Pass refl refl
+check-for-among es (Test it al) = refuse-among readCauses (ltb maxAddresses (length al) || leb maxTests (count isTest es)) refusal.CountExceeded check.Pass refl refl
+check-for-among es (Pattern n b) = refuse-among readCauses (leb maxPatterns (count isPattern es)) refusal.CountExceeded check.Pass refl refl
+check-for-among es (Modified m) =
+    refuse-among readCauses (eqb (count isPattern es) 0) refusal.ModifierWithoutPattern _ refl
+    (refuse-among readCauses (any? (sameModifier m) (latest [] es)) refusal.Repeated check.Pass refl refl)
 
 -- ---- the options: every dash stands up to n
 
-abbrev Dashes : ℕ → List Said → Type 0
+abbrev Dashes : ℕ → List Located → Type 0
 Dashes n [] = Unit {0}
-Dashes n (d ∷ said) = (d .dash ≤ n) × Dashes n said
+Dashes n (d ∷ located) = (d .dash ≤ n) × Dashes n located
 
-dashes-snoc : (n : ℕ) (said : List Said) (d : Said) → Dashes n said → d .dash ≤ n → Dashes n (said ++ (d ∷ []))
+dashes-snoc : (n : ℕ) (located : List Located) (d : Located) → Dashes n located → d .dash ≤ n → Dashes n (located ++ (d ∷ []))
 dashes-snoc n [] d h l = (l, tt)
-dashes-snoc n (x ∷ said) d h l = (h .0, dashes-snoc n said d (h .1) l)
+dashes-snoc n (x ∷ located) d h l = (h .0, dashes-snoc n located d (h .1) l)
 
-dash-within : (n k : ℕ) (said : List Said) → Dashes n said → patternDash said k ≤ n
+dash-within : (n k : ℕ) (located : List Located) → Dashes n located → patternDash located k ≤ n
 unfolding keep
 dash-within n k [] h = omega arith
-dash-within n k (d ∷ said) h = go (isPattern (d .entry)) k (λ i. dash-within n i said (h .1))
+dash-within n k (d ∷ located) h = go (isPattern (d .value)) k (λ i. dash-within n i located (h .1))
   where
-    go : (b : Bool) (i : ℕ) → ((j : ℕ) → patternDash said j ≤ n)
-        → getD (map (λ (x : Said). x .dash) (keepOne b d (keep (λ (x : Said). isPattern (x .entry)) said))) i 0 ≤ n
+    go : (b : Bool) (i : ℕ) → ((j : ℕ) → patternDash located j ≤ n)
+        → getD (map (λ (x : Located). x .dash) (keepOne b d (keep (λ (x : Located). isPattern (x .value)) located))) i 0 ≤ n
     go true zero ih = h .0
     go true (suc i) ih = ih i
     go false i ih = ih i
 
 abbrev OptionsFit : ℕ → Options → Type 0
-OptionsFit n (ended said) = Dashes n said
+OptionsFit n (ended located) = Dashes n located
 OptionsFit n (refused r p) = Fits n r p
 
 options-if : (n : ℕ) (b : Bool) (x y : Options) → OptionsFit n x → OptionsFit n y → OptionsFit n (if b then x else y)
 options-if n true x y hx hy = hx
 options-if n false x y hx hy = hy
 
-unless-fit : (n : ℕ) (d : Due) (at : ℕ) (k : Options) → DueAmong readCauses d → at ≤ n → OptionsFit n k → OptionsFit n (unlessDue d at k)
-unless-fit n due.Fine at k e l h = h
-unless-fit n (due.No r) at k e l h = (e, l)
+unless-fit : (n : ℕ) (d : Check) (at : ℕ) (k : Options) → CheckAmong readCauses d → at ≤ n → OptionsFit n k → OptionsFit n (unlessRefused d at k)
+unless-fit n check.Pass at k e l h = h
+unless-fit n (check.Refuse r) at k e l h = (e, l)
 
-taken-fit : (n : ℕ) (o : Parsed) (es : List Entry) (at : ℕ) (k : Entry → ℕ → Options) → at ≤ n → ((e : Entry) (next : ℕ) → OptionsFit n (k e next)) → OptionsFit n (taken o es at k)
+taken-fit : (n : ℕ) (o : NamedOption) (es : List OptionValue) (at : ℕ) (k : OptionValue → ℕ → Options) → at ≤ n → ((e : OptionValue) (next : ℕ) → OptionsFit n (k e next)) → OptionsFit n (optionStep o es at k)
 unfolding any?
 taken-fit n unlisted es at k l h = (refl, l)
-taken-fit n (listed (No p)) es at k l h = (refl, l)
-taken-fit n (listed (Far p next)) es at k l h = (refl, l)
-taken-fit n (listed (Is e next)) es at k l h = unless-fit n (dueFor es e) at (k e next) (due-for-among es e) l (h e next)
+taken-fit n (listed (Failed p)) es at k l h = (refl, l)
+taken-fit n (listed (OutOfRange p next)) es at k l h = (refl, l)
+taken-fit n (listed (Parsed e next)) es at k l h = unless-fit n (occurrenceCheck es e) at (k e next) (check-for-among es e) l (h e next)
 
-options-fit : (s l : List ℕ) (passed at : ℕ) (said : List Said) → at + length l ≡ length s → Dashes (length s) said
-    → OptionsFit (length s) (options s l passed at said)
+options-fit : (s l : List ℕ) (passed at : ℕ) (located : List Located) → at + length l ≡ length s → Dashes (length s) located
+    → OptionsFit (length s) (options s l passed at located)
 unfolding options any?
-options-fit s [] passed at said e h = (refl, omega arith)
-options-fit s (b ∷ l) (suc passed) at said e h = options-fit s l passed (at + 1) said (omega arith) h
-options-fit s (b ∷ l) zero at said e h =
-    options-if (length s) (isSpace b) _ _ (options-fit s l zero (at + 1) said (omega arith) h)
+options-fit s [] passed at located e h = (refl, omega arith)
+options-fit s (b ∷ l) (suc passed) at located e h = options-fit s l passed (at + 1) located (omega arith) h
+options-fit s (b ∷ l) zero at located e h =
+    options-if (length s) (isSpace b) _ _ (options-fit s l zero (at + 1) located (omega arith) h)
     (options-if (length s) (eqb b 41) _ _
     (options-if (length s) (none? l) _ _ h (refl, omega arith))
     (options-if (length s) (dashes (b ∷ l)) _ _
-    (taken-fit (length s) (optionAt s at) (entriesOf said) at _ (omega arith)
-    (λ o next. options-fit s l (next - (at + 1)) (at + 1) (said ++ (record { dash = at; entry = o } ∷ [])) (omega arith)
-    (dashes-snoc (length s) said (record { dash = at; entry = o }) h (omega arith))))
+    (taken-fit (length s) (optionAt s at) (optionValuesOf located) at _ (omega arith)
+    (λ o next. options-fit s l (next - (at + 1)) (at + 1) (located ++ (record { dash = at; value = o } ∷ [])) (omega arith)
+    (dashes-snoc (length s) located (record { dash = at; value = o }) h (omega arith))))
     (refl, omega arith)))
 
 -- ---- the whole text
@@ -115,15 +115,15 @@ reading-if : (n : ℕ) (b : Bool) (x y : Reading) → (b ≡ true → OutcomeFit
 reading-if n true x y hx hy = hx refl
 reading-if n false x y hx hy = hy refl
 
-judged-fit : (room : ℕ) (s : List ℕ) (said : List Said) → Dashes (length s) said → OutcomeFits (length s) (judged room s said .outcome)
-unfolding judged any?
-judged-fit room s said h =
-    reading-if (length s) (ltb (usableIn (entriesOf said)) (count isPattern (entriesOf said))) _ _
-    (λ e. (refl, dash-within (length s) (usableIn (entriesOf said)) said h))
-    (λ f. reading-if (length s) (missing (entriesOf said)) _ _ (λ e. (refl, omega arith)) (λ g. tt))
+checked-fit : (room : ℕ) (s : List ℕ) (located : List Located) → Dashes (length s) located → OutcomeFits (length s) (checkedTable room s located .outcome)
+unfolding checkedTable any?
+checked-fit room s located h =
+    reading-if (length s) (ltb (usableIn (optionValuesOf located)) (count isPattern (optionValuesOf located))) _ _
+    (λ e. (refl, dash-within (length s) (usableIn (optionValuesOf located)) located h))
+    (λ f. reading-if (length s) (missing (optionValuesOf located)) _ _ (λ e. (refl, omega arith)) (λ g. tt))
 
 finished-fit : (room : ℕ) (s : List ℕ) (o : Options) → OptionsFit (length s) o → OutcomeFits (length s) (finished room s o .outcome)
-finished-fit room s (ended said) h = judged-fit room s said h
+finished-fit room s (ended located) h = checked-fit room s located h
 finished-fit room s (refused r p) h = h
 
 -- a text that opens as it must has a byte for each of the opening

@@ -15,8 +15,8 @@ use Rattle.definitions.specs.declared.answers.Reading.{Reading}
 use Rattle.definitions.specs.Limits.{Limits}
 use Rattle.definitions.specs.Lists.{none?, count, sameBytes}
 use Rattle.definitions.specs.Tables.{tableOf}
-use Rattle.definitions.specs.Standing.{isPattern, missing}
-use Rattle.definitions.specs.Reading.{Said, entriesOf, Options, ended, refused, options, patternDash, refusedReading, judged, finished, readUnbounded, read}
+use Rattle.definitions.specs.Occurrences.{isPattern, missing}
+use Rattle.definitions.specs.Reading.{Located, optionValuesOf, Options, ended, refused, options, patternDash, refusedReading, checkedTable, finished, readUnbounded, read}
 use Rattle.definitions.specs.Options.{printable, opening}
 use Rattle.definitions.specs.References.{usableIn}
 
@@ -30,15 +30,15 @@ either room false x y hx hy = hy
 refusal-empty : (room : ℕ) (r : Refusal) (p : ℕ) → EmptyOrAccepted room (refusedReading room r p)
 refusal-empty room r p n = refl
 
-judged-empty : (room : ℕ) (s : List ℕ) (said : List Said) → EmptyOrAccepted room (judged room s said)
-unfolding judged
-judged-empty room s said =
-    either room (ltb (usableIn (entriesOf said)) (count isPattern (entriesOf said))) _ _
-    (refusal-empty room refusal.Unusable (patternDash said (usableIn (entriesOf said))))
-    (either room (missing (entriesOf said)) _ _ (refusal-empty room refusal.Missing (length s)) (λ n. absurd (n refl)))
+checked-empty : (room : ℕ) (s : List ℕ) (located : List Located) → EmptyOrAccepted room (checkedTable room s located)
+unfolding checkedTable
+checked-empty room s located =
+    either room (ltb (usableIn (optionValuesOf located)) (count isPattern (optionValuesOf located))) _ _
+    (refusal-empty room refusal.Unusable (patternDash located (usableIn (optionValuesOf located))))
+    (either room (missing (optionValuesOf located)) _ _ (refusal-empty room refusal.Missing (length s)) (λ n. absurd (n refl)))
 
 finished-empty : (room : ℕ) (s : List ℕ) (o : Options) → EmptyOrAccepted room (finished room s o)
-finished-empty room s (ended said) = judged-empty room s said
+finished-empty room s (ended located) = checked-empty room s located
 finished-empty room s (refused r p) = refusal-empty room r p
 
 pub unbounded-empty : (room : ℕ) (s : List ℕ) → EmptyOrAccepted room (readUnbounded room s)

@@ -15,7 +15,7 @@ use Rattle.scan_bytes.specs.Capped.{farAbove, capped}
 use Rattle.definitions.specs.Lists.{all?}
 use Rattle.definitions.specs.Numbers.{hexDigits, digitValue, valueOf}
 use Rattle.definitions.specs.Cases.{pairs}
-use Rattle.write_bytes.specs.Puts.{countedMost, puts, Puts}
+use Rattle.write_bytes.specs.Puts.{maxCounted, puts, Puts}
 use Rattle.write_bytes.proofs.Putting.{same-length}
 use Rattle.write_bytes.proofs.Whole.{most-of, puts-count, puts-buffer}
 use Rattle.line_numbers.specs.HexPairs.{isHex}
@@ -109,7 +109,7 @@ pairs-length (a ∷ (b ∷ l)) = omega (arith, pairs-length l)
 
 -- pairs put from the start of a buffer that has room for those of most bytes
 module _
-    (most : ℕ) (few : most ≤ countedMost) (l room after : List ℕ) (n : ℕ) (p : Puts room 0 (pairs l) after n)
+    (most : ℕ) (few : most ≤ maxCounted) (l room after : List ℕ) (n : ℕ) (p : Puts room 0 (pairs l) after n)
     (h : length l ≤ most) (g : most ≤ length room * 2)
   where
     count-is : n ≡ length (pairs l)
@@ -117,7 +117,7 @@ module _
         let counted : n ≡ 0 + length (pairs l) =
         ap (λ (x : List ℕ × ℕ). x .1) (p .is)
         ∙ puts-count room 0 (pairs l) (omega arith)
-        ∙ most-of (0 + length (pairs l)) countedMost (omega (arith, pairs-length l, h, few)) in
+        ∙ most-of (0 + length (pairs l)) maxCounted (omega (arith, pairs-length l, h, few)) in
         omega (arith, counted)
 
     pub pairs-in : n ≤ length after

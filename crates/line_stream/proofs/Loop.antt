@@ -10,7 +10,7 @@ use lib.ListN.{length, getD, take}
 use borrow.Author.Tests.{ltb-true, ltb-false}
 use Rattle.forms.specs.Bytes.{text}
 use Rattle.forms.proofs.Bools.{by-cases}
-use Rattle.definitions.specs.House.{decimal}
+use Rattle.definitions.specs.Canonical.{decimal}
 use Rattle.write_bytes.specs.Puts.{puts, Puts}
 use Rattle.write_bytes.proofs.Putting.{none-put, same-length}
 use Rattle.write_bytes.proofs.Whole.{placed-front, placed-whole}

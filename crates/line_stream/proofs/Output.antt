@@ -11,9 +11,9 @@ use lib.Seq.{take-nil}
 use borrow.Author.Tests.{lt-ltb}
 use Rattle.forms.specs.Bytes.{if_then_else_, text}
 use Rattle.forms.proofs.Bools.{by-cases}
-use Rattle.definitions.specs.House.{decimal}
+use Rattle.definitions.specs.Canonical.{decimal}
 use Rattle.definitions.specs.Lines.{lineTexts, linesFrom, outputOver}
-use Rattle.line_stream.specs.Stream.{numberMost, nextNumber, answerTo, State, byteRead, after, lastLine, start, outputOf}
+use Rattle.line_stream.specs.Stream.{maxNumber, nextNumber, answerTo, State, byteRead, after, lastLine, start, outputOf}
 use Rattle.line_stream.proofs.Keeping.{first-more}
 
 texts-on : (line : List ℕ) (b : ℕ) (l : List ℕ) → lineTexts line (b ∷ l) ≡ (if eqb b 10 then line ∷ lineTexts [] l else lineTexts (line ++ (b ∷ [])) l)
@@ -23,7 +23,7 @@ texts-on (x ∷ line) b l = refl
 
 -- the next line's number, where 64 bits hold it
 next-is : (n k : ℕ) → n + suc k < 2 ^ 64 → nextNumber n ≡ suc n
-next-is n k h = rw (lt-ltb n numberMost (omega (arith, h))) (add-one n)
+next-is n k h = rw (lt-ltb n maxNumber (omega (arith, h))) (add-one n)
 
 module _ (answer : List ℕ → List ℕ) where
   -- ---- line by line

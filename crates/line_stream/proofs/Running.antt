@@ -10,12 +10,12 @@ use lib.Seq.{length-take-le}
 use borrow.Author.Tests.{lt-ltb, le-leb, ltb-true, ltb-false}
 use Rattle.forms.proofs.Bools.{by-cases}
 use Rattle.definitions.specs.Lines.{outputOver}
-use Rattle.write_bytes.specs.Puts.{countedMost, Puts}
+use Rattle.write_bytes.specs.Puts.{maxCounted, Puts}
 use Rattle.write_bytes.proofs.Putting.{same-length}
 use Rattle.write_bytes.proofs.Whole.{placed-whole}
 use Rattle.line_stream.specs.declared.Begun.{Begun}
 use Rattle.line_stream.specs.declared.Fed.{Fed}
-use Rattle.line_stream.specs.Stream.{numberMost, answerTo, State, stateOf, byteRead, after, lastLine, outputOf, hasRoom, answerFits, Feeds}
+use Rattle.line_stream.specs.Stream.{maxNumber, answerTo, State, stateOf, byteRead, after, lastLine, outputOf, hasRoom, answerFits, Feeds}
 use Rattle.line_stream.specs.Runs.{Runs, last, part}
 use Rattle.line_stream.proofs.Room.{room-counted, room-within}
 use Rattle.line_stream.proofs.States.{after-append}
@@ -86,11 +86,11 @@ module _ (answer : List ℕ → List ℕ) where
   none-taken : (n : ℕ) (l : List ℕ) → n ≤ length l → take n l ≡ [] → n ≡ 0
   none-taken n l h e = sym (length-take-le n l h) ∙ ap length e
 
-  has-room : (n len : ℕ) → n < countedMost → n ≤ len → hasRoom n len ≡ true
-  has-room n len few fits = rw (lt-ltb n countedMost few, le-leb n len fits)
+  has-room : (n len : ℕ) → n < maxCounted → n ≤ len → hasRoom n len ≡ true
+  has-room n len few fits = rw (lt-ltb n maxCounted few, le-leb n len fits)
 
-  pub goes-on : (k : ℕ) → ((n : ℕ) (s : List ℕ) → n ≤ numberMost → length (answerTo answer n s) ≤ k)
-      → {input line out line' out' : List ℕ} {b : Begun} {r : Fed} → k ≤ length out → k < countedMost → b .number ≤ numberMost → 0 < length input
+  pub goes-on : (k : ℕ) → ((n : ℕ) (s : List ℕ) → n ≤ maxNumber → length (answerTo answer n s) ≤ k)
+      → {input line out line' out' : List ℕ} {b : Begun} {r : Fed} → k ≤ length out → k < maxCounted → b .number ≤ maxNumber → 0 < length input
       → Feeds answer input line out line' out' b r → 0 < r .taken
   unfolding after
   goes-on k short {input = input} {line = line} {out = out} {out' = out'} {b = b} {r = r} fits few counts some f =

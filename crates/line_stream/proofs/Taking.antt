@@ -9,7 +9,7 @@ use lib.ListN.{length, take, drop}
 use lib.Seq.{length-take-le}
 use borrow.Author.Tests.{lt-ltb, le-ltb}
 use Rattle.forms.specs.Bytes.{text}
-use Rattle.definitions.specs.House.{decimal}
+use Rattle.definitions.specs.Canonical.{decimal}
 use Rattle.write_bytes.specs.Puts.{Puts}
 use Rattle.write_bytes.specs.Clipped.{atMost}
 use Rattle.write_bytes.proofs.Putting.{none-put}

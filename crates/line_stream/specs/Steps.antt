@@ -7,7 +7,7 @@ use lib.Dec.{eqb, ltb}
 use lib.ListN.{length, take, drop}
 use lib.Seq.{paste}
 use Rattle.forms.specs.Bytes.{if_then_else_, text, run}
-use Rattle.definitions.specs.House.{decimal}
+use Rattle.definitions.specs.Canonical.{decimal}
 use Rattle.write_bytes.specs.Puts.{Puts}
 use Rattle.write_bytes.specs.Clipped.{atMost}
 use Rattle.line_stream.specs.declared.Begun.{Begun}

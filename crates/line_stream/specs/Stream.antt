@@ -6,18 +6,18 @@ use mathlib.Core.List.{List, [], _∷_, _++_}
 use lib.Dec.{eqb, ltb, leb}
 use lib.ListN.{length, getD, take}
 use Rattle.forms.specs.Bytes.{if_then_else_, text}
-use Rattle.definitions.specs.House.{decimal}
-use Rattle.write_bytes.specs.Puts.{countedMost}
+use Rattle.definitions.specs.Canonical.{decimal}
+use Rattle.write_bytes.specs.Puts.{maxCounted}
 use Rattle.line_stream.specs.declared.Begun.{Begun}
 use Rattle.line_stream.specs.declared.Fed.{Fed}
 
 -- the largest number of a line that 64 bits hold
-abbrev pub numberMost : ℕ
-numberMost = 18446744073709551615
+abbrev pub maxNumber : ℕ
+maxNumber = 18446744073709551615
 
 -- the next line's number; the largest stays
 abbrev pub nextNumber : ℕ → ℕ
-nextNumber n = if ltb n numberMost then n + 1 else n
+nextNumber n = if ltb n maxNumber then n + 1 else n
 
 -- THE STATE of a program after some input: the number of the line begun, what is kept of that line, and all that was written
 pub record State : Type 0 where
@@ -42,7 +42,7 @@ longer room st b = record {
 
 -- so many bytes are counted, and a buffer of len bytes has room for them
 abbrev pub hasRoom : ℕ → ℕ → Bool
-hasRoom n len = ltb n countedMost && leb n len
+hasRoom n len = ltb n maxCounted && leb n len
 
 module _ (answer : List ℕ → List ℕ) where
   -- what is written for the line of a number: the number, tab, answer, LF

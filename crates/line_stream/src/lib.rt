@@ -5,7 +5,7 @@ ghost use mathlib.Core.List.{_++_};
 ghost use Prim.Native.Nat.{_-_, _≤_, _<_};
 ghost use lib.ListN.{length, take};
 ghost use Rattle.forms.specs.Bytes.{text};
-ghost use Rattle.definitions.specs.House.{decimal};
+ghost use Rattle.definitions.specs.Canonical.{decimal};
 ghost use Rattle.line_stream.specs.Stream.{hasRoom, nextNumber};
 ghost use Rattle.line_stream.specs.Steps.{Keeps, Takes, Nexts, Lasts, lfFrom};
 ghost use Rattle.write_bytes.specs.Puts.{Puts};
@@ -35,7 +35,7 @@ pub struct Feeding {
 }
 
 // The largest number of a line.
-const NUMBER_MOST: u64 = 18446744073709551615;
+const MAX_NUMBER: u64 = 18446744073709551615;
 
 // Line number, tab: what stands before an answer.
 fn open_line(out: &mut [u8], at: usize, number: u64) -> usize
@@ -63,7 +63,7 @@ fn has_room(place: usize, len: usize) -> bool
 fn next_number(n: u64) -> u64
     ensures { λ r. ⌜ r ≡ nextNumber n ⌝ }
 {
-    if n < NUMBER_MOST { n + 1 } else { n }
+    if n < MAX_NUMBER { n + 1 } else { n }
 }
 
 // The place of the first LF from a place on, or the end.

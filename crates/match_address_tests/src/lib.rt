@@ -3,15 +3,15 @@ ghost use mathlib.Core.Path.{_≡_};
 ghost use Prim.Native.Nat.{_-_};
 ghost use lib.Dec.{eqb};
 ghost use lib.ListN.{take};
-ghost use Rattle.definitions.specs.Limits.{prefixMost};
+ghost use Rattle.definitions.specs.Limits.{maxPrefix};
 ghost use Rattle.definitions.specs.Tests.{packetAddress, sameBits, inAddresses, addressHolds};
 use definitions::limits::ADDRESSES;
-use definitions::packet::Facts;
+use definitions::packet::PacketHeader;
 use definitions::table::Address;
 use definitions::table::AddressTest;
 use definitions::table::Side;
 
-fn packet_address(f: Facts, side: Side) -> u32
+fn packet_address(f: PacketHeader, side: Side) -> u32
     ensures { λ r. ⌜ r ≡ packetAddress f side ⌝ }
 {
     match side {
@@ -21,8 +21,8 @@ fn packet_address(f: Facts, side: Side) -> u32
 }
 
 // How many bits of an address stand behind a prefix.
-fn bits_behind(prefix: u8) -> u64
-    ensures { λ r. ⌜ r ≡ prefixMost - prefix ⌝ }
+fn bits_after(prefix: u8) -> u64
+    ensures { λ r. ⌜ r ≡ maxPrefix - prefix ⌝ }
 {
     if prefix < 32 { (32 - prefix) as u64 } else { 0 }
 }
@@ -31,7 +31,7 @@ fn bits_behind(prefix: u8) -> u64
 fn same_bits(prefix: u8, a: u32, b: u32) -> bool
     ensures { λ r. ⌜ r ≡ sameBits prefix a b ⌝ }
 {
-    let k = bits_behind(prefix);
+    let k = bits_after(prefix);
     (a as u64) >> k == (b as u64) >> k
 }
 
@@ -54,7 +54,7 @@ fn in_addresses(x: u32, addresses: [Address; ADDRESSES], count: usize) -> bool
 }
 
 // src_addr and dst_addr: `!` turns the whole answer.
-pub fn address_holds(f: Facts, a: AddressTest, addresses: [Address; ADDRESSES]) -> bool
+pub fn address_holds(f: PacketHeader, a: AddressTest, addresses: [Address; ADDRESSES]) -> bool
     ensures { λ r. ⌜ r ≡ addressHolds f a addresses ⌝ }
 {
     let side = a.side;
@@ -64,7 +64,7 @@ pub fn address_holds(f: Facts, a: AddressTest, addresses: [Address; ADDRESSES]) 
 }
 
 // same_ip: source and destination are the same address.
-pub fn same_ip(f: Facts) -> bool
+pub fn same_ip(f: PacketHeader) -> bool
     ensures { λ r. ⌜ r ≡ eqb (f .source) (f .destination) ⌝ }
 {
     f.source == f.destination

@@ -4,16 +4,16 @@ use mathlib.Core.List.{List}
 use Prim.Native.Nat.{ℕ}
 use Rattle.definitions.specs.declared.table.Table.{Table}
 use Rattle.definitions.specs.declared.answers.Refusal.the-variants as refusal
-use Rattle.definitions.specs.declared.answers.Due.{Due}
+use Rattle.definitions.specs.declared.answers.Check.{Check}
 use Rattle.definitions.specs.declared.answers.PacketAnswer.{PacketAnswer}
 use Rattle.definitions.specs.Refusals.{refuseIf}
 use Rattle.definitions.specs.WellFormed.{wellFormed}
-use Rattle.definitions.specs.Packet.{datagramOf, packetDue, packetBy}
+use Rattle.definitions.specs.Packet.{datagramOf, packetCheck, packetBy}
 
 -- 20, then 30 to 34
-abbrev pub clearingDue : Table → List ℕ → List ℕ → Due
-clearingDue t p decoded = refuseIf (not (wellFormed t)) refusal.IllFormed (packetDue p decoded)
+abbrev pub clearingCheck : Table → List ℕ → List ℕ → Check
+clearingCheck t p decoded = refuseIf (not (wellFormed t)) refusal.IllFormed (packetCheck p decoded)
 
 -- the facts of the datagram, or the first due of these
 abbrev pub clearance : Table → List ℕ → List ℕ → PacketAnswer
-clearance t p decoded = packetBy (clearingDue t p decoded) (datagramOf p)
+clearance t p decoded = packetBy (clearingCheck t p decoded) (datagramOf p)

@@ -4,7 +4,7 @@ ghost use Rattle.match_checks.specs.Clearing.{clearance};
 use definitions::answers::PacketAnswer;
 use definitions::answers::Refusal;
 use definitions::table::Table;
-use packet::packet_facts;
+use packet::packet_header;
 use table_well_formed::well_formed;
 
 // The facts of the packet's datagram, or the first refusal that is due.
@@ -14,5 +14,5 @@ pub fn cleared<'a>(t: Table, p: &'a [u8], decoded: &'a [u8]) -> PacketAnswer
     if !well_formed(t) {
         return PacketAnswer::Refused(Refusal::IllFormed);
     }
-    packet_facts(p, decoded)
+    packet_header(p, decoded)
 }

@@ -8,16 +8,16 @@ use lib.ListN.{length, drop, length-take, length-drop}
 use Rattle.definitions.specs.declared.table.Context.{Context}
 use Rattle.definitions.specs.declared.table.Context.the-variants as context
 use Rattle.definitions.specs.declared.table.Pattern.{Pattern}
-use Rattle.definitions.specs.declared.packet.Facts.{Facts}
+use Rattle.definitions.specs.declared.packet.PacketHeader.{PacketHeader}
 use Rattle.definitions.specs.declared.packet.FieldMap.{FieldMap}
-use Rattle.definitions.specs.declared.packet.Last.{Last}
+use Rattle.definitions.specs.declared.packet.LastMatch.{LastMatch}
 use Rattle.definitions.specs.declared.packet.Span.{Span}
 use Rattle.definitions.specs.declared.packet.Start.{Start}
 use Rattle.definitions.specs.Lists.{keep, keepOne, none?}
 use Rattle.definitions.specs.Starts.{startAt}
 use Rattle.definitions.specs.Fields.{present, bufferOf, fieldSpan, fieldOf, cut}
 use Rattle.definitions.specs.Windows.{lies}
-use Rattle.definitions.specs.Placements.{upFrom, liesIn, starts, nowhereHolds}
+use Rattle.definitions.specs.Placements.{upFrom, liesIn, starts, unmatchedHolds}
 use Rattle.match_windows.specs.Spans.{sizeBound, Measured, placesOf}
 use Rattle.fields.specs.Seen.{seen}
 use Rattle.match_items.specs.Bounds.{Bounded}
@@ -40,7 +40,7 @@ field-short : (s d : List ℕ) (m : FieldMap) (c : Context) → length s < sizeB
 unfolding fieldOf
 field-short s d m c h k = omega (arith, cut-short (fieldSpan s d m c) (bufferOf s d c), buffer-short s d c h k)
 
-pub measured : (s d : List ℕ) (m : FieldMap) (p : Pattern) (b : List ℕ) (l : Last) (f : List ℕ) → Bounded s d p b l → f ≡ fieldOf s d m (p .context)
+pub measured : (s d : List ℕ) (m : FieldMap) (p : Pattern) (b : List ℕ) (l : LastMatch) (f : List ℕ) → Bounded s d p b l → f ≡ fieldOf s d m (p .context)
     → Measured p l (length f)
 measured s d m p b l f h e =
     record {
@@ -65,9 +65,9 @@ none-numbers : (l : List ℕ) → none? (map startAt l) ≡ none? l
 none-numbers [] = refl
 none-numbers (x ∷ l) = refl
 
-module _ (v : Facts) (s d : List ℕ) (m : FieldMap) (p : Pattern) (b : List ℕ) (l : Last) where
-  pub nowhere-absent : present m (p .context) ≡ false → false ≡ nowhereHolds (seen v s d m) p b l
-  unfolding nowhereHolds
+module _ (v : PacketHeader) (s d : List ℕ) (m : FieldMap) (p : Pattern) (b : List ℕ) (l : LastMatch) where
+  pub nowhere-absent : present m (p .context) ≡ false → false ≡ unmatchedHolds (seen v s d m) p b l
+  unfolding unmatchedHolds
   nowhere-absent e = rw e
 
   -- the starts of a pattern on a present field
@@ -78,6 +78,6 @@ module _ (v : Facts) (s d : List ℕ) (m : FieldMap) (p : Pattern) (b : List ℕ
       (λ x. rw e)
 
   pub nowhere-present : present m (p .context) ≡ true → (f : List ℕ) (r : Bool) → f ≡ fieldOf s d m (p .context) → r ≡ none? (placesOf p b l f)
-      → r ≡ nowhereHolds (seen v s d m) p b l
-  unfolding nowhereHolds
+      → r ≡ unmatchedHolds (seen v s d m) p b l
+  unfolding unmatchedHolds
   nowhere-present e f r q h = rw (e, starts-present e, none-numbers (placesOf p b l (fieldOf s d m (p .context))), ← q) h

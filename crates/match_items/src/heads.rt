@@ -4,7 +4,7 @@ ghost use mathlib.Core.Bool.{_&&_};
 ghost use lib.Dec.{eqb};
 ghost use Rattle.definitions.specs.Tests.{flowHolds};
 use definitions::packet::Direction;
-use definitions::packet::Facts;
+use definitions::packet::PacketHeader;
 use definitions::table::Flow;
 
 fn is_client(dir: Direction) -> bool
@@ -36,7 +36,7 @@ fn flow_holds(flow: Flow, dir: Direction) -> bool
 }
 
 // The protocol is equal, and flow if given.
-pub fn head_holds(protocol: u8, flow: Flow, f: Facts, dir: Direction) -> bool
+pub fn head_holds(protocol: u8, flow: Flow, f: PacketHeader, dir: Direction) -> bool
     ensures { λ r. ⌜ r ≡ (eqb (f .protocol) protocol && flowHolds flow dir) ⌝ }
 {
     if f.protocol == protocol {

@@ -6,9 +6,9 @@ ghost use mathlib.Core.Path.{_≡_};
 ghost use Rattle.definitions.specs.Tests.{testHolds};
 ghost use Rattle.fields.specs.Seen.{seen};
 use definitions::limits::ADDRESSES;
-use definitions::packet::Facts;
 use definitions::packet::FieldMap;
-use definitions::packet::Last;
+use definitions::packet::LastMatch;
+use definitions::packet::PacketHeader;
 use definitions::table::Address;
 use definitions::table::Item;
 use match_address_tests::address_holds;
@@ -21,13 +21,13 @@ use match_number_tests::ttl_holds;
 
 // Whether a test holds behind the last positive pattern. A slot that is not in use, and a pattern, are no tests.
 pub fn test_holds<'a>(
-    f: Facts,
+    f: PacketHeader,
     payload: &'a [u8],
     decoded: &'a [u8],
     m: FieldMap,
     item: Item,
     addresses: [Address; ADDRESSES],
-    last: Last,
+    last: LastMatch,
 ) -> bool
     ensures { λ r. ⌜ r ≡ testHolds (seen f (now (payload .entry)) (now (decoded .entry)) m) item addresses last ⌝ }
 {

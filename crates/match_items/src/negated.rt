@@ -1,11 +1,11 @@
 // Negated patterns.
 ghost use mathlib.Core.Path.{_≡_};
-ghost use Rattle.definitions.specs.Placements.{nowhereHolds};
-ghost use Rattle.definitions.specs.declared.packet.Facts.{Facts};
+ghost use Rattle.definitions.specs.Placements.{unmatchedHolds};
+ghost use Rattle.definitions.specs.declared.packet.PacketHeader.{PacketHeader};
 ghost use Rattle.fields.specs.Seen.{seen};
 ghost use Rattle.match_items.specs.Bounds.{Bounded};
 use definitions::packet::FieldMap;
-use definitions::packet::Last;
+use definitions::packet::LastMatch;
 use definitions::table::Pattern;
 use fields::field_of;
 use fields::is_present;
@@ -18,10 +18,10 @@ pub fn negated_holds<'a>(
     m: FieldMap,
     p: Pattern,
     b: &[u8],
-    last: Last,
+    last: LastMatch,
 ) -> bool
     requires { ⌜ Bounded (now payload) (now decoded) p (now b) last ⌝ }
-    ensures { λ r. ⌜ ((f : Facts) → r ≡ nowhereHolds (seen f (now (payload .entry)) (now (decoded .entry)) m) p (now (b .entry)) last) ⌝ }
+    ensures { λ r. ⌜ ((f : PacketHeader) → r ≡ unmatchedHolds (seen f (now (payload .entry)) (now (decoded .entry)) m) p (now (b .entry)) last) ⌝ }
 {
     let c = p.context;
     if !is_present(m, c) {

@@ -7,14 +7,14 @@ use lib.ListN.{length}
 use Rattle.definitions.specs.declared.table.Context.{Context}
 use Rattle.definitions.specs.declared.table.SizeTest.{SizeTest}
 use Rattle.definitions.specs.declared.table.AtTest.{AtTest}
-use Rattle.definitions.specs.declared.packet.Facts.{Facts}
+use Rattle.definitions.specs.declared.packet.PacketHeader.{PacketHeader}
 use Rattle.definitions.specs.declared.packet.FieldMap.{FieldMap}
-use Rattle.definitions.specs.declared.packet.Last.{Last}
+use Rattle.definitions.specs.declared.packet.LastMatch.{LastMatch}
 use Rattle.definitions.specs.Fields.{present, fieldOf, sizeContext}
 use Rattle.definitions.specs.Tests.{orderHolds, atContext, atStart, atExists, sizeHolds, atHolds}
 use Rattle.fields.specs.Seen.{seen}
 
-module _ (f : Facts) (s d : List ℕ) (m : FieldMap) (c : Context) where
+module _ (f : PacketHeader) (s d : List ℕ) (m : FieldMap) (c : Context) where
   module _ (t : SizeTest) (e : c ≡ sizeContext (t .field)) where
     pub size-absent : present m c ≡ false → false ≡ sizeHolds (seen f s d m) t
     unfolding sizeHolds
@@ -24,7 +24,7 @@ module _ (f : Facts) (s d : List ℕ) (m : FieldMap) (c : Context) where
     unfolding sizeHolds
     size-present p len n r l q h = rw (← e, p, ← l, ← q) h
 
-  module _ (t : AtTest) (last : Last) (e : c ≡ atContext (t .relative) last) where
+  module _ (t : AtTest) (last : LastMatch) (e : c ≡ atContext (t .relative) last) where
     pub at-absent : present m c ≡ false → false ≡ atHolds (seen f s d m) t last
     unfolding atHolds
     at-absent p = rw (← e, p)

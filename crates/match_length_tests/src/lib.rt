@@ -4,9 +4,9 @@ ghost use lib.ListN.{length};
 ghost use Rattle.definitions.specs.Fields.{fieldOf, sizeContext};
 ghost use Rattle.definitions.specs.Tests.{atContext, atStart, atExists, sizeHolds, atHolds};
 ghost use Rattle.fields.specs.Seen.{seen};
-ghost use Rattle.definitions.specs.declared.packet.Facts.{Facts};
+ghost use Rattle.definitions.specs.declared.packet.PacketHeader.{PacketHeader};
 use definitions::packet::FieldMap;
-use definitions::packet::Last;
+use definitions::packet::LastMatch;
 use definitions::table::AtTest;
 use definitions::table::Context;
 use definitions::table::SizeField;
@@ -36,7 +36,7 @@ fn size_context(field: SizeField) -> Context
 
 // data_size.
 pub fn size_holds<'a>(payload: &'a [u8], decoded: &'a [u8], m: FieldMap, t: SizeTest) -> bool
-    ensures { λ r. ⌜ ((f : Facts) → r ≡ sizeHolds (seen f (now (payload .entry)) (now (decoded .entry)) m) t) ⌝ }
+    ensures { λ r. ⌜ ((f : PacketHeader) → r ≡ sizeHolds (seen f (now (payload .entry)) (now (decoded .entry)) m) t) ⌝ }
 {
     let field = t.field;
     let order = t.order;
@@ -50,28 +50,28 @@ pub fn size_holds<'a>(payload: &'a [u8], decoded: &'a [u8], m: FieldMap, t: Size
 }
 
 // The field that data_at looks into.
-fn at_context(relative: bool, last: Last) -> Context
+fn at_context(relative: bool, last: LastMatch) -> Context
     ensures { λ r. ⌜ r ≡ atContext relative last ⌝ }
 {
     if !relative {
         return Context::Packet;
     }
     match last {
-        Last::Nothing => Context::Packet,
-        Last::Was(m) => m.context,
+        LastMatch::None => Context::Packet,
+        LastMatch::Some(m) => m.context,
     }
 }
 
 // Where data_at counts from.
-fn at_start(relative: bool, last: Last) -> usize
+fn at_start(relative: bool, last: LastMatch) -> usize
     ensures { λ r. ⌜ r ≡ atStart relative last ⌝ }
 {
     if !relative {
         return 0;
     }
     match last {
-        Last::Nothing => 0,
-        Last::Was(m) => m.end,
+        LastMatch::None => 0,
+        LastMatch::Some(m) => m.end,
     }
 }
 
@@ -91,9 +91,9 @@ pub fn at_holds<'a>(
     decoded: &'a [u8],
     m: FieldMap,
     t: AtTest,
-    last: Last,
+    last: LastMatch,
 ) -> bool
-    ensures { λ r. ⌜ ((f : Facts) → r ≡ atHolds (seen f (now (payload .entry)) (now (decoded .entry)) m) t last) ⌝ }
+    ensures { λ r. ⌜ ((f : PacketHeader) → r ≡ atHolds (seen f (now (payload .entry)) (now (decoded .entry)) m) t last) ⌝ }
 {
     let context = at_context(t.relative, last);
     if !is_present(m, context) {

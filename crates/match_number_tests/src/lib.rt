@@ -4,7 +4,7 @@ ghost use mathlib.Core.Bool.{_&&_};
 ghost use lib.Dec.{eqb};
 ghost use Rattle.definitions.specs.Packet.{hasPorts};
 ghost use Rattle.definitions.specs.Tests.{numberHolds, orderHolds, headerValue, operatorHolds, fieldHolds};
-use definitions::packet::Facts;
+use definitions::packet::PacketHeader;
 use definitions::table::FieldTest;
 use definitions::table::HeaderField;
 use definitions::table::NumberField;
@@ -31,7 +31,7 @@ fn byte_equals(x: u8, n: u16) -> bool
 }
 
 // ip_id, src_port, dst_port, ip_tos.
-pub fn number_holds(f: Facts, t: NumberTest) -> bool
+pub fn number_holds(f: PacketHeader, t: NumberTest) -> bool
     ensures { λ r. ⌜ r ≡ numberHolds f (t .field) (t .number) ⌝ }
 {
     let field = t.field;
@@ -69,7 +69,7 @@ pub fn order_holds(order: Order, x: usize, n: usize) -> bool
 }
 
 // ip_ttl: the time to live compared with the number.
-pub fn ttl_holds(f: Facts, t: TtlTest) -> bool
+pub fn ttl_holds(f: PacketHeader, t: TtlTest) -> bool
     ensures { λ r. ⌜ r ≡ orderHolds (t .order) (f .ttl) (t .number) ⌝ }
 {
     let order = t.order;
@@ -78,7 +78,7 @@ pub fn ttl_holds(f: Facts, t: TtlTest) -> bool
     order_holds(order, x, n)
 }
 
-fn header_value(f: Facts, field: HeaderField) -> usize
+fn header_value(f: PacketHeader, field: HeaderField) -> usize
     ensures { λ r. ⌜ r ≡ headerValue f field ⌝ }
 {
     match field {
@@ -103,7 +103,7 @@ fn operator_holds(operator: Operator, x: usize, n: usize) -> bool
 }
 
 // ip.total_length, ip.id, ip.checksum, ip.ttl: the field and the mask, compared, whatever the field's width.
-pub fn field_holds(f: Facts, t: FieldTest) -> bool
+pub fn field_holds(f: PacketHeader, t: FieldTest) -> bool
     ensures { λ r. ⌜ r ≡ fieldHolds f t ⌝ }
 {
     let field = t.field;

@@ -11,7 +11,7 @@ use lib.Dec.{ltb, leb}
 use borrow.Author.Tests.{ltb-true, ltb-false, lt-ltb, le-ltb, le-leb, lt-leb}
 use Rattle.forms.proofs.Bools.{by-cases}
 use Rattle.definitions.specs.declared.table.Pattern.{Pattern}
-use Rattle.definitions.specs.declared.packet.Last.{Last}
+use Rattle.definitions.specs.declared.packet.LastMatch.{LastMatch}
 use Rattle.definitions.specs.Lists.{keep, keepOne, none?}
 use Rattle.definitions.specs.Windows.{standsAt, lies}
 use Rattle.definitions.specs.Placements.{upFrom}
@@ -50,20 +50,20 @@ module _ (f : ℕ → Bool) (m : ℕ) where
   none-before zero h = ap (λ (k : ℕ). keep f (upFrom 0 k)) (omega arith)
   none-before (suc a) h = none-before a (λ x l. h x (omega arith)) ∙ passed a (h a (omega arith)) ∙ rw add-one
 
-none-behind : (f : ℕ → Bool) (at k : ℕ) → ((x : ℕ) → at ≤ x → f x ≡ false) → keep f (upFrom at k) ≡ []
+none-after : (f : ℕ → Bool) (at k : ℕ) → ((x : ℕ) → at ≤ x → f x ≡ false) → keep f (upFrom at k) ≡ []
 unfolding keep upFrom
-none-behind f at zero h = refl
-none-behind f at (suc k) h = rw (h at (omega arith)) (none-behind f (suc at) k (λ x l. h x (omega arith)))
+none-after f at zero h = refl
+none-after f at (suc k) h = rw (h at (omega arith)) (none-after f (suc at) k (λ x l. h x (omega arith)))
 
 -- two tests that agree on k starts, of which the first holds nowhere behind them
 agree : (f g : ℕ → Bool) (a k more : ℕ) → ((x : ℕ) → a ≤ x → x < a + k → f x ≡ g x) → ((x : ℕ) → a + k ≤ x → f x ≡ false) → keep f (upFrom a (k + more)) ≡ keep g (upFrom a k)
 unfolding keep upFrom
-agree f g a zero more h n = rw zero-add (none-behind f a more (λ x l. n x (omega arith)))
+agree f g a zero more h n = rw zero-add (none-after f a more (λ x l. n x (omega arith)))
 agree f g a (suc k) more h n =
     rw (suc-add k more, h a (omega arith) (omega arith))
     (ap (keepOne (g a) a) (agree f g (suc a) k more (λ x l r. h x (omega arith) (omega arith)) (λ x l. n x (omega arith))))
 
-module _ (p : Pattern) (b : List ℕ) (l : Last) (f : List ℕ) (w : Window) (s : Spans p l (length f) w) (at : ℕ) where
+module _ (p : Pattern) (b : List ℕ) (l : LastMatch) (f : List ℕ) (w : Window) (s : Spans p l (length f) w) (at : ℕ) where
   lies-in : w .from ≤ at → at < w .to → lies p b l f at ≡ standsAt (p .nocase) b (drop at f)
   unfolding lies
   lies-in h k = rw (s .exact at, le-leb (w .from) at h, lt-ltb at (w .to) k)
@@ -72,16 +72,16 @@ module _ (p : Pattern) (b : List ℕ) (l : Last) (f : List ℕ) (w : Window) (s 
   unfolding lies
   lies-before h = rw (s .exact at, lt-leb (w .from) at h)
 
-  lies-behind : w .to ≤ at → lies p b l f at ≡ false
+  lies-after : w .to ≤ at → lies p b l f at ≡ false
   unfolding lies
-  lies-behind h = rw (s .exact at, le-ltb at (w .to) h, and-false (leb (w .from) at))
+  lies-after h = rw (s .exact at, le-ltb at (w .to) h, and-false (leb (w .from) at))
 
 -- the bytes b stand in the field at a start
 abbrev pub standing : Bool → List ℕ → List ℕ → ℕ → Bool
 standing nocase b f at = standsAt nocase b (drop at f)
 
 -- the starts at which a pattern lies are those of its window at which its bytes stand
-module _ (p : Pattern) (b : List ℕ) (l : Last) (f : List ℕ) (w : Window) (s : Spans p l (length f) w) where
+module _ (p : Pattern) (b : List ℕ) (l : LastMatch) (f : List ℕ) (w : Window) (s : Spans p l (length f) w) where
   few : w .to ≤ suc (length f)
   few =
       by-cases (ltb 0 (w .to))
@@ -96,4 +96,4 @@ module _ (p : Pattern) (b : List ℕ) (l : Last) (f : List ℕ) (w : Window) (s 
       ∙ ap (λ (k : ℕ). keep (lies p b l f) (upFrom (w .from) k)) e
       ∙ agree (lies p b l f) (standing (p .nocase) b f) (w .from) (w .to - w .from) ((m - w .from) - (w .to - w .from))
       (λ x h k. lies-in p b l f w s x h (omega arith))
-      (λ x h. lies-behind p b l f w s x (omega arith))
+      (λ x h. lies-after p b l f w s x (omega arith))

@@ -4,12 +4,12 @@ ghost use lib.ListN.{length};
 ghost use Rattle.definitions.specs.Lists.{none?};
 ghost use Rattle.match_windows.specs.Spans.{Measured, placesOf};
 use crate::bytes::stands_at;
-use definitions::packet::Last;
+use definitions::packet::LastMatch;
 use definitions::table::Pattern;
 use match_windows::starts::window;
 
 // The pattern with the bytes `b` lies nowhere in its window.
-pub fn lies_nowhere(p: Pattern, b: &[u8], last: Last, f: &[u8]) -> bool
+pub fn lies_nowhere(p: Pattern, b: &[u8], last: LastMatch, f: &[u8]) -> bool
     requires { ⌜ Measured p last (length (now f)) × (length (now b) ≡ p .len) ⌝ }
     ensures { λ r. ⌜ r ≡ none? (placesOf p (now (b .entry)) last (now (f .entry))) ⌝ }
 {

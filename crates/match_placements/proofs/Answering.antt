@@ -9,17 +9,17 @@ use lib.ListN.{length, take}
 use borrow.Author.Tests.{eq-eqb, ne-eqb}
 use Rattle.definitions.specs.declared.table.Table.{Table}
 use Rattle.definitions.specs.declared.packet.Direction.{Direction}
-use Rattle.definitions.specs.declared.packet.Facts.{Facts}
+use Rattle.definitions.specs.declared.packet.PacketHeader.{PacketHeader}
 use Rattle.definitions.specs.declared.packet.FieldMap.{FieldMap}
 use Rattle.definitions.specs.declared.packet.Start.{Start}
 use Rattle.definitions.specs.declared.packet.Placement.{Placement}
 use Rattle.definitions.specs.declared.answers.Refusal.{Refusal}
 use Rattle.definitions.specs.declared.answers.Refusal.the-variants as refusal
-use Rattle.definitions.specs.declared.answers.Due.{Due}
-use Rattle.definitions.specs.declared.answers.Due.the-variants.{Fine, No}
+use Rattle.definitions.specs.declared.answers.Check.{Check}
+use Rattle.definitions.specs.declared.answers.Check.the-variants.{Pass, Refuse}
 use Rattle.definitions.specs.declared.answers.Answer.{Answer}
 use Rattle.definitions.specs.Lists.{keep}
-use Rattle.definitions.specs.Fields.{fieldsDue}
+use Rattle.definitions.specs.Fields.{fieldsCheck}
 use Rattle.definitions.specs.Placements.{lexLess, itemsOf, positives}
 use Rattle.definitions.specs.Answers.{refusedAnswer, headOf}
 use Rattle.laws.proofs.Rising.{keep-take}
@@ -39,10 +39,10 @@ unfolding keep
 keep-every b [] = refl
 keep-every b (q ∷ l) = ap (λ (k : List (List Start)). q ∷ k) (keep-every b l)
 
-module _ (t : Table) (f : Facts) (s d : List ℕ) (dir : Direction) (m : FieldMap) where
+module _ (t : Table) (f : PacketHeader) (s d : List ℕ) (dir : Direction) (m : FieldMap) where
   -- w is what the test of the fields says, y the answer given
-  module _ {w : Due} (ew : w ≡ fieldsDue s d m) {y : Answer} where
-    module _ {r : Refusal} (k : w ≡ No r) (g : y ≡ refusedAnswer r) where
+  module _ {w : Check} (ew : w ≡ fieldsCheck s d m) {y : Answer} where
+    module _ {r : Refusal} (k : w ≡ Refuse r) (g : y ≡ refusedAnswer r) where
       pub first-refused : y ≡ firstIn t f s d dir m
       unfolding firstIn
       first-refused = rw (sym ew ∙ k) g
@@ -51,7 +51,7 @@ module _ (t : Table) (f : Facts) (s d : List ℕ) (dir : Direction) (m : FieldMa
       unfolding nextIn
       next-refused h = rw (sym ew ∙ k) g
 
-    module _ (k : w ≡ Fine) where
+    module _ (k : w ≡ Pass) where
       pub first-found : (b : List Start) {x : Outcome} → x ≡ outcomeOf (keep (afterIf false b) (listIn t f s d dir m)) → y ≡ answerOf x
           → y ≡ firstIn t f s d dir m
       unfolding firstIn

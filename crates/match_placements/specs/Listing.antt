@@ -5,17 +5,17 @@ use Rattle.forms.specs.Bytes.{if_then_else_}
 use Prim.Native.Nat.{ℕ}
 use Rattle.definitions.specs.declared.table.Table.{Table}
 use Rattle.definitions.specs.declared.packet.Direction.{Direction}
-use Rattle.definitions.specs.declared.packet.Facts.{Facts}
+use Rattle.definitions.specs.declared.packet.PacketHeader.{PacketHeader}
 use Rattle.definitions.specs.declared.packet.FieldMap.{FieldMap}
 use Rattle.definitions.specs.declared.packet.Start.{Start}
 use Rattle.definitions.specs.declared.packet.Placement.{Placement}
 use Rattle.definitions.specs.declared.answers.Found.the-variants.{Placed, Nothing}
 use Rattle.definitions.specs.declared.answers.Answer.{Answer}
 use Rattle.definitions.specs.Lists.{keep}
-use Rattle.definitions.specs.Refusals.{orElse}
-use Rattle.definitions.specs.Fields.{fieldsDue}
+use Rattle.definitions.specs.Refusals.{andThen}
+use Rattle.definitions.specs.Fields.{fieldsCheck}
 use Rattle.definitions.specs.Placements.{lexLess, listed}
-use Rattle.definitions.specs.Answers.{startsOf, headOf, unless, earlierDue}
+use Rattle.definitions.specs.Answers.{startsOf, headOf, unless, earlierCheck}
 use Rattle.fields.specs.Seen.{seen}
 use Rattle.search_state.specs.declared.outcomes.Outcome.{Outcome}
 
@@ -23,14 +23,14 @@ use Rattle.search_state.specs.declared.outcomes.Outcome.{Outcome}
 abbrev pub answerOf : Outcome → Answer
 answerOf x = record { found = if x .found then Placed else Nothing; placement = x .placement }
 
-module _ (t : Table) (f : Facts) (s d : List ℕ) (dir : Direction) (m : FieldMap) where
+module _ (t : Table) (f : PacketHeader) (s d : List ℕ) (dir : Direction) (m : FieldMap) where
   abbrev pub listIn : List (List Start)
   listIn = listed t (seen f s d m) dir
 
   -- 35, or the first of the list, or none
   unfoldable pub firstIn : Answer
-  firstIn = unless (fieldsDue s d m) (headOf listIn)
+  firstIn = unless (fieldsCheck s d m) (headOf listIn)
 
   -- 35, then 36, which looks at the table alone; or the least of the list after the placement held, or none
   unfoldable pub nextIn : Placement → Answer
-  nextIn h = unless (orElse (fieldsDue s d m) (earlierDue t s d dir m h)) (headOf (keep (lexLess (startsOf h)) listIn))
+  nextIn h = unless (andThen (fieldsCheck s d m) (earlierCheck t s d dir m h)) (headOf (keep (lexLess (startsOf h)) listIn))

@@ -10,37 +10,37 @@ use crate::answers::answered;
 use crate::answers::refused;
 use crate::positives::positive_count;
 use definitions::answers::Answer;
-use definitions::answers::Due;
+use definitions::answers::Check;
 use definitions::answers::Refusal;
 use definitions::limits::PATTERNS;
 use definitions::packet::Direction;
-use definitions::packet::Facts;
 use definitions::packet::FieldMap;
+use definitions::packet::PacketHeader;
 use definitions::packet::Placement;
 use definitions::packet::Start;
 use definitions::table::Table;
-use fields::fields_due;
+use fields::fields_check;
 use search::find;
 
 // Refusal 35, or the first of the list, or none.
 pub fn first_in<'a>(
     t: Table,
-    facts: Facts,
+    header: PacketHeader,
     payload: &'a [u8],
     decoded: &'a [u8],
     dir: Direction,
     m: FieldMap,
 ) -> Answer
     requires { ⌜ Searchable t (now payload) (now decoded) ⌝ }
-    ensures { λ r. ⌜ r ≡ firstIn t facts (now (payload .entry)) (now (decoded .entry)) dir m ⌝ }
+    ensures { λ r. ⌜ r ≡ firstIn t header (now (payload .entry)) (now (decoded .entry)) dir m ⌝ }
 {
-    let due = fields_due(payload, decoded, m);
-    if let Due::No(r) = due {
+    let check = fields_check(payload, decoded, m);
+    if let Check::Refuse(r) = check {
         return refused(r);
     }
     let x = find(
         t,
-        facts,
+        header,
         payload,
         decoded,
         dir,
@@ -54,7 +54,7 @@ pub fn first_in<'a>(
 // Refusal 35 or 36, or the least of the list after the placement held, or none.
 pub fn next_in<'a>(
     t: Table,
-    facts: Facts,
+    header: PacketHeader,
     payload: &'a [u8],
     decoded: &'a [u8],
     dir: Direction,
@@ -62,10 +62,10 @@ pub fn next_in<'a>(
     held: Placement,
 ) -> Answer
     requires { ⌜ Searchable t (now payload) (now decoded) ⌝ }
-    ensures { λ r. ⌜ r ≡ nextIn t facts (now (payload .entry)) (now (decoded .entry)) dir m held ⌝ }
+    ensures { λ r. ⌜ r ≡ nextIn t header (now (payload .entry)) (now (decoded .entry)) dir m held ⌝ }
 {
-    let due = fields_due(payload, decoded, m);
-    if let Due::No(r) = due {
+    let check = fields_check(payload, decoded, m);
+    if let Check::Refuse(r) = check {
         return refused(r); // 35 comes before 36
     }
     let items = t.items;
@@ -73,6 +73,6 @@ pub fn next_in<'a>(
         return refused(Refusal::EarlierCount);
     }
     let bound = held.starts;
-    let x = find(t, facts, payload, decoded, dir, m, bound, true);
+    let x = find(t, header, payload, decoded, dir, m, bound, true);
     answered(x)
 }

@@ -3,16 +3,16 @@ ghost use mathlib.Core.Path.{_≡_};
 ghost use mathlib.Core.List.{List};
 ghost use Prim.Native.Nat.{ℕ, _≤_};
 ghost use lib.ListN.{take};
-ghost use Rattle.definitions.specs.Limits.{itemsMost};
+ghost use Rattle.definitions.specs.Limits.{maxItems};
 ghost use Rattle.definitions.specs.Items.{kindOf};
-ghost use Rattle.definitions.specs.Placements.{wantedBy, wanted, positiveIn, positives};
+ghost use Rattle.definitions.specs.Placements.{constraintBy, constraints, positiveIn, positives};
 use definitions::limits::ITEMS;
 use definitions::table::Item;
 use definitions::table::Slot;
 
 // 1 for a positive pattern, 0 for any other item.
 fn positive_in(slot: Slot) -> usize
-    ensures { λ r. ⌜ ((b : List ℕ) → r ≡ positiveIn (wantedBy (kindOf (slot .item)) (slot .item) (slot .addresses) b)) ⌝ }
+    ensures { λ r. ⌜ ((b : List ℕ) → r ≡ positiveIn (constraintBy (kindOf (slot .item)) (slot .item) (slot .addresses) b)) ⌝ }
 {
     let item = slot.item;
     let Item::Pattern(p) = item else {
@@ -26,8 +26,8 @@ fn positive_in(slot: Slot) -> usize
 
 // The positive patterns among the items in use; their bytes play no part.
 pub fn positive_count(items: [Slot; ITEMS], count: usize) -> usize
-    requires { ⌜ count ≤ itemsMost ⌝ }
-    ensures { λ r. ⌜ ((b : List ℕ) → r ≡ positives (wanted (take count items) b)) ⌝ }
+    requires { ⌜ count ≤ maxItems ⌝ }
+    ensures { λ r. ⌜ ((b : List ℕ) → r ≡ positives (constraints (take count items) b)) ⌝ }
 {
     let mut n: usize = 0;
     let mut i = 0;

@@ -16,15 +16,15 @@ use Rattle.definitions.specs.declared.packet.Direction.{Direction}
 use Rattle.definitions.specs.declared.packet.FieldMap.{FieldMap}
 use Rattle.definitions.specs.declared.packet.Start.{Start}
 use Rattle.definitions.specs.declared.packet.Placement.{Placement}
-use Rattle.definitions.specs.declared.answers.Due.the-variants.{Fine}
+use Rattle.definitions.specs.declared.answers.Check.the-variants.{Pass}
 use Rattle.definitions.specs.declared.answers.Answer.{Answer}
-use Rattle.definitions.specs.declared.answers.Ask.the-variants.{First, Next}
+use Rattle.definitions.specs.declared.answers.Query.the-variants.{First, Next}
 use Rattle.definitions.specs.Lists.{keep}
 use Rattle.definitions.specs.Placements.{positives, itemsOf}
-use Rattle.definitions.specs.Answers.{foundAnswer, noneAnswer, verdictDue, placementsOf, firstAnswer, nextAnswer}
-use Rattle.definitions.specs.Asks.{answers}
+use Rattle.definitions.specs.Answers.{foundAnswer, noneAnswer, inputCheck, placementsOf, firstAnswer, nextAnswer}
+use Rattle.definitions.specs.Queries.{answers}
 use Rattle.laws.proofs.Asking.{all-listed, empty-or-none}
-use Rattle.match_queries.specs.Runs.{askOf, numbersOfOne, allNumbers, room, written}
+use Rattle.match_queries.specs.Runs.{queryOf, numbersOfOne, allNumbers, room, written}
 use Rattle.match_queries.proofs.run.Reads as run
 use Rattle.match_queries.proofs.run.Kinds as run-kinds
 use Rattle.match_queries.proofs.Running.{answers-length}
@@ -38,14 +38,14 @@ module _ (t : Table) (p d : List ℕ) (dir : Direction) (m : FieldMap) where
   EmptyOrNone claim =
       ((placementsOf t p d dir m ≡ []) × claim (noneAnswer ∷ noneAnswer ∷ [])) ⊎ ((placementsOf t p d dir m ≡ [] ∷ []) × claim (foundAnswer [] ∷ noneAnswer ∷ []))
 
-  module _ (due : verdictDue t p d dir m ≡ Fine) (none : positives (itemsOf t) ≡ 0) (h : Placement) where
+  module _ (check : inputCheck t p d dir m ≡ Pass) (none : positives (itemsOf t) ≡ 0) (h : Placement) where
     none-twice : placementsOf t p d dir m ≡ [] → answers t p d dir m h (First ∷ Next ∷ []) ≡ noneAnswer ∷ noneAnswer ∷ []
     unfolding answers firstAnswer nextAnswer keep
-    none-twice e = rw (due, e, none)
+    none-twice e = rw (check, e, none)
 
     one-then-none : placementsOf t p d dir m ≡ [] ∷ [] → answers t p d dir m h (First ∷ Next ∷ []) ≡ foundAnswer [] ∷ noneAnswer ∷ []
     one-then-none e =
-        subst (λ (l : List (List Start)). answers t p d dir m h (First ∷ replicate (length l) Next) ≡ map foundAnswer l ++ (noneAnswer ∷ [])) e (all-listed t p d dir m due h)
+        subst (λ (l : List (List Start)). answers t p d dir m h (First ∷ replicate (length l) Next) ≡ map foundAnswer l ++ (noneAnswer ∷ [])) e (all-listed t p d dir m check h)
 
     -- of the answers, whatever is claimed of what they are equal to
     empty-claims : (claim : List Answer → Type 0) → ((rs : List Answer) → answers t p d dir m h (First ∷ Next ∷ []) ≡ rs → claim rs) → EmptyOrNone claim
@@ -54,18 +54,18 @@ module _ (t : Table) (p d : List ℕ) (dir : Direction) (m : FieldMap) where
 
 -- ---- by the contracts of the two entries
 
-module _ (κs : Lfts 1) (t : Table) (p d : RefT (List ℕ)) (dir : Direction) (m : FieldMap) (due : verdictDue t (now p) (now d) dir m ≡ Fine) (h : Placement) (rs : List Answer) where
+module _ (κs : Lfts 1) (t : Table) (p d : RefT (List ℕ)) (dir : Direction) (m : FieldMap) (check : inputCheck t (now p) (now d) dir m ≡ Pass) (h : Placement) (rs : List Answer) where
   pub allowed-lists : Allowed κs t p d dir m h (First ∷ replicate (length (placementsOf t (now p) (now d) dir m)) Next) rs
       → rs ≡ map foundAnswer (placementsOf t (now p) (now d) dir m) ++ (noneAnswer ∷ [])
-  allowed-lists a = allowed-is-model κs t p d dir m a ∙ all-listed t (now p) (now d) dir m due h
+  allowed-lists a = allowed-is-model κs t p d dir m a ∙ all-listed t (now p) (now d) dir m check h
 
   pub allowed-empty : positives (itemsOf t) ≡ 0 → Allowed κs t p d dir m h (First ∷ Next ∷ []) rs → EmptyOrNone t (now p) (now d) dir m (λ l. rs ≡ l)
-  allowed-empty none a = empty-claims t (now p) (now d) dir m due none h (λ l. rs ≡ l) (λ l e. allowed-is-model κs t p d dir m a ∙ e)
+  allowed-empty none a = empty-claims t (now p) (now d) dir m check none h (λ l. rs ≡ l) (λ l e. allowed-is-model κs t p d dir m a ∙ e)
 
 -- ---- by what `run` writes: `r` is its answer, `s` what its arguments are at its exit
 
-module _ (κs : Lfts 3) (t : Table) (p d : RefT (List ℕ)) (dir : Direction) (m : FieldMap) (held : Placement) (asks out : RefT (List ℕ)) (r : Bool)
-    (s : AtExit (endedOf 3 run-kinds.ps run-kinds.r) κs) (post : run.Post κs (t, (p, (d, (dir, (m, (held, (asks, (out, tt)))))))) r s) where
+module _ (κs : Lfts 3) (t : Table) (p d : RefT (List ℕ)) (dir : Direction) (m : FieldMap) (held : Placement) (queries out : RefT (List ℕ)) (r : Bool)
+    (s : AtExit (endedOf 3 run-kinds.ps run-kinds.r) κs) (post : run.Post κs (t, (p, (d, (dir, (m, (held, (queries, (out, tt)))))))) r s) where
   -- the buffer afterwards
   abbrev pub after : List ℕ
   after = now (s .1 .1 .1 .1 .1 .1 .1 .0)
@@ -74,17 +74,17 @@ module _ (κs : Lfts 3) (t : Table) (p d : RefT (List ℕ)) (dir : Direction) (m
   abbrev pub Answers : List Answer → Type 0
   Answers rs = (r ≡ true) × (after ≡ allNumbers rs ++ drop (length rs * numbersOfOne) (now out))
 
-  module _ (fits : room (now asks) (now out) ≡ true) (due : verdictDue t (now p) (now d) dir m ≡ Fine) where
-    run-answers : (rs : List Answer) → answers t (now p) (now d) dir m held (map askOf (now asks)) ≡ rs → Answers rs
+  module _ (fits : room (now queries) (now out) ≡ true) (check : inputCheck t (now p) (now d) dir m ≡ Pass) where
+    run-answers : (rs : List Answer) → answers t (now p) (now d) dir m held (map queryOf (now queries)) ≡ rs → Answers rs
     unfolding written
     run-answers rs e =
-        let n : length (now asks) ≡ length rs = sym (answers-length t (now p) (now d) dir m held (now asks)) ∙ ap length e in
+        let n : length (now queries) ≡ length rs = sym (answers-length t (now p) (now d) dir m held (now queries)) ∙ ap length e in
         (post .0 ∙ fits, post .1 ∙ rw (fits, e, n))
 
-    pub run-lists : map askOf (now asks) ≡ First ∷ replicate (length (placementsOf t (now p) (now d) dir m)) Next
+    pub run-lists : map queryOf (now queries) ≡ First ∷ replicate (length (placementsOf t (now p) (now d) dir m)) Next
         → Answers (map foundAnswer (placementsOf t (now p) (now d) dir m) ++ (noneAnswer ∷ []))
-    run-lists asked = run-answers _ (ap (answers t (now p) (now d) dir m held) asked ∙ all-listed t (now p) (now d) dir m due held)
+    run-lists queried = run-answers _ (ap (answers t (now p) (now d) dir m held) queried ∙ all-listed t (now p) (now d) dir m check held)
 
-    pub run-empty : positives (itemsOf t) ≡ 0 → map askOf (now asks) ≡ First ∷ Next ∷ [] → EmptyOrNone t (now p) (now d) dir m Answers
-    run-empty none asked =
-        empty-claims t (now p) (now d) dir m due none held Answers (λ rs e. run-answers rs (ap (answers t (now p) (now d) dir m held) asked ∙ e))
+    pub run-empty : positives (itemsOf t) ≡ 0 → map queryOf (now queries) ≡ First ∷ Next ∷ [] → EmptyOrNone t (now p) (now d) dir m Answers
+    run-empty none queried =
+        empty-claims t (now p) (now d) dir m check none held Answers (λ rs e. run-answers rs (ap (answers t (now p) (now d) dir m held) queried ∙ e))

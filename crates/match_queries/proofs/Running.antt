@@ -13,56 +13,56 @@ use Rattle.definitions.specs.declared.packet.Direction.{Direction}
 use Rattle.definitions.specs.declared.packet.FieldMap.{FieldMap}
 use Rattle.definitions.specs.declared.packet.Placement.{Placement}
 use Rattle.definitions.specs.declared.answers.Answer.{Answer}
-use Rattle.definitions.specs.declared.answers.Ask.the-variants.{First, Next}
-use Rattle.definitions.specs.Asks.{answerNumbers, answerTo, answers}
-use Rattle.match_queries.specs.Runs.{askOf, numbersOfOne, allNumbers, room, written}
+use Rattle.definitions.specs.declared.answers.Query.the-variants.{First, Next}
+use Rattle.definitions.specs.Queries.{answerNumbers, answerTo, answers}
+use Rattle.match_queries.specs.Runs.{queryOf, numbersOfOne, allNumbers, room, written}
 
-pub ask-first : (a : ℕ) → a ≡ 0 → First ≡ askOf a
-ask-first zero e = refl
-ask-first (suc a) e = absurd (let z : ⊥ = omega arith in z)
+pub query-first : (a : ℕ) → a ≡ 0 → First ≡ queryOf a
+query-first zero e = refl
+query-first (suc a) e = absurd (let z : ⊥ = omega arith in z)
 
-pub ask-next : (a : ℕ) → (a ≡ 0 → ⊥) → Next ≡ askOf a
-ask-next zero e = absurd (e refl)
-ask-next (suc a) e = refl
+pub query-next : (a : ℕ) → (a ≡ 0 → ⊥) → Next ≡ queryOf a
+query-next zero e = absurd (e refl)
+query-next (suc a) e = refl
 
 -- ---- the two outcomes
 
 module _ (t : Table) (p d : List ℕ) (dir : Direction) (m : FieldMap) where
-  pub no-room : (h : Placement) (asks out : List ℕ) → length out < length asks * numbersOfOne → (false ≡ room asks out) × (out ≡ written t p d dir m h asks out)
+  pub no-room : (h : Placement) (queries out : List ℕ) → length out < length queries * numbersOfOne → (false ≡ room queries out) × (out ≡ written t p d dir m h queries out)
   unfolding written
-  no-room h asks out k = rw (lt-leb (length asks * numbersOfOne) (length out) k) (refl, refl)
+  no-room h queries out k = rw (lt-leb (length queries * numbersOfOne) (length out) k) (refl, refl)
 
   -- an answer for each ask
-  pub answers-length : (h : Placement) (asks : List ℕ) → length (answers t p d dir m h (map askOf asks)) ≡ length asks
+  pub answers-length : (h : Placement) (queries : List ℕ) → length (answers t p d dir m h (map queryOf queries)) ≡ length queries
   unfolding answers
   answers-length h [] = refl
-  answers-length h (a ∷ asks) = ap suc (answers-length (answerTo t p d dir m h (askOf a) .placement) asks)
+  answers-length h (a ∷ queries) = ap suc (answers-length (answerTo t p d dir m h (queryOf a) .placement) queries)
 
   -- the buffer with i asks answered, and the others still to come from the placement h
   abbrev pub pending : List ℕ → List ℕ → Placement → ℕ → List ℕ
-  pending asks out h i =
-      take (i * numbersOfOne) out ++ allNumbers (answers t p d dir m h (map askOf (drop i asks))) ++ drop (length asks * numbersOfOne) out
+  pending queries out h i =
+      take (i * numbersOfOne) out ++ allNumbers (answers t p d dir m h (map queryOf (drop i queries))) ++ drop (length queries * numbersOfOne) out
 
-  pub run-start : (h : Placement) (asks out : List ℕ) → length asks * numbersOfOne ≤ length out → written t p d dir m h asks out ≡ pending asks out h 0
+  pub run-start : (h : Placement) (queries out : List ℕ) → length queries * numbersOfOne ≤ length out → written t p d dir m h queries out ≡ pending queries out h 0
   unfolding written
-  run-start h asks out k = rw (le-leb (length asks * numbersOfOne) (length out) k)
+  run-start h queries out k = rw (le-leb (length queries * numbersOfOne) (length out) k)
 
-  run-end : (asks out : List ℕ) (h : Placement) (i : ℕ) → i ≡ length asks → pending asks out h i ≡ out
+  run-end : (queries out : List ℕ) (h : Placement) (i : ℕ) → i ≡ length queries → pending queries out h i ≡ out
   unfolding answers allNumbers
-  run-end asks out h i e =
-      let l : length asks ≤ i = omega arith in
-      let k : length asks * numbersOfOne ≡ i * numbersOfOne = omega arith in
-      rw (drop-of-length-le asks l, k)
+  run-end queries out h i e =
+      let l : length queries ≤ i = omega arith in
+      let k : length queries * numbersOfOne ≡ i * numbersOfOne = omega arith in
+      rw (drop-of-length-le queries l, k)
       (ap (λ (u : List ℕ). u ++ drop (i * numbersOfOne) out) (append-nil (take (i * numbersOfOne) out)) ∙ take-append-drop (i * numbersOfOne) out)
 
-  pub run-done : (h₀ : Placement) (asks out₀ out : List ℕ) (h : Placement) (i : ℕ) → length asks * numbersOfOne ≤ length out₀ → i ≡ length asks
-      → written t p d dir m h₀ asks out₀ ≡ pending asks out h i → (true ≡ room asks out₀) × (out ≡ written t p d dir m h₀ asks out₀)
-  run-done h₀ asks out₀ out h i k e w = (sym (le-leb (length asks * numbersOfOne) (length out₀) k), sym (w ∙ run-end asks out h i e))
+  pub run-done : (h₀ : Placement) (queries out₀ out : List ℕ) (h : Placement) (i : ℕ) → length queries * numbersOfOne ≤ length out₀ → i ≡ length queries
+      → written t p d dir m h₀ queries out₀ ≡ pending queries out h i → (true ≡ room queries out₀) × (out ≡ written t p d dir m h₀ queries out₀)
+  run-done h₀ queries out₀ out h i k e w = (sym (le-leb (length queries * numbersOfOne) (length out₀) k), sym (w ∙ run-end queries out h i e))
 
   -- ---- a turn
 
-  module _ (asks out out′ : List ℕ) (h : Placement) (i : ℕ) (r : Answer) (less : i < length asks) (fits : length asks * numbersOfOne ≤ length out)
-      (is : r ≡ answerTo t p d dir m h (askOf (getD asks i 0)))
+  module _ (queries out out′ : List ℕ) (h : Placement) (i : ℕ) (r : Answer) (less : i < length queries) (fits : length queries * numbersOfOne ≤ length out)
+      (is : r ≡ answerTo t p d dir m h (queryOf (getD queries i 0)))
       (put : out′ ≡ take (i * numbersOfOne) out ++ answerNumbers r ++ drop (i * numbersOfOne + numbersOfOne) out) (kept : length out′ ≡ length out) where
     front : length (take (i * numbersOfOne) out) ≡ i * numbersOfOne
     front = rw (length-take (i * numbersOfOne) out) (omega arith)
@@ -79,29 +79,29 @@ module _ (t : Table) (p d : List ℕ) (dir : Direction) (m : FieldMap) where
     head-length : length (take (i * numbersOfOne) out ++ answerNumbers r) ≡ (i + 1) * numbersOfOne
     head-length = let a = length-append (take (i * numbersOfOne) out) (answerNumbers r) in let b = front in let c = one in omega arith
 
-    model-step : answers t p d dir m h (map askOf (drop i asks)) ≡ r ∷ answers t p d dir m (r .placement) (map askOf (drop (i + 1) asks))
+    model-step : answers t p d dir m h (map queryOf (drop i queries)) ≡ r ∷ answers t p d dir m (r .placement) (map queryOf (drop (i + 1) queries))
     unfolding answers
-    model-step = rw (drop-cons asks i 0 less, add-one i, is)
+    model-step = rw (drop-cons queries i 0 less, add-one i, is)
 
     taken : take ((i + 1) * numbersOfOne) out′ ≡ take (i * numbersOfOne) out ++ answerNumbers r
     taken =
         ap (take ((i + 1) * numbersOfOne)) put
         ∙ take-at (take (i * numbersOfOne) out ++ answerNumbers r) (drop (i * numbersOfOne + numbersOfOne) out) ((i + 1) * numbersOfOne) head-length
 
-    dropped : drop (length asks * numbersOfOne) out′ ≡ drop (length asks * numbersOfOne) out
+    dropped : drop (length queries * numbersOfOne) out′ ≡ drop (length queries * numbersOfOne) out
     dropped =
-        let k = length asks * numbersOfOne - (i * numbersOfOne + numbersOfOne) in
-        let e : length asks * numbersOfOne ≡ length (take (i * numbersOfOne) out ++ answerNumbers r) + k = let a = head-length in omega arith in
-        let f : i * numbersOfOne + numbersOfOne + k ≡ length asks * numbersOfOne = omega arith in
-        ap (drop (length asks * numbersOfOne)) put
+        let k = length queries * numbersOfOne - (i * numbersOfOne + numbersOfOne) in
+        let e : length queries * numbersOfOne ≡ length (take (i * numbersOfOne) out ++ answerNumbers r) + k = let a = head-length in omega arith in
+        let f : i * numbersOfOne + numbersOfOne + k ≡ length queries * numbersOfOne = omega arith in
+        ap (drop (length queries * numbersOfOne)) put
         ∙ ap (λ (n : ℕ). drop n (take (i * numbersOfOne) out ++ answerNumbers r ++ drop (i * numbersOfOne + numbersOfOne) out)) e
         ∙ drop-append-add (take (i * numbersOfOne) out ++ answerNumbers r) (drop (i * numbersOfOne + numbersOfOne) out) k
         ∙ drop-drop k (i * numbersOfOne + numbersOfOne) out
         ∙ ap (λ (n : ℕ). drop n out) f
 
-    pub run-step : pending asks out h i ≡ pending asks out′ (r .placement) (i + 1)
+    pub run-step : pending queries out h i ≡ pending queries out′ (r .placement) (i + 1)
     unfolding allNumbers
     run-step =
         rw (taken, dropped, model-step)
-        (ap (λ (l : List ℕ). l ++ drop (length asks * numbersOfOne) out)
-        (sym (append-assoc (take (i * numbersOfOne) out) (answerNumbers r) (allNumbers (answers t p d dir m (r .placement) (map askOf (drop (i + 1) asks)))))))
+        (ap (λ (l : List ℕ). l ++ drop (length queries * numbersOfOne) out)
+        (sym (append-assoc (take (i * numbersOfOne) out) (answerNumbers r) (allNumbers (answers t p d dir m (r .placement) (map queryOf (drop (i + 1) queries)))))))

@@ -10,19 +10,19 @@ use Rattle.definitions.specs.declared.packet.Direction.{Direction}
 use Rattle.definitions.specs.declared.packet.FieldMap.{FieldMap}
 use Rattle.definitions.specs.declared.packet.Placement.{Placement}
 use Rattle.definitions.specs.declared.answers.Answer.{Answer}
-use Rattle.definitions.specs.declared.answers.Ask.{Ask}
-use Rattle.definitions.specs.declared.answers.Ask.the-variants.{First, Next}
-use Rattle.definitions.specs.Limits.{patternsMost}
-use Rattle.definitions.specs.Asks.{answerNumbers, answers}
+use Rattle.definitions.specs.declared.answers.Query.{Query}
+use Rattle.definitions.specs.declared.answers.Query.the-variants.{First, Next}
+use Rattle.definitions.specs.Limits.{maxPatterns}
+use Rattle.definitions.specs.Queries.{answerNumbers, answers}
 
 -- an ask is a byte: 0 is "first", any other "next"
-abbrev pub askOf : ℕ → Ask
-askOf zero = First
-askOf (suc a) = Next
+abbrev pub queryOf : ℕ → Query
+queryOf zero = First
+queryOf (suc a) = Next
 
 -- refusal number, found or none, count, and all starts
 abbrev pub numbersOfOne : ℕ
-numbersOfOne = 3 + patternsMost
+numbersOfOne = 3 + maxPatterns
 
 unfoldable pub allNumbers : List Answer → List ℕ
 allNumbers [] = []
@@ -30,11 +30,11 @@ allNumbers (a ∷ rest) = answerNumbers a ++ allNumbers rest
 
 -- the buffer has room for the numbers of all answers
 abbrev pub room : List ℕ → List ℕ → Bool
-room asks out = leb (length asks * numbersOfOne) (length out)
+room queries out = leb (length queries * numbersOfOne) (length out)
 
 -- the buffer afterwards: all answers, and behind them what stood there; with no room for them all as it was
 unfoldable pub written : Table → List ℕ → List ℕ → Direction → FieldMap → Placement → List ℕ → List ℕ → List ℕ
-written t p decoded dir m h asks out =
-    if room asks out
-    then allNumbers (answers t p decoded dir m h (map askOf asks)) ++ drop (length asks * numbersOfOne) out
+written t p decoded dir m h queries out =
+    if room queries out
+    then allNumbers (answers t p decoded dir m h (map queryOf queries)) ++ drop (length queries * numbersOfOne) out
     else out

@@ -3,8 +3,8 @@
 mod writing;
 
 ghost use mathlib.Core.Path.{_≡_};
-ghost use Rattle.definitions.specs.Asks.{answerTo};
-ghost use Rattle.match_queries.specs.Runs.{askOf, room, written};
+ghost use Rattle.definitions.specs.Queries.{answerTo};
+ghost use Rattle.match_queries.specs.Runs.{queryOf, room, written};
 use crate::writing::NUMBERS;
 use crate::writing::put_answer;
 use definitions::answers::Answer;
@@ -21,11 +21,11 @@ fn answer_to<'a>(
     dir: Direction,
     m: FieldMap,
     held: Placement,
-    ask: u8,
+    query: u8,
 ) -> Answer
-    ensures { λ r. ⌜ r ≡ answerTo t (now (p .entry)) (now (decoded .entry)) dir m held (askOf ask) ⌝ }
+    ensures { λ r. ⌜ r ≡ answerTo t (now (p .entry)) (now (decoded .entry)) dir m held (queryOf query) ⌝ }
 {
-    if ask == 0 {
+    if query == 0 {
         return matcher::first(t, p, decoded, dir, m);
     }
     matcher::next(t, p, decoded, dir, m, held)
@@ -40,19 +40,19 @@ pub fn run<'a>(
     dir: Direction,
     m: FieldMap,
     held: Placement,
-    asks: &[u8],
+    queries: &[u8],
     out: &mut [u64],
 ) -> bool
-    ensures { λ r. ⌜ r ≡ room (now (asks .entry)) (now (out .entry)) ⌝ }
-    ensures { λ _. ⌜ now (out .exit) ≡ written t (now (p .entry)) (now (decoded .entry)) dir m held (now (asks .entry)) (now (out .entry)) ⌝ }
+    ensures { λ r. ⌜ r ≡ room (now (queries .entry)) (now (out .entry)) ⌝ }
+    ensures { λ _. ⌜ now (out .exit) ≡ written t (now (p .entry)) (now (decoded .entry)) dir m held (now (queries .entry)) (now (out .entry)) ⌝ }
 {
-    if out.len() / NUMBERS < asks.len() {
+    if out.len() / NUMBERS < queries.len() {
         return false;
     }
     let mut h = held;
     let mut i = 0;
-    while i < asks.len() {
-        let a = answer_to(t, p, decoded, dir, m, h, asks[i]);
+    while i < queries.len() {
+        let a = answer_to(t, p, decoded, dir, m, h, queries[i]);
         put_answer(&mut *out, i * NUMBERS, a);
         let placement = a.placement;
         h = placement;

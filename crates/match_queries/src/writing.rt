@@ -4,10 +4,10 @@ ghost use mathlib.Core.List.{_++_, map};
 ghost use Prim.Native.Nat.{_+_, _≤_};
 ghost use lib.ListN.{length, take, drop};
 ghost use lib.Seq.{sets};
-ghost use Rattle.definitions.specs.Limits.{patternsMost};
+ghost use Rattle.definitions.specs.Limits.{maxPatterns};
 ghost use Rattle.definitions.specs.Starts.{startNumber};
 ghost use Rattle.definitions.specs.Refusals.{foundNumber, foundOne};
-ghost use Rattle.definitions.specs.Asks.{answerNumbers};
+ghost use Rattle.definitions.specs.Queries.{answerNumbers};
 ghost use Rattle.match_queries.specs.Runs.{numbersOfOne};
 use definitions::answers::Answer;
 use definitions::answers::Found;
@@ -43,7 +43,7 @@ fn found_one(f: Found) -> u64
 
 // All starts, those not in use too.
 fn put_starts(out: &mut [u64], at: usize, starts: [Start; PATTERNS])
-    requires { ⌜ at + patternsMost ≤ length (now out) ⌝ }
+    requires { ⌜ at + maxPatterns ≤ length (now out) ⌝ }
     ensures { λ _. ⌜ now (out .exit) ≡ sets (now (out .entry)) at (map startNumber starts) ⌝ }
 {
     let mut j = 0;

@@ -6,30 +6,30 @@ use lib.IntN.{ℤ, pos}
 use mir.Syntax.{w64}
 use mir.Val.{SFits, toZ, ofZ}
 use mir.ValLaws.{toZ-ofZ}
-use Rattle.definitions.specs.declared.table.Reach.{Reach}
+use Rattle.definitions.specs.declared.table.WithinValue.{WithinValue}
 use Rattle.definitions.specs.declared.table.Reference.{Reference}
 use Rattle.definitions.specs.declared.table.Reference.the-variants as reference
 use Rattle.definitions.specs.declared.table.Distance.the-variants as distance
 use Rattle.definitions.specs.declared.table.Within.{Within}
 use Rattle.definitions.specs.declared.table.Within.the-variants as within
-use Rattle.definitions.specs.declared.packet.Last.{Last}
+use Rattle.definitions.specs.declared.packet.LastMatch.{LastMatch}
 use Rattle.definitions.specs.Windows.{lastEnd, base, windowStart}
 use Rattle.match_windows.specs.Spans.{sizeBound}
 use Rattle.match_windows.specs.Ends.{Begins}
 
-pub base-small : (l : Last) (r : Reference) → lastEnd l < sizeBound → base l r < sizeBound
+pub base-small : (l : LastMatch) (r : Reference) → lastEnd l < sizeBound → base l r < sizeBound
 base-small l reference.Match h = h
 base-small l reference.Packet h = omega arith
 base-small l reference.Context h = omega arith
 
 -- without a distance the field's length plays no part
-pub free-start : (l : Last) (len : ℕ) (w : Within) → windowStart l 0 distance.Free w ≡ windowStart l len distance.Free w
-free-start l len within.Free = refl
-free-start l len (within.Of w) = refl
+pub free-start : (l : LastMatch) (len : ℕ) (w : Within) → windowStart l 0 distance.Unset w ≡ windowStart l len distance.Unset w
+free-start l len within.Unset = refl
+free-start l len (within.Given w) = refl
 
 -- with a reach alone the window starts at what it is counted from
-pub reach-begins : (l : Last) (w : Within) (v : Reach) → w ≡ within.Of v → lastEnd l < sizeBound
-    → (r : ℕ) → r ≡ base l (v .reference) → (s : ℤ) → s ≡ pos r → Begins (windowStart l 0 distance.Free w) s
+pub reach-begins : (l : LastMatch) (w : Within) (v : WithinValue) → w ≡ within.Given v → lastEnd l < sizeBound
+    → (r : ℕ) → r ≡ base l (v .reference) → (s : ℤ) → s ≡ pos r → Begins (windowStart l 0 distance.Unset w) s
 reach-begins l w v e h r q s z = rw (e, z, q) (record { is = refl; small = omega (arith, base-small l (v .reference) h) })
 
 -- a start is read back from its bits

@@ -10,10 +10,10 @@ use borrow.Author.Tests.{ltb-true, leb-true, leb-false, lt-ltb, le-ltb, le-leb, 
 use Rattle.forms.specs.Bytes.{if_then_else_}
 use Rattle.forms.proofs.Bools.{by-cases, both-left, both-right}
 use Rattle.definitions.specs.declared.table.Pattern.{Pattern}
-use Rattle.definitions.specs.declared.table.Reach.{Reach}
+use Rattle.definitions.specs.declared.table.WithinValue.{WithinValue}
 use Rattle.definitions.specs.declared.table.Within.{Within}
 use Rattle.definitions.specs.declared.table.Within.the-variants as within
-use Rattle.definitions.specs.declared.packet.Last.{Last}
+use Rattle.definitions.specs.declared.packet.LastMatch.{LastMatch}
 use Rattle.definitions.specs.Windows.{windowStart, beforeEnd, inWindow}
 use Rattle.match_windows.specs.declared.Window.{Window}
 use Rattle.match_windows.specs.Spans.{Spans}
@@ -60,7 +60,7 @@ limited s (pos k) len n at =
     rw (t, lt-leb (at + n) k (omega arith), and-false (leb (at + n) len), and-false (leb s at), le-ltb at 0 (omega arith), and-false (leb (min s (len + 1)) at)))
 
 -- the span's end where a reach is given
-module _ (s : ℤ) (w : Within) (v : Reach) (len n : ℕ) (e : w ≡ within.Of v) where
+module _ (s : ℤ) (w : Within) (v : WithinValue) (len n : ℕ) (e : w ≡ within.Given v) where
   pub to-none : leZ (pos n) (s +ℤ pos (v .number)) ≡ false → 0 ≡ startsTo s w len n
   unfolding startsTo
   to-none f = rw (e, f)
@@ -72,19 +72,19 @@ module _ (s : ℤ) (w : Within) (v : Reach) (len n : ℕ) (e : w ≡ within.Of v
 exactly : (s : ℤ) (w : Within) (len n at : ℕ)
     → (leZ s (pos at) && beforeEnd s w len (at + n)) ≡ (leb (min (clip s) (len + 1)) at && ltb at (startsTo s w len n))
 unfolding startsTo
-exactly s within.Free len n at = rw (le-clip s at) (span (clip s) n len len at (omega arith))
-exactly s (within.Of w) len n at = rw (le-clip s at) (limited (clip s) (s +ℤ pos (w .number)) len n at)
+exactly s within.Unset len n at = rw (le-clip s at) (span (clip s) n len len at (omega arith))
+exactly s (within.Given w) len n at = rw (le-clip s at) (limited (clip s) (s +ℤ pos (w .number)) len n at)
 
 -- before the span's end the bytes lie inside the field
 inner : (s : ℤ) (w : Within) (len n at : ℕ) → at < startsTo s w len n → at + n ≤ len
 unfolding startsTo
-inner s within.Free len n at h = omega arith
-inner s (within.Of w) len n at h =
+inner s within.Unset len n at h = omega arith
+inner s (within.Given w) len n at h =
     by-cases (leZ (pos n) (s +ℤ pos (w .number)))
     (λ t. let k : at < min (clip (s +ℤ pos (w .number))) len + 1 - n = rw t at h in omega arith)
     (λ t. let k : at < 0 = rw t at h in omega arith)
 
-pub spans : (p : Pattern) (l : Last) (len : ℕ) (s : ℤ) (w : Window)
+pub spans : (p : Pattern) (l : LastMatch) (len : ℕ) (s : ℤ) (w : Window)
     → s ≡ windowStart l len (p .distance) (p .within)
     → w .from ≡ min (clip s) (len + 1)
     → w .to ≡ startsTo s (p .within) len (p .len)

@@ -20,5 +20,5 @@ pub record Begins (z s : ℤ) : Type 0 where
 
 -- one past the last start at which n bytes end by the window's end
 unfoldable pub startsTo : ℤ → Within → ℕ → ℕ → ℕ
-startsTo s within.Free len n = len + 1 - n
-startsTo s (within.Of w) len n = if leZ (pos n) (s +ℤ pos (w .number)) then min (clip (s +ℤ pos (w .number))) len + 1 - n else 0
+startsTo s within.Unset len n = len + 1 - n
+startsTo s (within.Given w) len n = if leZ (pos n) (s +ℤ pos (w .number)) then min (clip (s +ℤ pos (w .number))) len + 1 - n else 0

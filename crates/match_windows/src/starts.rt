@@ -8,24 +8,24 @@ ghost use Rattle.definitions.specs.Windows as windows;
 ghost use Rattle.match_windows.specs.Spans.{sizeBound, startBound, Measured, Spans};
 ghost use Rattle.match_windows.specs.Ends.{clip, Begins, startsTo};
 use crate::Window;
-use definitions::packet::Last;
+use definitions::packet::LastMatch;
 use definitions::table::Distance;
+use definitions::table::DistanceValue;
 use definitions::table::Pattern;
 use definitions::table::Reference;
-use definitions::table::Shift;
 use definitions::table::Within;
 
-fn last_end(last: Last) -> usize
+fn last_end(last: LastMatch) -> usize
     ensures { λ r. ⌜ r ≡ windows.lastEnd last ⌝ }
 {
     match last {
-        Last::Nothing => 0,
-        Last::Was(m) => m.end,
+        LastMatch::None => 0,
+        LastMatch::Some(m) => m.end,
     }
 }
 
 // What a range is counted from.
-fn base(last: Last, reference: Reference) -> usize
+fn base(last: LastMatch, reference: Reference) -> usize
     ensures { λ r. ⌜ r ≡ windows.base last reference ⌝ }
 {
     match reference {
@@ -56,7 +56,7 @@ fn unshifted(r: usize) -> i64
     r as i64
 }
 
-fn shifted(last: Last, len: usize, d: Shift) -> i64
+fn shifted(last: LastMatch, len: usize, d: DistanceValue) -> i64
     requires { ⌜ (windows.lastEnd last < sizeBound) × (len < sizeBound) ⌝ }
     ensures { λ s. ⌜ Begins (windows.shifted last len d) s ⌝ }
 {
@@ -69,13 +69,13 @@ fn shifted(last: Last, len: usize, d: Shift) -> i64
 }
 
 // The start where no distance is given.
-fn reached(last: Last, within: Within) -> i64
+fn reached(last: LastMatch, within: Within) -> i64
     requires { ⌜ windows.lastEnd last < sizeBound ⌝ }
-    ensures { λ s. ⌜ Begins (windows.windowStart last 0 Distance.Free within) s ⌝ }
+    ensures { λ s. ⌜ Begins (windows.windowStart last 0 Distance.Unset within) s ⌝ }
 {
     match within {
-        Within::Free => 0,
-        Within::Of(w) => {
+        Within::Unset => 0,
+        Within::Given(w) => {
             let reference = w.reference;
             let r = base(last, reference);
             unshifted(r)
@@ -83,13 +83,13 @@ fn reached(last: Last, within: Within) -> i64
     }
 }
 
-fn window_start(last: Last, len: usize, distance: Distance, within: Within) -> i64
+fn window_start(last: LastMatch, len: usize, distance: Distance, within: Within) -> i64
     requires { ⌜ (windows.lastEnd last < sizeBound) × (len < sizeBound) ⌝ }
     ensures { λ s. ⌜ Begins (windows.windowStart last len distance within) s ⌝ }
 {
     match distance {
-        Distance::Free => reached(last, within),
-        Distance::By(d) => shifted(last, len, d),
+        Distance::Unset => reached(last, within),
+        Distance::Given(d) => shifted(last, len, d),
     }
 }
 
@@ -139,7 +139,7 @@ fn starts_to(s: i64, within: Within, len: usize, n: usize) -> usize
     requires { ⌜ (mag s < startBound) × (len < sizeBound) × (n < sizeBound) ⌝ }
     ensures { λ r. ⌜ r ≡ startsTo s within len n ⌝ }
 {
-    let Within::Of(w) = within else {
+    let Within::Given(w) = within else {
         return room(len, n);
     };
     let e = window_end(s, w.number);
@@ -151,7 +151,7 @@ fn starts_to(s: i64, within: Within, len: usize, n: usize) -> usize
 }
 
 // The starts at which the pattern lies within its window over a field of `len` bytes.
-pub fn window(p: Pattern, last: Last, len: usize) -> Window
+pub fn window(p: Pattern, last: LastMatch, len: usize) -> Window
     requires { ⌜ Measured p last len ⌝ }
     ensures { λ r. ⌜ Spans p last len r ⌝ }
 {

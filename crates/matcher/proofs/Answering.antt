@@ -4,22 +4,22 @@ use mathlib.Core.List.{List, [], _∷_}
 use Prim.Native.Nat.{ℕ}
 use Rattle.definitions.specs.declared.table.Table.{Table}
 use Rattle.definitions.specs.declared.packet.Direction.{Direction}
-use Rattle.definitions.specs.declared.packet.Facts.{Facts}
+use Rattle.definitions.specs.declared.packet.PacketHeader.{PacketHeader}
 use Rattle.definitions.specs.declared.packet.FieldMap.{FieldMap}
 use Rattle.definitions.specs.declared.packet.Start.{Start}
 use Rattle.definitions.specs.declared.packet.Placement.{Placement}
 use Rattle.definitions.specs.declared.answers.Refusal.{Refusal}
-use Rattle.definitions.specs.declared.answers.Due.{Due}
-use Rattle.definitions.specs.declared.answers.Due.the-variants.{Fine, No}
+use Rattle.definitions.specs.declared.answers.Check.{Check}
+use Rattle.definitions.specs.declared.answers.Check.the-variants.{Pass, Refuse}
 use Rattle.definitions.specs.declared.answers.PacketAnswer.{PacketAnswer}
 use Rattle.definitions.specs.declared.answers.PacketAnswer.the-variants as packet
 use Rattle.definitions.specs.declared.answers.Verdict.the-variants as verdict
 use Rattle.definitions.specs.declared.answers.Answer.{Answer}
-use Rattle.definitions.specs.Fields.{fieldsDue}
+use Rattle.definitions.specs.Fields.{fieldsCheck}
 use Rattle.definitions.specs.Answers.{refusedAnswer, headOf, unless, verdictBy, verdictAnswer, firstAnswer, nextAnswer}
 use Rattle.match_checks.specs.Clearing.{clearance}
 use Rattle.match_placements.specs.Listing.{listIn, firstIn, nextIn}
-use Rattle.match_placements.proofs.Cleared.{Cleared, refused-due, due-here, list-here}
+use Rattle.match_placements.proofs.Cleared.{Cleared, refused-check, check-here, list-here}
 use Rattle.matcher.specs.Verdicts.{verdictOf}
 
 -- ---- a refusal is due: a is what was cleared, x the answer given
@@ -27,32 +27,32 @@ use Rattle.matcher.specs.Verdicts.{verdictOf}
 module _ (t : Table) (p d : List ℕ) (dir : Direction) (m : FieldMap) {a : PacketAnswer} (e : a ≡ clearance t p d) {r : Refusal} (k : a ≡ packet.Refused r) where
   pub verdict-refused : verdict.Refused r ≡ verdictAnswer t p d dir m
   unfolding verdictAnswer
-  verdict-refused = rw (refused-due t p d e k dir m)
+  verdict-refused = rw (refused-check t p d e k dir m)
 
   pub first-refused : {x : Answer} → x ≡ refusedAnswer r → x ≡ firstAnswer t p d dir m
   unfolding firstAnswer
-  first-refused g = rw (refused-due t p d e k dir m) g
+  first-refused g = rw (refused-check t p d e k dir m) g
 
   pub next-refused : (h : Placement) {x : Answer} → x ≡ refusedAnswer r → x ≡ nextAnswer t p d dir m h
   unfolding nextAnswer
-  next-refused h g = rw (refused-due t p d e k dir m) g
+  next-refused h g = rw (refused-check t p d e k dir m) g
 
 -- ---- the packet is cleared: f and s are its facts and payload
 
-verdict-head : (w : Due) (l : List (List Start)) → verdictOf (unless w (headOf l) .found) ≡ verdictBy w l
-verdict-head Fine [] = refl
-verdict-head Fine (q ∷ l) = refl
-verdict-head (No r) l = refl
+verdict-head : (w : Check) (l : List (List Start)) → verdictOf (unless w (headOf l) .found) ≡ verdictBy w l
+verdict-head Pass [] = refl
+verdict-head Pass (q ∷ l) = refl
+verdict-head (Refuse r) l = refl
 
-module _ {t : Table} {p d : List ℕ} {f : Facts} {s : List ℕ} (c : Cleared t p d f s) (dir : Direction) (m : FieldMap) where
+module _ {t : Table} {p d : List ℕ} {f : PacketHeader} {s : List ℕ} (c : Cleared t p d f s) (dir : Direction) (m : FieldMap) where
   pub verdict-here : verdictOf (firstIn t f s d dir m .found) ≡ verdictAnswer t p d dir m
   unfolding firstIn verdictAnswer
-  verdict-here = rw (due-here c dir m, list-here c dir m) (verdict-head (fieldsDue s d m) (listIn t f s d dir m))
+  verdict-here = rw (check-here c dir m, list-here c dir m) (verdict-head (fieldsCheck s d m) (listIn t f s d dir m))
 
   pub first-here : firstIn t f s d dir m ≡ firstAnswer t p d dir m
   unfolding firstIn firstAnswer
-  first-here = rw (due-here c dir m, list-here c dir m)
+  first-here = rw (check-here c dir m, list-here c dir m)
 
   pub next-here : (h : Placement) → nextIn t f s d dir m h ≡ nextAnswer t p d dir m h
   unfolding nextIn nextAnswer
-  next-here h = rw (due-here c dir m, list-here c dir m)
+  next-here h = rw (check-here c dir m, list-here c dir m)

@@ -12,16 +12,16 @@ use Rattle.definitions.specs.declared.packet.FieldMap.{FieldMap}
 use Rattle.definitions.specs.declared.packet.FieldSpan.the-variants.{Absent}
 use Rattle.definitions.specs.declared.answers.Verdict.{Verdict}
 use Rattle.definitions.specs.declared.answers.Verdict.the-variants.{Met, NotMet}
-use Rattle.definitions.specs.Limits.{limits01}
+use Rattle.definitions.specs.Limits.{documentLimits}
 use Rattle.definitions.specs.Reading.{acceptedReading, read}
 use Rattle.definitions.specs.Answers.{verdictAnswer}
 use Rattle.definitions.specs.Cases.{signature, packetWith, uriOnly}
 use Rattle.definitions.specs.Computing.{computing}
 
 abbrev pub xTable : Table
-xTable = read limits01 (signature "--pattern \"X\";") .table
+xTable = read documentLimits (signature "--pattern \"X\";") .table
 
-pub x-read : read limits01 (signature "--pattern \"X\";") ≡ acceptedReading xTable
+pub x-read : read documentLimits (signature "--pattern \"X\";") ≡ acceptedReading xTable
 unfolding computing
 x-read = refl
 

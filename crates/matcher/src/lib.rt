@@ -35,9 +35,9 @@ pub fn verdict<'a>(t: Table, p: &'a [u8], decoded: &'a [u8], dir: Direction, m: 
     let seen = cleared(t, p, decoded);
     match seen {
         PacketAnswer::Refused(r) => Verdict::Refused(r), // 20 and 30 to 34 come before 35
-        PacketAnswer::Seen(facts) => {
-            let payload = payload_of(p, facts);
-            let a = first_in(t, facts, payload, decoded, dir, m);
+        PacketAnswer::Seen(header) => {
+            let payload = payload_of(p, header);
+            let a = first_in(t, header, payload, decoded, dir, m);
             let found = a.found;
             verdict_of(found)
         }
@@ -51,9 +51,9 @@ pub fn first<'a>(t: Table, p: &'a [u8], decoded: &'a [u8], dir: Direction, m: Fi
     let seen = cleared(t, p, decoded);
     match seen {
         PacketAnswer::Refused(r) => refused(r),
-        PacketAnswer::Seen(facts) => {
-            let payload = payload_of(p, facts);
-            first_in(t, facts, payload, decoded, dir, m)
+        PacketAnswer::Seen(header) => {
+            let payload = payload_of(p, header);
+            first_in(t, header, payload, decoded, dir, m)
         }
     }
 }
@@ -72,9 +72,9 @@ pub fn next<'a>(
     let seen = cleared(t, p, decoded);
     match seen {
         PacketAnswer::Refused(r) => refused(r), // 20 and 30 to 34 come before 36
-        PacketAnswer::Seen(facts) => {
-            let payload = payload_of(p, facts);
-            next_in(t, facts, payload, decoded, dir, m, held)
+        PacketAnswer::Seen(header) => {
+            let payload = payload_of(p, header);
+            next_in(t, header, payload, decoded, dir, m, held)
         }
     }
 }

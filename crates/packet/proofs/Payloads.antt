@@ -11,16 +11,16 @@ use lib.Seq.{length-take-le}
 use lib.Dec.{ltb, eqb}
 use borrow.Author.Tests.{ltb-false, le-ltb}
 use Rattle.forms.proofs.Bools.{by-cases}
-use Rattle.definitions.specs.declared.packet.Facts.{Facts}
+use Rattle.definitions.specs.declared.packet.PacketHeader.{PacketHeader}
 use Rattle.definitions.specs.declared.answers.Refusal.the-variants as refusal
-use Rattle.definitions.specs.declared.answers.Due.{Due}
-use Rattle.definitions.specs.declared.answers.Due.the-variants.{Fine, No}
+use Rattle.definitions.specs.declared.answers.Check.{Check}
+use Rattle.definitions.specs.declared.answers.Check.the-variants.{Pass, Refuse}
 use Rattle.definitions.specs.declared.answers.PacketAnswer.the-variants.{Seen}
-use Rattle.definitions.specs.Limits.{packetMost, decodedMost}
+use Rattle.definitions.specs.Limits.{maxPacket, maxDecoded}
 use Rattle.definitions.specs.Refusals.{refuseIf}
-use Rattle.definitions.specs.Packet.{versionOf, isFragment, headerWords, headerLength, totalLength, protocolOf, datagramOf, behindHeader, isTcp, isUdp, isIcmp, tcpWords, tcpShort, transportLength, transportShort, factsOf, payloadOf, packetDue, packetBy, packetAnswer}
+use Rattle.definitions.specs.Packet.{versionOf, isFragment, headerWords, headerLength, totalLength, protocolOf, datagramOf, afterHeader, isTcp, isUdp, isIcmp, tcpWords, tcpShort, transportLength, transportShort, headerOf, payloadOf, packetCheck, packetBy, packetAnswer}
 use Rattle.packet.specs.Datagram.{payloadPart}
-use Rattle.packet_header.proofs.Widths.{wide-take}
+use Rattle.packet_header.proofs.Widths.{be-take}
 use Rattle.packet.proofs.Passed.{neither-right, Lengths, lengths}
 
 drop-take : (k n : ℕ) (l : List ℕ) → drop k (take n l) ≡ take (n - k) (drop k l)
@@ -34,34 +34,34 @@ drop-take (suc k) (suc n) [] = none (suc n - suc k)
 drop-take (suc k) (suc n) (x ∷ xs) = rw (suc-sub-suc n k) (drop-take k n xs)
 
 -- where nothing is due, neither 32 nor 34 is
-neither-due : (a b c d e : Bool)
-    → refuseIf a refusal.LentLength (refuseIf b refusal.NotIpv4 (refuseIf c refusal.Lengths (refuseIf d refusal.Fragment (refuseIf e refusal.Transport Fine)))) ≡ Fine
+neither-check : (a b c d e : Bool)
+    → refuseIf a refusal.BufferLength (refuseIf b refusal.NotIpv4 (refuseIf c refusal.Lengths (refuseIf d refusal.Fragment (refuseIf e refusal.Transport Pass)))) ≡ Pass
     → (c ≡ false) × (e ≡ false)
-neither-due true b c d e h = (cc, cc)
-neither-due false true c d e h = (cc, cc)
-neither-due false false true d e h = (cc, cc)
-neither-due false false false true e h = (cc, cc)
-neither-due false false false false true h = (cc, cc)
-neither-due false false false false false h = (refl, refl)
+neither-check true b c d e h = (cc, cc)
+neither-check false true c d e h = (cc, cc)
+neither-check false false true d e h = (cc, cc)
+neither-check false false false true e h = (cc, cc)
+neither-check false false false false true h = (cc, cc)
+neither-check false false false false false h = (refl, refl)
 
 -- the transport header lies in the datagram where 34 is not due
 transport-inside : (d : List ℕ) → headerLength d ≤ length d → transportShort d ≡ false → headerLength d + transportLength d ≤ length d
 transport-inside d h e = by-cases (isTcp (protocolOf d)) tcp other
   where
-    left : length (behindHeader d) ≡ length d - headerLength d
+    left : length (afterHeader d) ≡ length d - headerLength d
     left = length-drop (headerLength d) d
 
     tcp : isTcp (protocolOf d) ≡ true → headerLength d + transportLength d ≤ length d
     tcp t =
         let short : tcpShort d ≡ false = rw t at e in
-        let long = neither-right (ltb (tcpWords d) 5) _ (neither-right (ltb (length (behindHeader d)) 20) _ short) in
-        let fits : tcpWords d * 4 ≤ length (behindHeader d) = ltb-false (length (behindHeader d)) (tcpWords d * 4) long in
+        let long = neither-right (ltb (tcpWords d) 5) _ (neither-right (ltb (length (afterHeader d)) 20) _ short) in
+        let fits : tcpWords d * 4 ≤ length (afterHeader d) = ltb-false (length (afterHeader d)) (tcpWords d * 4) long in
         rw t (omega (arith, left))
 
     eight : (b : Bool) → (isUdp (protocolOf d) || isIcmp (protocolOf d)) ≡ b → isTcp (protocolOf d) ≡ false → headerLength d + transportLength d ≤ length d
     eight true b t =
-        let short : ltb (length (behindHeader d)) 8 ≡ false = rw (t, b) at e in
-        let fits : 8 ≤ length (behindHeader d) = ltb-false (length (behindHeader d)) 8 short in
+        let short : ltb (length (afterHeader d)) 8 ≡ false = rw (t, b) at e in
+        let fits : 8 ≤ length (afterHeader d) = ltb-false (length (afterHeader d)) 8 short in
         rw (t, b) (omega (arith, left))
     eight false b t = rw (t, b) (omega arith)
 
@@ -69,7 +69,7 @@ transport-inside d h e = by-cases (isTcp (protocolOf d)) tcp other
     other t = eight _ refl t
 
 -- facts whose numbers lie in the packet
-part-inside : (p : List ℕ) (f : Facts) → f .payload ≤ f .total → f .total ≤ length p → payloadPart p f ≡ drop (f .payload) (take (f .total) p)
+part-inside : (p : List ℕ) (f : PacketHeader) → f .payload ≤ f .total → f .total ≤ length p → payloadPart p f ≡ drop (f .payload) (take (f .total) p)
 unfolding payloadPart
 part-inside p f h k =
     let end : f .payload + (f .total - f .payload) ≡ f .total = omega arith in
@@ -77,45 +77,45 @@ part-inside p f h k =
 
 module _ (p : List ℕ) (ok : Lengths p) where
   headers-alike : headerLength (datagramOf p) ≡ headerLength p
-  headers-alike = ap (λ (b : ℕ). b % 16 * 4) (wide-take 1 (totalLength p) p 0 (omega (arith, ok .words, ok .header)))
+  headers-alike = ap (λ (b : ℕ). b % 16 * 4) (be-take 1 (totalLength p) p 0 (omega (arith, ok .words, ok .header)))
 
   totals-alike : totalLength (datagramOf p) ≡ totalLength p
-  totals-alike = wide-take 2 (totalLength p) p 2 (omega (arith, ok .words, ok .header))
+  totals-alike = be-take 2 (totalLength p) p 2 (omega (arith, ok .words, ok .header))
 
-  passed-payload : transportShort (datagramOf p) ≡ false → payloadPart p (factsOf (datagramOf p)) ≡ payloadOf (datagramOf p)
-  unfolding factsOf
+  passed-payload : transportShort (datagramOf p) ≡ false → payloadPart p (headerOf (datagramOf p)) ≡ payloadOf (datagramOf p)
+  unfolding headerOf
   passed-payload e =
       let d = datagramOf p in
       let all : length d ≡ totalLength p = length-take-le (totalLength p) p (ok .total) in
       let header : headerLength d ≤ length d = omega (arith, headers-alike, all, ok .header) in
       let inside = transport-inside d header e in
-      part-inside p (factsOf d) (omega (arith, inside, all, totals-alike)) (omega (arith, totals-alike, ok .total))
-      ∙ ap (λ (n : ℕ). drop (factsOf d .payload) (take n p)) totals-alike
+      part-inside p (headerOf d) (omega (arith, inside, all, totals-alike)) (omega (arith, totals-alike, ok .total))
+      ∙ ap (λ (n : ℕ). drop (headerOf d .payload) (take n p)) totals-alike
 
 module _ (p decoded : List ℕ) where
   -- THE LAW of the payload
-  pub payload-part : packetDue p decoded ≡ Fine → payloadPart p (factsOf (datagramOf p)) ≡ payloadOf (datagramOf p)
-  unfolding packetDue
+  pub payload-part : packetCheck p decoded ≡ Pass → payloadPart p (headerOf (datagramOf p)) ≡ payloadOf (datagramOf p)
+  unfolding packetCheck
   payload-part e =
-      let due =
-      neither-due
-      (ltb packetMost (length p) || ltb decodedMost (length decoded))
+      let check =
+      neither-check
+      (ltb maxPacket (length p) || ltb maxDecoded (length decoded))
       (ltb (length p) 20 || not (eqb (versionOf p) 4))
       (ltb (headerWords p) 5 || (ltb (totalLength p) (headerLength p) || ltb (length p) (totalLength p)))
       (isFragment (datagramOf p))
       (transportShort (datagramOf p))
       e in
-      passed-payload p (lengths p (due .0)) (due .1)
+      passed-payload p (lengths p (check .0)) (check .1)
 
-  seen : (due : Due) (d : List ℕ) (f : Facts) → packetBy due d ≡ Seen f → due ≡ Fine
-  seen Fine d f e = refl
-  seen (No r) d f e = cc
+  seen : (check : Check) (d : List ℕ) (f : PacketHeader) → packetBy check d ≡ Seen f → check ≡ Pass
+  seen Pass d f e = refl
+  seen (Refuse r) d f e = cc
 
-  seen-facts : (due : Due) (d : List ℕ) (f : Facts) → packetBy due d ≡ Seen f → f ≡ factsOf d
-  seen-facts Fine d f e = cc
-  seen-facts (No r) d f e = cc
+  seen-header : (check : Check) (d : List ℕ) (f : PacketHeader) → packetBy check d ≡ Seen f → f ≡ headerOf d
+  seen-header Pass d f e = cc
+  seen-header (Refuse r) d f e = cc
 
   -- the same of the facts that a caller has been given
-  pub seen-payload : (f : Facts) → packetAnswer p decoded ≡ Seen f → payloadPart p f ≡ payloadOf (datagramOf p)
+  pub seen-payload : (f : PacketHeader) → packetAnswer p decoded ≡ Seen f → payloadPart p f ≡ payloadOf (datagramOf p)
   unfolding packetAnswer
-  seen-payload f e = rw (seen-facts (packetDue p decoded) (datagramOf p) f e) (payload-part (seen (packetDue p decoded) (datagramOf p) f e))
+  seen-payload f e = rw (seen-header (packetCheck p decoded) (datagramOf p) f e) (payload-part (seen (packetCheck p decoded) (datagramOf p) f e))

@@ -1,21 +1,21 @@
 // One IPv4 packet: refusals 30 to 34 in order, the datagram's facts by value, and its payload as a part of the packet.
 ghost use mathlib.Core.Path.{_≡_};
-ghost use Rattle.definitions.specs.Packet.{factsOf, packetAnswer};
+ghost use Rattle.definitions.specs.Packet.{headerOf, packetAnswer};
 ghost use Rattle.definitions.specs.Fields.{shown};
 ghost use Rattle.field_parts.specs.Parts.{PartOf};
 ghost use Rattle.packet.specs.Datagram.{datagramAnswer, spanBetween, payloadSpan, payloadPart};
 use definitions::answers::PacketAnswer;
 use definitions::answers::Refusal;
-use definitions::packet::Facts;
 use definitions::packet::FieldSpan;
+use definitions::packet::PacketHeader;
 use definitions::packet::Span;
 use field_parts::part_of;
-use packet_header::big_endian::wide8;
-use packet_header::big_endian::wide16;
-use packet_header::big_endian::wide32;
+use packet_header::big_endian::be8;
+use packet_header::big_endian::be16;
+use packet_header::big_endian::be32;
+use packet_header::ip::buffer_too_long;
 use packet_header::ip::header_length;
 use packet_header::ip::is_fragment;
-use packet_header::ip::lent_too_long;
 use packet_header::ip::not_ipv4;
 use packet_header::ip::total_length;
 use packet_header::ip::wrong_lengths;
@@ -25,21 +25,21 @@ use packet_transport::transport_length;
 use packet_transport::transport_short;
 
 // The facts of a datagram.
-fn facts_of(d: &[u8]) -> Facts
-    ensures { λ r. ⌜ r ≡ factsOf (now (d .entry)) ⌝ }
+fn header_of(d: &[u8]) -> PacketHeader
+    ensures { λ r. ⌜ r ≡ headerOf (now (d .entry)) ⌝ }
 {
     let total = total_length(d);
     let payload = header_length(d) + transport_length(d);
     let protocol = protocol_of(d);
-    let tos = wide8(d, 1);
-    let id = wide16(d, 4);
-    let ttl = wide8(d, 8);
-    let checksum = wide16(d, 10);
-    let source = wide32(d, 12);
-    let destination = wide32(d, 16);
+    let tos = be8(d, 1);
+    let id = be16(d, 4);
+    let ttl = be8(d, 8);
+    let checksum = be16(d, 10);
+    let source = be32(d, 12);
+    let destination = be32(d, 16);
     let sport = port_at(d, 0);
     let dport = port_at(d, 2);
-    Facts {
+    PacketHeader {
         total,
         payload,
         protocol,
@@ -55,7 +55,7 @@ fn facts_of(d: &[u8]) -> Facts
 }
 
 // Refusals 33 and 34, which look at the datagram alone, or its facts.
-fn datagram_facts(d: &[u8]) -> PacketAnswer
+fn datagram_header(d: &[u8]) -> PacketAnswer
     ensures { λ r. ⌜ r ≡ datagramAnswer (now (d .entry)) ⌝ }
 {
     if is_fragment(d) {
@@ -64,15 +64,15 @@ fn datagram_facts(d: &[u8]) -> PacketAnswer
     if transport_short(d) {
         return PacketAnswer::Refused(Refusal::Transport);
     }
-    PacketAnswer::Seen(facts_of(d))
+    PacketAnswer::Seen(header_of(d))
 }
 
 // THE PACKET: the facts of the datagram in a lent packet, or the first due of 30 to 34.
-pub fn packet_facts(p: &[u8], decoded: &[u8]) -> PacketAnswer
+pub fn packet_header(p: &[u8], decoded: &[u8]) -> PacketAnswer
     ensures { λ r. ⌜ r ≡ packetAnswer (now (p .entry)) (now (decoded .entry)) ⌝ }
 {
-    if lent_too_long(p, decoded) {
-        return PacketAnswer::Refused(Refusal::LentLength);
+    if buffer_too_long(p, decoded) {
+        return PacketAnswer::Refused(Refusal::BufferLength);
     }
     if not_ipv4(p) {
         return PacketAnswer::Refused(Refusal::NotIpv4);
@@ -81,7 +81,7 @@ pub fn packet_facts(p: &[u8], decoded: &[u8]) -> PacketAnswer
         return PacketAnswer::Refused(Refusal::Lengths);
     }
     let total = total_length(p);
-    datagram_facts(&p[0..total])
+    datagram_header(&p[0..total])
 }
 
 // From a start up to an end; no span where the end comes first.
@@ -99,7 +99,7 @@ fn span_between(start: usize, end: usize) -> FieldSpan
 
 // The payload: the bytes from its start up to the total length, at their own place in the packet; padding is not payload. For facts that are not
 // this packet's: the same numbers' bytes where they lie in the packet, else the empty part at its start.
-pub fn payload_of<'a>(p: &'a [u8], f: Facts) -> &'a [u8]
+pub fn payload_of<'a>(p: &'a [u8], f: PacketHeader) -> &'a [u8]
     ensures bytes { λ r. ⌜ now r ≡ payloadPart (now (p .entry)) f ⌝ }
     ensures part { λ r. ⌜ PartOf (p .entry) (shown (payloadSpan f) (now (p .entry))) r ⌝ }
 {

@@ -2,7 +2,7 @@
 ghost use mathlib.Core.Path.{_≡_};
 ghost use Prim.Native.Nat.{_≤_};
 ghost use lib.ListN.{getD};
-ghost use Rattle.definitions.specs.Packet.{wide};
+ghost use Rattle.definitions.specs.Packet.{bigEndian};
 
 fn byte_at(d: &[u8], at: usize) -> u8
     ensures { λ r. ⌜ r ≡ getD (now (d .entry)) at 0 ⌝ }
@@ -11,9 +11,9 @@ fn byte_at(d: &[u8], at: usize) -> u8
 }
 
 // The number that the n bytes at a place write, big end first.
-fn wide_at(d: &[u8], at: usize, n: usize) -> u64
+fn be_at(d: &[u8], at: usize, n: usize) -> u64
     requires { ⌜ (at ≤ 255) × (n ≤ 4) ⌝ }
-    ensures { λ r. ⌜ r ≡ wide n (now (d .entry)) at ⌝ }
+    ensures { λ r. ⌜ r ≡ bigEndian n (now (d .entry)) at ⌝ }
 {
     let mut v: u64 = 0;
     let mut i = 0;
@@ -26,25 +26,25 @@ fn wide_at(d: &[u8], at: usize, n: usize) -> u64
 }
 
 // The number of one byte at a place.
-pub fn wide8(d: &[u8], at: usize) -> u8
+pub fn be8(d: &[u8], at: usize) -> u8
     requires { ⌜ at ≤ 255 ⌝ }
-    ensures { λ r. ⌜ r ≡ wide 1 (now (d .entry)) at ⌝ }
+    ensures { λ r. ⌜ r ≡ bigEndian 1 (now (d .entry)) at ⌝ }
 {
-    wide_at(d, at, 1) as u8
+    be_at(d, at, 1) as u8
 }
 
 // The number of two bytes at a place.
-pub fn wide16(d: &[u8], at: usize) -> u16
+pub fn be16(d: &[u8], at: usize) -> u16
     requires { ⌜ at ≤ 255 ⌝ }
-    ensures { λ r. ⌜ r ≡ wide 2 (now (d .entry)) at ⌝ }
+    ensures { λ r. ⌜ r ≡ bigEndian 2 (now (d .entry)) at ⌝ }
 {
-    wide_at(d, at, 2) as u16
+    be_at(d, at, 2) as u16
 }
 
 // The number of four bytes at a place.
-pub fn wide32(d: &[u8], at: usize) -> u32
+pub fn be32(d: &[u8], at: usize) -> u32
     requires { ⌜ at ≤ 255 ⌝ }
-    ensures { λ r. ⌜ r ≡ wide 4 (now (d .entry)) at ⌝ }
+    ensures { λ r. ⌜ r ≡ bigEndian 4 (now (d .entry)) at ⌝ }
 {
-    wide_at(d, at, 4) as u32
+    be_at(d, at, 4) as u32
 }

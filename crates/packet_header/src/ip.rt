@@ -4,10 +4,10 @@ ghost use mathlib.Core.Bool.{_||_, not};
 ghost use Prim.Native.Nat.{_≤_};
 ghost use lib.ListN.{length};
 ghost use lib.Dec.{ltb, eqb};
-ghost use Rattle.definitions.specs.Limits.{packetMost, decodedMost};
+ghost use Rattle.definitions.specs.Limits.{maxPacket, maxDecoded};
 ghost use Rattle.definitions.specs.Packet.{versionOf, headerWords, headerLength, totalLength, isFragment};
-use crate::big_endian::wide8;
-use crate::big_endian::wide16;
+use crate::big_endian::be8;
+use crate::big_endian::be16;
 use definitions::limits::DECODED_BYTES;
 use definitions::limits::PACKET_BYTES;
 
@@ -15,7 +15,7 @@ use definitions::limits::PACKET_BYTES;
 pub fn header_length(d: &[u8]) -> usize
     ensures { λ r. ⌜ (r ≡ headerLength (now (d .entry))) × (r ≤ 60) ⌝ }
 {
-    let words = wide8(d, 0) % 16;
+    let words = be8(d, 0) % 16;
     (words as usize) * 4
 }
 
@@ -23,12 +23,12 @@ pub fn header_length(d: &[u8]) -> usize
 pub fn total_length(d: &[u8]) -> usize
     ensures { λ r. ⌜ r ≡ totalLength (now (d .entry)) ⌝ }
 {
-    wide16(d, 2) as usize
+    be16(d, 2) as usize
 }
 
 // 30: more bytes are lent than a packet or a decoded buffer may have.
-pub fn lent_too_long(p: &[u8], decoded: &[u8]) -> bool
-    ensures { λ r. ⌜ r ≡ (ltb packetMost (length (now (p .entry))) || ltb decodedMost (length (now (decoded .entry)))) ⌝ }
+pub fn buffer_too_long(p: &[u8], decoded: &[u8]) -> bool
+    ensures { λ r. ⌜ r ≡ (ltb maxPacket (length (now (p .entry))) || ltb maxDecoded (length (now (decoded .entry)))) ⌝ }
 {
     (PACKET_BYTES < p.len()) | (DECODED_BYTES < decoded.len())
 }
@@ -37,7 +37,7 @@ pub fn lent_too_long(p: &[u8], decoded: &[u8]) -> bool
 pub fn not_ipv4(p: &[u8]) -> bool
     ensures { λ r. ⌜ r ≡ (ltb (length (now (p .entry))) 20 || not (eqb (versionOf (now (p .entry))) 4)) ⌝ }
 {
-    let version = wide8(p, 0) / 16;
+    let version = be8(p, 0) / 16;
     (p.len() < 20) | (version != 4)
 }
 
@@ -45,7 +45,7 @@ pub fn not_ipv4(p: &[u8]) -> bool
 pub fn wrong_lengths(p: &[u8]) -> bool
     ensures { λ r. ⌜ r ≡ (ltb (headerWords (now (p .entry))) 5 || (ltb (totalLength (now (p .entry))) (headerLength (now (p .entry))) || ltb (length (now (p .entry))) (totalLength (now (p .entry))))) ⌝ }
 {
-    let words = wide8(p, 0) % 16;
+    let words = be8(p, 0) % 16;
     let header = header_length(p);
     let total = total_length(p);
     (words < 5) | ((total < header) | (p.len() < total))
@@ -55,7 +55,7 @@ pub fn wrong_lengths(p: &[u8]) -> bool
 pub fn is_fragment(d: &[u8]) -> bool
     ensures { λ r. ⌜ r ≡ isFragment (now (d .entry)) ⌝ }
 {
-    let word = wide16(d, 6);
+    let word = be16(d, 6);
     let more = word / 8192 % 2;
     let offset = word % 8192;
     (more == 1) | (offset != 0)

@@ -2,9 +2,9 @@
 ghost use mathlib.Core.Path.{_≡_};
 ghost use Prim.Native.Nat.{_≤_};
 ghost use lib.ListN.{length};
-ghost use Rattle.definitions.specs.Packet.{protocolOf, behindHeader, tcpWords, transportLength, portAt, tcpShort, transportShort};
-use packet_header::big_endian::wide8;
-use packet_header::big_endian::wide16;
+ghost use Rattle.definitions.specs.Packet.{protocolOf, afterHeader, tcpWords, transportLength, portAt, tcpShort, transportShort};
+use packet_header::big_endian::be8;
+use packet_header::big_endian::be16;
 use packet_header::ip::header_length;
 use packet_header::protocols::ICMP;
 use packet_header::protocols::TCP;
@@ -15,12 +15,12 @@ use packet_header::protocols::has_ports;
 pub fn protocol_of(d: &[u8]) -> u8
     ensures { λ r. ⌜ r ≡ protocolOf (now (d .entry)) ⌝ }
 {
-    wide8(d, 9)
+    be8(d, 9)
 }
 
 // How many bytes stand behind the IP header.
-fn left_behind(d: &[u8]) -> usize
-    ensures { λ r. ⌜ r ≡ length (behindHeader (now (d .entry))) ⌝ }
+fn left_after(d: &[u8]) -> usize
+    ensures { λ r. ⌜ r ≡ length (afterHeader (now (d .entry))) ⌝ }
 {
     let header = header_length(d);
     if d.len() < header {
@@ -35,7 +35,7 @@ fn tcp_words(d: &[u8]) -> u8
     ensures { λ r. ⌜ (r ≡ tcpWords (now (d .entry))) × (r ≤ 15) ⌝ }
 {
     let header = header_length(d);
-    wide8(d, header + 12) / 16
+    be8(d, header + 12) / 16
 }
 
 // The length of the transport header: TCP's own, 8 bytes for UDP and ICMP, none for other protocols.
@@ -60,7 +60,7 @@ pub fn port_at(d: &[u8], at: usize) -> u16
 {
     if has_ports(protocol_of(d)) {
         let header = header_length(d);
-        wide16(d, header + at)
+        be16(d, header + at)
     } else {
         0
     }
@@ -69,7 +69,7 @@ pub fn port_at(d: &[u8], at: usize) -> u16
 fn tcp_short(d: &[u8]) -> bool
     ensures { λ r. ⌜ r ≡ tcpShort (now (d .entry)) ⌝ }
 {
-    let left = left_behind(d);
+    let left = left_after(d);
     let words = tcp_words(d);
     let length = (words as usize) * 4;
     (left < 20) | ((words < 5) | (left < length))
@@ -83,6 +83,6 @@ pub fn transport_short(d: &[u8]) -> bool
     if protocol == TCP {
         return tcp_short(d);
     }
-    let left = left_behind(d);
+    let left = left_after(d);
     ((protocol == UDP) | (protocol == ICMP)) & (left < 8)
 }

@@ -3,11 +3,11 @@ ghost use mathlib.Core.Path.{_≡_};
 ghost use mathlib.Core.List.{List};
 ghost use Prim.Native.Nat.{ℕ, _≤_};
 ghost use lib.ListN.{length};
-ghost use Rattle.definitions.specs.Limits.{limits01};
+ghost use Rattle.definitions.specs.Limits.{documentLimits};
 ghost use Rattle.definitions.specs.Forms.{nameForm, addressForm, patternForm};
-ghost use Rattle.read_value.specs.Values.{roomOf};
+ghost use Rattle.read_value.specs.Values.{patternBytesOf};
 ghost use Rattle.read_by_name.specs.Parsing.{Parses};
-use crate::parsed::Parsed;
+use crate::parsed::ParsedOption;
 use definitions::table::AddressTest;
 use definitions::table::Side;
 use read_stored::addresses::then_addresses;
@@ -20,16 +20,16 @@ use scan_steps::signs::then_closing;
 use scan_steps::signs::then_optional_literal;
 
 // The option name.
-pub fn name_option(s: &[u8], at: usize, used: usize) -> Parsed
+pub fn name_option(s: &[u8], at: usize, used: usize) -> ParsedOption
     requires { ⌜ at ≤ length (now s) ⌝ }
-    ensures { λ r. ⌜ ((bytes : List ℕ) → Parses nameForm (now (s .entry)) at (roomOf bytes used) (roomOf bytes (r .used)) r) ⌝ }
+    ensures { λ r. ⌜ ((bytes : List ℕ) → Parses nameForm (now (s .entry)) at (patternBytesOf bytes used) (patternBytesOf bytes (r .used)) r) ⌝ }
 {
     let list = no_addresses();
     let c = gap_at(s, at);
     let n = then_name(s, c);
     let c = n.cursor;
     let cursor = then_closing(s, c);
-    Parsed {
+    ParsedOption {
         value: Value::Name(n.from, n.len),
         list,
         used,
@@ -38,9 +38,9 @@ pub fn name_option(s: &[u8], at: usize, used: usize) -> Parsed
 }
 
 // The options src_addr and dst_addr, whose side the caller names.
-pub fn address_option(s: &[u8], at: usize, side: Side, used: usize) -> Parsed
+pub fn address_option(s: &[u8], at: usize, side: Side, used: usize) -> ParsedOption
     requires { ⌜ at ≤ length (now s) ⌝ }
-    ensures { λ r. ⌜ ((bytes : List ℕ) → Parses (addressForm side) (now (s .entry)) at (roomOf bytes used) (roomOf bytes (r .used)) r) ⌝ }
+    ensures { λ r. ⌜ ((bytes : List ℕ) → Parses (addressForm side) (now (s .entry)) at (patternBytesOf bytes used) (patternBytesOf bytes (r .used)) r) ⌝ }
 {
     let c = gap_at(s, at);
     let m = then_optional_literal(s, c, b'!');
@@ -49,7 +49,7 @@ pub fn address_option(s: &[u8], at: usize, side: Side, used: usize) -> Parsed
     let c = l.cursor;
     let cursor = then_closing(s, c);
     let list = l.list;
-    Parsed {
+    ParsedOption {
         value: Value::Addresses(AddressTest {
             side,
             negated: m.yes,
@@ -62,9 +62,9 @@ pub fn address_option(s: &[u8], at: usize, side: Side, used: usize) -> Parsed
 }
 
 // The option pattern; its bytes are stored behind those in use.
-pub fn pattern_option(s: &[u8], at: usize, bytes: &mut [u8], used: usize) -> Parsed
-    requires { ⌜ (at ≤ length (now s)) × (length (now s) ≤ limits01 .text) × (used ≤ at) × (length (now bytes) ≡ limits01 .room) ⌝ }
-    ensures { λ r. ⌜ Parses patternForm (now (s .entry)) at (roomOf (now (bytes .entry)) used) (roomOf (now (bytes .exit)) (r .used)) r ⌝ }
+pub fn pattern_option(s: &[u8], at: usize, bytes: &mut [u8], used: usize) -> ParsedOption
+    requires { ⌜ (at ≤ length (now s)) × (length (now s) ≤ documentLimits .text) × (used ≤ at) × (length (now bytes) ≡ documentLimits .room) ⌝ }
+    ensures { λ r. ⌜ Parses patternForm (now (s .entry)) at (patternBytesOf (now (bytes .entry)) used) (patternBytesOf (now (bytes .exit)) (r .used)) r ⌝ }
 {
     let list = no_addresses();
     let c = gap_at(s, at);
@@ -73,7 +73,7 @@ pub fn pattern_option(s: &[u8], at: usize, bytes: &mut [u8], used: usize) -> Par
     let p = then_pattern(s, c, bytes, used);
     let c = p.cursor;
     let cursor = then_closing(s, c);
-    Parsed {
+    ParsedOption {
         value: Value::Pattern(m.yes, p.len),
         list,
         used: p.used,

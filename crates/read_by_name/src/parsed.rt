@@ -1,6 +1,6 @@
 // What is read of an option behind its name.
 ghost use mathlib.Core.Path.{_≡_};
-ghost use Rattle.read_by_name.specs.Parsing.{plainParsed};
+ghost use Rattle.read_by_name.specs.Parsing.{plainOption};
 use definitions::limits::ADDRESSES;
 use definitions::table::Address;
 use read_options::valued::Valued;
@@ -9,7 +9,7 @@ use read_value::no_addresses;
 use scan_cursors::Cursor;
 
 // An option's value, the addresses beside it, how many pattern bytes are in use behind it, and where scanning stands.
-pub struct Parsed {
+pub struct ParsedOption {
     pub value: Value,
     pub list: [Address; ADDRESSES],
     pub used: usize,
@@ -17,13 +17,13 @@ pub struct Parsed {
 }
 
 // A value with nothing beside it.
-pub fn plain(v: Valued, used: usize) -> Parsed
-    ensures { λ r. ⌜ r ≡ plainParsed v used ⌝ }
+pub fn plain(v: Valued, used: usize) -> ParsedOption
+    ensures { λ r. ⌜ r ≡ plainOption v used ⌝ }
 {
     let list = no_addresses();
     let value = v.value;
     let cursor = v.cursor;
-    Parsed {
+    ParsedOption {
         value,
         list,
         used,

@@ -12,7 +12,7 @@ use borrow.Author.Tests.{eq-eqb, ne-eqb, leb-true, leb-false, lt-ltb, le-ltb}
 use Rattle.forms.specs.Bytes.{run}
 use Rattle.forms.proofs.Bools.{by-cases}
 use Rattle.definitions.specs.declared.answers.Refusal.the-variants as refusal
-use Rattle.definitions.specs.Limits.{limits01}
+use Rattle.definitions.specs.Limits.{documentLimits}
 use Rattle.definitions.specs.Lists.{none?, sameBytes}
 use Rattle.definitions.specs.Reading.{options, finished, refusedReading, readUnbounded, read}
 use Rattle.definitions.specs.Options.{opening, printable}
@@ -77,24 +77,24 @@ module _ (s : List ℕ) where
       go [] q = absurd (q refl)
       go (x ∷ l) q = refl
 
-  pub read-empty : length s ≡ 0 → read limits01 s ≡ refusedReading (limits01 .room) refusal.TextLength 0
+  pub read-empty : length s ≡ 0 → read documentLimits s ≡ refusedReading (documentLimits .room) refusal.TextLength 0
   unfolding read readUnbounded
-  read-empty e = rw (le-ltb (limits01 .text) (length s) (omega arith), none-zero e)
+  read-empty e = rw (le-ltb (documentLimits .text) (length s) (omega arith), none-zero e)
 
-  pub read-long : limits01 .text < length s → read limits01 s ≡ refusedReading (limits01 .room) refusal.TextLength 0
+  pub read-long : documentLimits .text < length s → read documentLimits s ≡ refusedReading (documentLimits .room) refusal.TextLength 0
   unfolding read
-  read-long h = rw (lt-ltb (limits01 .text) (length s) h)
+  read-long h = rw (lt-ltb (documentLimits .text) (length s) h)
 
-  module _ (some : length s ≡ 0 → ⊥) (short : length s ≤ limits01 .text) where
-    pub read-byte : run printable s < length s → read limits01 s ≡ refusedReading (limits01 .room) refusal.TextByte (run printable s)
+  module _ (some : length s ≡ 0 → ⊥) (short : length s ≤ documentLimits .text) where
+    pub read-byte : run printable s < length s → read documentLimits s ≡ refusedReading (documentLimits .room) refusal.TextByte (run printable s)
     unfolding read readUnbounded
-    read-byte h = rw (le-ltb (limits01 .text) (length s) short, none-some some, lt-ltb (run printable s) (length s) h)
+    read-byte h = rw (le-ltb (documentLimits .text) (length s) short, none-some some, lt-ltb (run printable s) (length s) h)
 
     module _ (clean : length s ≤ run printable s) where
-      pub read-unopened : isOpened s ≡ false → read limits01 s ≡ refusedReading (limits01 .room) refusal.Opening 0
+      pub read-unopened : isOpened s ≡ false → read documentLimits s ≡ refusedReading (documentLimits .room) refusal.Opening 0
       unfolding read readUnbounded
-      read-unopened e = rw (le-ltb (limits01 .text) (length s) short, none-some some, le-ltb (run printable s) (length s) clean, e)
+      read-unopened e = rw (le-ltb (documentLimits .text) (length s) short, none-some some, le-ltb (run printable s) (length s) clean, e)
 
-      pub read-opened : isOpened s ≡ true → read limits01 s ≡ finished (limits01 .room) s (options s (drop 7 s) 0 7 [])
+      pub read-opened : isOpened s ≡ true → read documentLimits s ≡ finished (documentLimits .room) s (options s (drop 7 s) 0 7 [])
       unfolding read readUnbounded
-      read-opened e = rw (le-ltb (limits01 .text) (length s) short, none-some some, le-ltb (run printable s) (length s) clean, e)
+      read-opened e = rw (le-ltb (documentLimits .text) (length s) short, none-some some, le-ltb (run printable s) (length s) clean, e)

@@ -92,8 +92,8 @@ pub fn ended_by(c: Cursor) -> Ended
     ensures { λ r. ⌜ r ≡ endedBy c ⌝ }
 {
     match c {
-        Cursor::Going(n) => Ended::Next(n),
-        Cursor::Over(_, _) => Ended::Refused(Refusal::Limit),
-        Cursor::Stopped(_) => Ended::Refused(Refusal::Form),
+        Cursor::Parsed(n) => Ended::Next(n),
+        Cursor::OutOfRange(_, _) => Ended::Refused(Refusal::Limit),
+        Cursor::Failed(_) => Ended::Refused(Refusal::Form),
     }
 }

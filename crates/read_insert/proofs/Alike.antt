@@ -9,13 +9,13 @@ use Rattle.definitions.specs.declared.table.Pattern as patterns
 use Rattle.definitions.specs.declared.table.Slot.{Slot}
 use Rattle.forms.proofs.Bools.{or-false}
 use Rattle.definitions.specs.Lists.{any?, count}
-use Rattle.definitions.specs.Entries.{Modifier, Entry, Name, Protocol, Flow}
+use Rattle.definitions.specs.OptionValues.{Modifier, OptionValue, Name, Protocol, Flow}
 use Rattle.definitions.specs.Tables.{bytesIn, slotsIn, modified}
-use Rattle.definitions.specs.Standing.{sameKind, latest}
+use Rattle.definitions.specs.Occurrences.{sameKind, latest}
 use Rattle.read_state.specs.declared.Given.{Given}
 use Rattle.read_state.specs.declared.State.{State}
 use Rattle.read_state.specs.State.{modifierAmong, givenIn}
-use Rattle.read_insert.proofs.Behind.{or-true, any-append, count-append, bytes-append, slots-append, latest-append}
+use Rattle.read_insert.proofs.After.{or-true, any-append, count-append, bytes-append, slots-append, latest-append}
 
 -- ---- two states whose fields are equal
 
@@ -62,17 +62,17 @@ givenBy n p f ms =
 
 -- ---- an entry e more, of whatever kind, at what it leaves as it is
 
-module _ (es : List Entry) (e : Entry) where
-  pub any-same : (k : Entry → Bool) → any? k (e ∷ []) ≡ false → any? k (es ++ (e ∷ [])) ≡ any? k es
+module _ (es : List OptionValue) (e : OptionValue) where
+  pub any-same : (k : OptionValue → Bool) → any? k (e ∷ []) ≡ false → any? k (es ++ (e ∷ [])) ≡ any? k es
   any-same k h = any-append k es (e ∷ []) ∙ rw h (or-false (any? k es))
 
-  pub any-new : (k : Entry → Bool) → any? k (e ∷ []) ≡ true → any? k (es ++ (e ∷ [])) ≡ true
+  pub any-new : (k : OptionValue → Bool) → any? k (e ∷ []) ≡ true → any? k (es ++ (e ∷ [])) ≡ true
   any-new k h = any-append k es (e ∷ []) ∙ rw h (or-true (any? k es))
 
-  pub count-same : (k : Entry → Bool) → count k (e ∷ []) ≡ 0 → count k (es ++ (e ∷ [])) ≡ count k es
+  pub count-same : (k : OptionValue → Bool) → count k (e ∷ []) ≡ 0 → count k (es ++ (e ∷ [])) ≡ count k es
   count-same k h = omega (arith, count-append k es (e ∷ []))
 
-  pub count-new : (k : Entry → Bool) → count k (e ∷ []) ≡ 1 → count k (es ++ (e ∷ [])) ≡ count k es + 1
+  pub count-new : (k : OptionValue → Bool) → count k (e ∷ []) ≡ 1 → count k (es ++ (e ∷ [])) ≡ count k es + 1
   count-new k h = omega (arith, count-append k es (e ∷ []))
 
   pub bytes-same : bytesIn (e ∷ []) ≡ [] → bytesIn (es ++ (e ∷ [])) ≡ bytesIn es

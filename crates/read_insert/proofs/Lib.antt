@@ -1,7 +1,7 @@
 -- Laws that belong to no one function: one entry more, the last pattern, the state of one option
 -- more, what is due for it, and the judgement at the end.
 pub mod Choosing
-pub mod Behind
+pub mod After
 pub mod LastPattern
 pub mod Alike
 pub mod Steps

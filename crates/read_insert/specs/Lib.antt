@@ -1,3 +1,3 @@
 -- What the contracts of `read_insert` cite: the code's own steps on the state.
-pub mod Entering
-pub mod Judging
+pub mod Inserting
+pub mod Checking

@@ -10,11 +10,11 @@ use Rattle.definitions.specs.declared.table.AddressTest.{AddressTest}
 use Rattle.definitions.specs.declared.table.Item.{Item}
 use Rattle.definitions.specs.declared.table.Item.the-variants as item
 use Rattle.definitions.specs.declared.table.Address.{Address}
-use Rattle.definitions.specs.Limits.{patternsMost, testsMost, addressesMost}
+use Rattle.definitions.specs.Limits.{maxPatterns, maxTests, maxAddresses}
 use Rattle.definitions.specs.Tables.{bare}
 use Rattle.read_state.specs.declared.Given.{Given}
 use Rattle.read_state.specs.declared.State.{State}
-use Rattle.read_state.specs.declared.Entered.{Entered}
+use Rattle.read_state.specs.declared.Inserted.{Inserted}
 use Rattle.read_state.specs.Sound.{refusedIn, itemAlso}
 
 -- one test more
@@ -34,15 +34,15 @@ withTest st =
       dashes = st .dashes;
     }
 
-unfoldable pub testEntered : State → Item → List Address → Entered
-testEntered st it list =
-    if leb testsMost (st .tests) then refusedIn st refusal.TooMany
+unfoldable pub testInserted : State → Item → List Address → Inserted
+testInserted st it list =
+    if leb maxTests (st .tests) then refusedIn st refusal.CountExceeded
     else itemAlso st (withTest st) (record { item = it; addresses = list })
 
-unfoldable pub addressesEntered : State → AddressTest → List Address → Entered
-addressesEntered st a list =
-    if ltb addressesMost (a .count) then refusedIn st refusal.TooMany
-    else testEntered st (item.Address a) list
+unfoldable pub addressesInserted : State → AddressTest → List Address → Inserted
+addressesInserted st a list =
+    if ltb maxAddresses (a .count) then refusedIn st refusal.CountExceeded
+    else testInserted st (item.Address a) list
 
 -- no modifier is given behind a new pattern
 abbrev pub noModifiers : Given → Given
@@ -65,7 +65,7 @@ withNewPattern st dash used =
       dashes = set (st .dashes) (st .patterns) dash;
     }
 
-unfoldable pub patternEntered : State → ℕ → Bool → ℕ → List Address → ℕ → Entered
-patternEntered st dash negated n list used =
-    if leb patternsMost (st .patterns) then refusedIn st refusal.TooMany
+unfoldable pub patternInserted : State → ℕ → Bool → ℕ → List Address → ℕ → Inserted
+patternInserted st dash negated n list used =
+    if leb maxPatterns (st .patterns) then refusedIn st refusal.CountExceeded
     else itemAlso st (withNewPattern st dash used) (record { item = item.Pattern (bare negated n); addresses = list })

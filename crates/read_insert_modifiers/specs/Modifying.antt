@@ -2,18 +2,18 @@
 use mathlib.Core.Bool.{Bool, true, false}
 use lib.Dec.{eqb}
 use Rattle.definitions.specs.declared.answers.Refusal.the-variants as refusal
-use Rattle.definitions.specs.declared.answers.Due.the-variants.{Fine}
+use Rattle.definitions.specs.declared.answers.Check.the-variants.{Pass}
 use Rattle.definitions.specs.declared.table.Pattern.{Pattern}
 use Rattle.definitions.specs.declared.table.Item.{Item}
 use Rattle.definitions.specs.declared.table.Item.the-variants as item
 use Rattle.definitions.specs.declared.table.Slot.{Slot}
 use Rattle.definitions.specs.Refusals.{refuseIf}
-use Rattle.definitions.specs.Entries.{Modifier, Context, NoCase, Distance, Within}
+use Rattle.definitions.specs.OptionValues.{Modifier, Context, NoCase, Distance, Within}
 use Rattle.definitions.specs.Tables.{bare, with}
 use Rattle.definitions.specs.Items.{Kind, unused, addressed, patterned, plainTest, kindOf}
 use Rattle.read_state.specs.declared.Given.{Given}
 use Rattle.read_state.specs.declared.State.{State}
-use Rattle.read_state.specs.declared.Entered.{Entered}
+use Rattle.read_state.specs.declared.Inserted.{Inserted}
 
 -- the pattern of an item; of any other item one that says nothing
 abbrev pub patternIn : Kind → Pattern
@@ -45,10 +45,10 @@ withGiven st g =
 abbrev pub slotWith : Slot → Pattern → Slot
 slotWith sl p = record { item = item.Pattern p; addresses = sl .addresses }
 
-unfoldable pub modifierBy : State → Slot → Bool → Pattern → Given → Entered
+unfoldable pub modifierBy : State → Slot → Bool → Pattern → Given → Inserted
 modifierBy st last again p g =
     record {
-      due = refuseIf (eqb (st .patterns) 0) refusal.Orphan (refuseIf again refusal.Again Fine);
+      check = refuseIf (eqb (st .patterns) 0) refusal.ModifierWithoutPattern (refuseIf again refusal.Repeated Pass);
       state = withGiven st g;
       place = st .last;
       slot = slotWith last p;
@@ -72,5 +72,5 @@ givenAlso (Within w) g =
     record { name = g .name; protocol = g .protocol; flow = g .flow; context = g .context; nocase = g .nocase; distance = g .distance; within = true }
 
 -- where `last` is the slot of the last pattern
-abbrev pub modifierEntered : State → Slot → Modifier → Entered
-modifierEntered st last m = modifierBy st last (already m (st .given)) (with m (patternOf (last .item))) (givenAlso m (st .given))
+abbrev pub modifierInserted : State → Slot → Modifier → Inserted
+modifierInserted st last m = modifierBy st last (already m (st .given)) (with m (patternOf (last .item))) (givenAlso m (st .given))

@@ -1,23 +1,23 @@
 // Options that belong to the last pattern, each once: context, no_case, distance and within.
 ghost use mathlib.Core.Path.{_≡_};
-ghost use Rattle.definitions.specs.Entries as modifier;
+ghost use Rattle.definitions.specs.OptionValues as modifier;
 ghost use Rattle.definitions.specs.Refusals.{refuseIf};
-ghost use Rattle.read_insert_modifiers.specs.Modifying.{patternOf, modifierBy, modifierEntered};
-use definitions::answers::Due;
+ghost use Rattle.read_insert_modifiers.specs.Modifying.{patternOf, modifierBy, modifierInserted};
+use definitions::answers::Check;
 use definitions::answers::Refusal;
 use definitions::table::Context;
 use definitions::table::Distance;
+use definitions::table::DistanceValue;
 use definitions::table::Item;
 use definitions::table::Pattern;
-use definitions::table::Reach;
-use definitions::table::Shift;
 use definitions::table::Slot;
 use definitions::table::Within;
-use read_state::Entered;
+use definitions::table::WithinValue;
 use read_state::Given;
+use read_state::Inserted;
 use read_state::State;
 use read_state::bare_pattern;
-use read_state::due_again;
+use read_state::check_again;
 
 // The pattern in a slot; in any other slot there is none to look at.
 fn pattern_of(slot: Slot) -> Pattern
@@ -31,21 +31,21 @@ fn pattern_of(slot: Slot) -> Pattern
 }
 
 // 9 where no pattern stands before, then 8.
-fn due_for(none: bool, again: bool) -> Due
-    ensures { λ r. ⌜ r ≡ refuseIf none Refusal.Orphan (refuseIf again Refusal.Again Due.Fine) ⌝ }
+fn check_for(none: bool, again: bool) -> Check
+    ensures { λ r. ⌜ r ≡ refuseIf none Refusal.ModifierWithoutPattern (refuseIf again Refusal.Repeated Check.Pass) ⌝ }
 {
     if none {
-        return Due::No(Refusal::Orphan);
+        return Check::Refuse(Refusal::ModifierWithoutPattern);
     }
-    due_again(again)
+    check_again(again)
 }
 
 // A modifier that makes `p` of the last pattern, whose slot is `last`; `again` says that it was given already.
-fn enter_modifier(st: State, last: Slot, again: bool, p: Pattern, given: Given) -> Entered
+fn insert_modifier(st: State, last: Slot, again: bool, p: Pattern, given: Given) -> Inserted
     ensures { λ r. ⌜ r ≡ modifierBy st last again p given ⌝ }
 {
     let none = st.patterns == 0;
-    let due = due_for(none, again);
+    let check = check_for(none, again);
     let addresses = last.addresses;
     let slot = Slot {
         item: Item::Pattern(p),
@@ -54,8 +54,8 @@ fn enter_modifier(st: State, last: Slot, again: bool, p: Pattern, given: Given) 
     let place = st.last;
     let mut state = st;
     state.given = given;
-    Entered {
-        due,
+    Inserted {
+        check,
         state,
         place,
         slot,
@@ -63,8 +63,8 @@ fn enter_modifier(st: State, last: Slot, again: bool, p: Pattern, given: Given) 
 }
 
 // The context of the last pattern.
-pub fn enter_context(st: State, last: Slot, c: Context) -> Entered
-    ensures { λ r. ⌜ r ≡ modifierEntered st last (modifier.Context c) ⌝ }
+pub fn insert_context(st: State, last: Slot, c: Context) -> Inserted
+    ensures { λ r. ⌜ r ≡ modifierInserted st last (modifier.Context c) ⌝ }
 {
     let p = pattern_of(last);
     let distance = p.distance;
@@ -80,12 +80,12 @@ pub fn enter_context(st: State, last: Slot, c: Context) -> Entered
     let mut given = st.given;
     let again = given.context;
     given.context = true;
-    enter_modifier(st, last, again, q, given)
+    insert_modifier(st, last, again, q, given)
 }
 
 // The last pattern ignores letter case.
-pub fn enter_nocase(st: State, last: Slot) -> Entered
-    ensures { λ r. ⌜ r ≡ modifierEntered st last modifier.NoCase ⌝ }
+pub fn insert_nocase(st: State, last: Slot) -> Inserted
+    ensures { λ r. ⌜ r ≡ modifierInserted st last modifier.NoCase ⌝ }
 {
     let p = pattern_of(last);
     let mut q = p;
@@ -93,12 +93,12 @@ pub fn enter_nocase(st: State, last: Slot) -> Entered
     let mut given = st.given;
     let again = given.nocase;
     given.nocase = true;
-    enter_modifier(st, last, again, q, given)
+    insert_modifier(st, last, again, q, given)
 }
 
 // The distance of the last pattern.
-pub fn enter_distance(st: State, last: Slot, d: Shift) -> Entered
-    ensures { λ r. ⌜ r ≡ modifierEntered st last (modifier.Distance d) ⌝ }
+pub fn insert_distance(st: State, last: Slot, d: DistanceValue) -> Inserted
+    ensures { λ r. ⌜ r ≡ modifierInserted st last (modifier.Distance d) ⌝ }
 {
     let p = pattern_of(last);
     let context = p.context;
@@ -108,18 +108,18 @@ pub fn enter_distance(st: State, last: Slot, d: Shift) -> Entered
         len: p.len,
         context,
         nocase: p.nocase,
-        distance: Distance::By(d),
+        distance: Distance::Given(d),
         within,
     };
     let mut given = st.given;
     let again = given.distance;
     given.distance = true;
-    enter_modifier(st, last, again, q, given)
+    insert_modifier(st, last, again, q, given)
 }
 
 // How far the last pattern reaches.
-pub fn enter_within(st: State, last: Slot, w: Reach) -> Entered
-    ensures { λ r. ⌜ r ≡ modifierEntered st last (modifier.Within w) ⌝ }
+pub fn insert_within(st: State, last: Slot, w: WithinValue) -> Inserted
+    ensures { λ r. ⌜ r ≡ modifierInserted st last (modifier.Within w) ⌝ }
 {
     let p = pattern_of(last);
     let context = p.context;
@@ -130,10 +130,10 @@ pub fn enter_within(st: State, last: Slot, w: Reach) -> Entered
         context,
         nocase: p.nocase,
         distance,
-        within: Within::Of(w),
+        within: Within::Given(w),
     };
     let mut given = st.given;
     let again = given.within;
     given.within = true;
-    enter_modifier(st, last, again, q, given)
+    insert_modifier(st, last, again, q, given)
 }

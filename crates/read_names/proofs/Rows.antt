@@ -10,8 +10,8 @@ use Rattle.forms.specs.Bytes.{if_then_else_, sameWord}
 use Rattle.forms.specs.Form.{Form}
 use Rattle.forms.specs.Place.{readAt}
 use Rattle.forms.proofs.Bools.{by-cases}
-use Rattle.definitions.specs.Entries.{Entry}
-use Rattle.definitions.specs.Options.{Option, optionTable, parsed, listed}
+use Rattle.definitions.specs.OptionValues.{OptionValue}
+use Rattle.definitions.specs.Options.{Option, optionTable, namedOption, listed}
 use Rattle.read_names.specs.declared.options.OptionName.{OptionName}
 use Rattle.read_names.specs.declared.options.Lookup.the-variants.{Found, Unlisted}
 use Rattle.read_names.specs.Names.{optionOrder, formOf, optionNames, optionCount, foundIf, optionNamed, parsedAs}
@@ -58,17 +58,17 @@ rows-out os ws n k h u = sym (u ∙ rw (drop-of-length-le os {i = k} h))
 -- ---- what the definition reads
 
 parsed-by : (os : List OptionName) (rows : List Option) → map formOf os ≡ map (λ row. row .form) rows
-    → (n s : List ℕ) (at : ℕ) → parsed rows n s at ≡ parsedAs (optionNamed os (map (λ row. row .name) rows) n) s at
-unfolding parsed optionNamed
+    → (n s : List ℕ) (at : ℕ) → namedOption rows n s at ≡ parsedAs (optionNamed os (map (λ row. row .name) rows) n) s at
+unfolding namedOption optionNamed
 parsed-by [] [] e n s at = refl
 parsed-by [] (r ∷ rows) e n s at = absurd (omega (arith, ap length e))
 parsed-by (o ∷ os) [] e n s at = absurd (omega (arith, ap length e))
 parsed-by (o ∷ os) (r ∷ rows) e n s at =
     by-cases (sameWord n (r .name))
-    (λ t. rw t (ap (λ (f : Form Entry). listed (readAt f s at)) (sym (head-eq-of-cons-eq e))))
+    (λ t. rw t (ap (λ (f : Form OptionValue). listed (readAt f s at)) (sym (head-eq-of-cons-eq e))))
     (λ t. rw t (parsed-by os rows (tail-eq-of-cons-eq e) n s at))
 
-pub parsed-named : (n s : List ℕ) (at : ℕ) → parsed optionTable n s at ≡ parsedAs (optionNamed optionOrder optionNames n) s at
+pub parsed-named : (n s : List ℕ) (at : ℕ) → namedOption optionTable n s at ≡ parsedAs (optionNamed optionOrder optionNames n) s at
 unfolding optionNames
 parsed-named n s at = parsed-by optionOrder optionTable rows-in-order n s at
 

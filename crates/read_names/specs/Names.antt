@@ -8,10 +8,10 @@ use Rattle.forms.specs.Place.{readAt}
 use Rattle.definitions.specs.declared.table.Side.the-variants.{Source, Destination}
 use Rattle.definitions.specs.declared.table.NumberField.the-variants as number
 use Rattle.definitions.specs.declared.table.HeaderField.the-variants as header
-use Rattle.definitions.specs.Entries.{Entry}
+use Rattle.definitions.specs.OptionValues.{OptionValue}
 use Rattle.definitions.specs.Forms.{nameForm, protocolForm, flowForm, addressForm, sameIpForm, numberForm, ttlForm, fieldForm}
 use Rattle.definitions.specs.Forms.{sizeForm, atForm, patternForm, contextForm, noCaseForm, distanceForm, withinForm}
-use Rattle.definitions.specs.Options.{optionTable, Parsed, unlisted, listed}
+use Rattle.definitions.specs.Options.{optionTable, NamedOption, unlisted, listed}
 use Rattle.read_names.specs.declared.options.OptionName.{OptionName}
 use Rattle.read_names.specs.declared.options.OptionName.the-variants as option
 use Rattle.read_names.specs.declared.options.Lookup.{Lookup}
@@ -45,7 +45,7 @@ optionOrder =
     []
 
 -- an option's form behind its name
-unfoldable pub formOf : OptionName → Form Entry
+unfoldable pub formOf : OptionName → Form OptionValue
 formOf option.Name = nameForm
 formOf option.Protocol = protocolForm
 formOf option.Flow = flowForm
@@ -86,6 +86,6 @@ optionNamed (o ∷ os) [] n = Unlisted
 optionNamed (o ∷ os) (w ∷ ws) n = if sameWord n w then Found o else optionNamed os ws n
 
 -- what the definition makes of an option that was looked up, behind its name
-abbrev pub parsedAs : Lookup → List ℕ → ℕ → Parsed
+abbrev pub parsedAs : Lookup → List ℕ → ℕ → NamedOption
 parsedAs (Found o) s at = listed (readAt (formOf o) s at)
 parsedAs Unlisted s at = unlisted

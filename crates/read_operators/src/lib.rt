@@ -1,6 +1,6 @@
 // The operators of tests, and the mask, from a cursor on.
 ghost use Prim.Native.Nat.{_≤_, _<_};
-ghost use Rattle.forms.specs.Pieces.{opt, mark};
+ghost use Rattle.forms.specs.Pieces.{opt, literalAs};
 ghost use Rattle.definitions.specs.Forms.{lessOrGreater, comparison};
 ghost use Rattle.definitions.specs.declared.table.Order.the-variants.{Equal};
 ghost use Rattle.scan_bytes.specs.Capped.{farAbove};
@@ -82,7 +82,7 @@ pub fn then_size_order(s: &[u8], c: Cursor) -> OrderAt
 // One operator, or the other with `=`.
 fn then_or_equal(s: &[u8], c: Cursor, alone: Operator, equal: Operator) -> OperatorAt
     requires { ⌜ Inside (now s) c ⌝ }
-    ensures { λ r. ⌜ Reads (opt alone (mark 61 equal)) (now (s .entry)) c (r .operator) (r .cursor) ⌝ }
+    ensures { λ r. ⌜ Reads (opt alone (literalAs 61 equal)) (now (s .entry)) c (r .operator) (r .cursor) ⌝ }
 {
     if next_is(s, c, b'=') {
         return OperatorAt {
@@ -131,10 +131,10 @@ pub fn then_mask(s: &[u8], c: Cursor, limit: u64) -> Numeric
         let and = then_literal(s, c, b'&');
         let from = then_spaces(s, and);
         let n = then_numeral(s, from, limit);
-        let behind = n.cursor;
+        let after = n.cursor;
         return Numeric {
             value: n.value,
-            cursor: then_spaces(s, behind),
+            cursor: then_spaces(s, after),
         };
     }
     Numeric {

@@ -9,7 +9,7 @@ use borrow.Author.Tests.{lt-ltb}
 use mir.Syntax.{w32}
 use mir.Val.{SFits, toZ, ofZ}
 use mir.ValLaws.{toZ-ofZ, toZ-pos}
-use Rattle.definitions.specs.Limits.{wordMost}
+use Rattle.definitions.specs.Limits.{maxWord}
 use Rattle.definitions.specs.Forms.{signed}
 
 minus-is : (n : ℕ) → pos 0 -ℤ pos n ≡ negℤ (pos n)
@@ -20,7 +20,7 @@ mag-minus : (n : ℕ) → mag (negℤ (pos n)) ≤ n
 mag-minus zero = omega arith
 mag-minus (suc m) = omega arith
 
-module _ (n : ℕ) (h : n ≤ wordMost) where
+module _ (n : ℕ) (h : n ≤ maxWord) where
   pub plain-is : toZ w32 n ≡ pos n
   plain-is = toZ-pos w32 n (omega arith)
 

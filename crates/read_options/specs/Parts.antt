@@ -2,12 +2,12 @@
 use Prim.Native.Nat.{ℕ}
 use Rattle.forms.specs.Bytes.{text}
 use mathlib.Core.Bool.{Bool, true, false}
-use Rattle.forms.specs.Form.{Form, pair, made}
-use Rattle.forms.specs.Pieces.{before, says}
+use Rattle.forms.specs.Form.{Form, pair, fmap}
+use Rattle.forms.specs.Pieces.{terminated, keyword}
 use Rattle.definitions.specs.declared.table.SizeField.{SizeField}
 use Rattle.definitions.specs.declared.table.SizeField.the-variants as sizeFields
 use Rattle.definitions.specs.Numbers.{number, numeral}
-use Rattle.definitions.specs.Entries.{Entry}
+use Rattle.definitions.specs.OptionValues.{OptionValue}
 use Rattle.definitions.specs.Forms.{spaces, valued, comma, test, comparison, referenceWord}
 use Rattle.definitions.specs.declared.table.NumberField.{NumberField}
 use Rattle.definitions.specs.declared.table.HeaderField.{HeaderField}
@@ -24,13 +24,13 @@ abbrev pub sizeField : Form SizeField
 sizeField = comma sizeFields.Payload sizeWord
 
 abbrev pub relative : Form Bool
-relative = comma false (says (text "relative") true)
+relative = comma false (keyword (text "relative") true)
 
 abbrev pub reference : Form Reference
 reference = comma references.Match referenceWord
 
 abbrev pub reversed : Form Bool
-reversed = comma false (says (text "reverse") true)
+reversed = comma false (keyword (text "reverse") true)
 
 -- a reference, only then `,reverse`
 abbrev pub directed : Form (Reference × Bool)
@@ -38,10 +38,10 @@ directed = comma (references.Match, false) (pair referenceWord reversed)
 
 -- ---- options over the limit: at a field's own limit they are definitions' `numberForm` and `fieldForm`
 
-abbrev pub numberWithin : NumberField → ℕ → Form Entry
-numberWithin f limit = valued (made (λ (n : ℕ). test (item.Number (record { field = f; number = n }))) (number limit))
+abbrev pub numberWithin : NumberField → ℕ → Form OptionValue
+numberWithin f limit = valued (fmap (λ (n : ℕ). test (item.Number (record { field = f; number = n }))) (number limit))
 
-abbrev pub fieldWithin : HeaderField → ℕ → Form Entry
+abbrev pub fieldWithin : HeaderField → ℕ → Form OptionValue
 fieldWithin f limit =
-    valued (made (λ (p : ℕ × (Operator × ℕ)). test (item.Field (record { field = f; mask = p .0; operator = p .1 .0; number = p .1 .1 })))
-    (pair (masked limit) (pair (before comparison spaces) (numeral limit))))
+    valued (fmap (λ (p : ℕ × (Operator × ℕ)). test (item.Field (record { field = f; mask = p .0; operator = p .1 .0; number = p .1 .1 })))
+    (pair (masked limit) (pair (terminated comparison spaces) (numeral limit))))

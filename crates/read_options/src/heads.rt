@@ -3,9 +3,9 @@ ghost use mathlib.Core.List.{[]};
 ghost use Prim.Native.Nat.{_≤_};
 ghost use lib.ListN.{length};
 ghost use Rattle.definitions.specs.Forms.{protocolForm, flowForm};
-ghost use Rattle.read_value.specs.Values.{entryOf, Plain};
+ghost use Rattle.read_value.specs.Values.{optionValueOf, Plain};
 ghost use Rattle.scan_cursors.specs.Reads.{Reads};
-ghost use Rattle.scan_cursors.specs.declared.Cursor.the-variants.{Going};
+ghost use Rattle.scan_cursors.specs.declared.Cursor.the-variants.{Parsed};
 use crate::valued::Valued;
 use read_value::Value;
 use read_words::then_flow;
@@ -16,7 +16,7 @@ use scan_steps::signs::then_closing;
 // The option protocol.
 pub fn protocol_option(s: &[u8], at: usize) -> Valued
     requires { ⌜ at ≤ length (now s) ⌝ }
-    ensures { λ r. ⌜ Reads protocolForm (now (s .entry)) (Going at) (entryOf (now (s .entry)) (r .value) [] []) (r .cursor) × Plain (r .value) ⌝ }
+    ensures { λ r. ⌜ Reads protocolForm (now (s .entry)) (Parsed at) (optionValueOf (now (s .entry)) (r .value) [] []) (r .cursor) × Plain (r .value) ⌝ }
 {
     let c = gap_at(s, at);
     let n = then_protocol(s, c);
@@ -31,7 +31,7 @@ pub fn protocol_option(s: &[u8], at: usize) -> Valued
 // The option flow.
 pub fn flow_option(s: &[u8], at: usize) -> Valued
     requires { ⌜ at ≤ length (now s) ⌝ }
-    ensures { λ r. ⌜ Reads flowForm (now (s .entry)) (Going at) (entryOf (now (s .entry)) (r .value) [] []) (r .cursor) × Plain (r .value) ⌝ }
+    ensures { λ r. ⌜ Reads flowForm (now (s .entry)) (Parsed at) (optionValueOf (now (s .entry)) (r .value) [] []) (r .cursor) × Plain (r .value) ⌝ }
 {
     let c = gap_at(s, at);
     let f = then_flow(s, c);

@@ -3,17 +3,17 @@ ghost use mathlib.Core.Path.{_≡_};
 ghost use mathlib.Core.List.{[]};
 ghost use Prim.Native.Nat.{_≤_};
 ghost use lib.ListN.{length};
-ghost use Rattle.definitions.specs.Limits.{wordMost};
+ghost use Rattle.definitions.specs.Limits.{maxWord};
 ghost use Rattle.definitions.specs.Forms.{contextForm, noCaseForm, signed, distanceForm, withinForm};
-ghost use Rattle.read_value.specs.Values.{entryOf, Plain};
+ghost use Rattle.read_value.specs.Values.{optionValueOf, Plain};
 ghost use Rattle.scan_cursors.specs.Reads.{Reads};
-ghost use Rattle.scan_cursors.specs.declared.Cursor.the-variants.{Going};
+ghost use Rattle.scan_cursors.specs.declared.Cursor.the-variants.{Parsed};
 use crate::commas::then_comma_reference;
 use crate::commas::then_directed;
 use crate::valued::Valued;
-use definitions::limits::WORD_MOST;
-use definitions::table::Reach;
-use definitions::table::Shift;
+use definitions::limits::MAX_WORD;
+use definitions::table::DistanceValue;
+use definitions::table::WithinValue;
 use read_value::Value;
 use read_words::then_context;
 use scan_pieces::signs::closing_at;
@@ -25,7 +25,7 @@ use scan_steps::signs::then_optional_literal;
 // The option context.
 pub fn context_option(s: &[u8], at: usize) -> Valued
     requires { ⌜ at ≤ length (now s) ⌝ }
-    ensures { λ r. ⌜ Reads contextForm (now (s .entry)) (Going at) (entryOf (now (s .entry)) (r .value) [] []) (r .cursor) × Plain (r .value) ⌝ }
+    ensures { λ r. ⌜ Reads contextForm (now (s .entry)) (Parsed at) (optionValueOf (now (s .entry)) (r .value) [] []) (r .cursor) × Plain (r .value) ⌝ }
 {
     let c = gap_at(s, at);
     let w = then_context(s, c);
@@ -41,7 +41,7 @@ pub fn context_option(s: &[u8], at: usize) -> Valued
 // The option no_case.
 pub fn no_case_option(s: &[u8], at: usize) -> Valued
     requires { ⌜ at ≤ length (now s) ⌝ }
-    ensures { λ r. ⌜ Reads noCaseForm (now (s .entry)) (Going at) (entryOf (now (s .entry)) (r .value) [] []) (r .cursor) × Plain (r .value) ⌝ }
+    ensures { λ r. ⌜ Reads noCaseForm (now (s .entry)) (Parsed at) (optionValueOf (now (s .entry)) (r .value) [] []) (r .cursor) × Plain (r .value) ⌝ }
 {
     Valued {
         value: Value::NoCase,
@@ -51,7 +51,7 @@ pub fn no_case_option(s: &[u8], at: usize) -> Valued
 
 // `-` and a number of at most 16 bits.
 fn signed_of(minus: bool, n: u64) -> i32
-    requires { ⌜ n ≤ wordMost ⌝ }
+    requires { ⌜ n ≤ maxWord ⌝ }
     ensures { λ r. ⌜ r ≡ signed minus n ⌝ }
 {
     let v = n as i32;
@@ -61,12 +61,12 @@ fn signed_of(minus: bool, n: u64) -> i32
 // The option distance.
 pub fn distance_option(s: &[u8], at: usize) -> Valued
     requires { ⌜ at ≤ length (now s) ⌝ }
-    ensures { λ r. ⌜ Reads distanceForm (now (s .entry)) (Going at) (entryOf (now (s .entry)) (r .value) [] []) (r .cursor) × Plain (r .value) ⌝ }
+    ensures { λ r. ⌜ Reads distanceForm (now (s .entry)) (Parsed at) (optionValueOf (now (s .entry)) (r .value) [] []) (r .cursor) × Plain (r .value) ⌝ }
 {
     let c = gap_at(s, at);
     let minus = then_optional_literal(s, c, b'-');
     let c = minus.cursor;
-    let n = then_number(s, c, WORD_MOST);
+    let n = then_number(s, c, MAX_WORD);
     let c = n.cursor;
     let r = then_directed(s, c);
     let c = r.cursor;
@@ -74,7 +74,7 @@ pub fn distance_option(s: &[u8], at: usize) -> Valued
     let offset = signed_of(minus.yes, n.value);
     let reference = r.reference;
     Valued {
-        value: Value::Distance(Shift {
+        value: Value::Distance(DistanceValue {
             offset,
             reference,
             reverse: r.reverse,
@@ -86,10 +86,10 @@ pub fn distance_option(s: &[u8], at: usize) -> Valued
 // The option within.
 pub fn within_option(s: &[u8], at: usize) -> Valued
     requires { ⌜ at ≤ length (now s) ⌝ }
-    ensures { λ r. ⌜ Reads withinForm (now (s .entry)) (Going at) (entryOf (now (s .entry)) (r .value) [] []) (r .cursor) × Plain (r .value) ⌝ }
+    ensures { λ r. ⌜ Reads withinForm (now (s .entry)) (Parsed at) (optionValueOf (now (s .entry)) (r .value) [] []) (r .cursor) × Plain (r .value) ⌝ }
 {
     let c = gap_at(s, at);
-    let n = then_number(s, c, WORD_MOST);
+    let n = then_number(s, c, MAX_WORD);
     let c = n.cursor;
     let r = then_comma_reference(s, c);
     let c = r.cursor;
@@ -97,7 +97,7 @@ pub fn within_option(s: &[u8], at: usize) -> Valued
     let number = n.value as u16;
     let reference = r.reference;
     Valued {
-        value: Value::Within(Reach { number, reference }),
+        value: Value::Within(WithinValue { number, reference }),
         cursor,
     }
 }

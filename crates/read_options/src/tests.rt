@@ -2,17 +2,17 @@
 ghost use mathlib.Core.List.{[]};
 ghost use Prim.Native.Nat.{_≤_};
 ghost use lib.ListN.{length};
-ghost use Rattle.definitions.specs.Limits.{wordMost};
+ghost use Rattle.definitions.specs.Limits.{maxWord};
 ghost use Rattle.definitions.specs.Forms.{sameIpForm, ttlForm, sizeForm, atForm};
 ghost use Rattle.read_options.specs.Parts.{numberWithin, fieldWithin};
-ghost use Rattle.read_value.specs.Values.{entryOf, Plain};
+ghost use Rattle.read_value.specs.Values.{optionValueOf, Plain};
 ghost use Rattle.scan_cursors.specs.Reads.{Reads};
-ghost use Rattle.scan_cursors.specs.declared.Cursor.the-variants.{Going};
+ghost use Rattle.scan_cursors.specs.declared.Cursor.the-variants.{Parsed};
 use crate::commas::then_relative;
 use crate::commas::then_size_field;
 use crate::valued::Valued;
-use definitions::limits::BYTE_MOST;
-use definitions::limits::WORD_MOST;
+use definitions::limits::MAX_BYTE;
+use definitions::limits::MAX_WORD;
 use definitions::table::AtTest;
 use definitions::table::FieldTest;
 use definitions::table::HeaderField;
@@ -36,7 +36,7 @@ use scan_steps::signs::then_spaces;
 // The option same_ip.
 pub fn same_ip_option(s: &[u8], at: usize) -> Valued
     requires { ⌜ at ≤ length (now s) ⌝ }
-    ensures { λ r. ⌜ Reads sameIpForm (now (s .entry)) (Going at) (entryOf (now (s .entry)) (r .value) [] []) (r .cursor) × Plain (r .value) ⌝ }
+    ensures { λ r. ⌜ Reads sameIpForm (now (s .entry)) (Parsed at) (optionValueOf (now (s .entry)) (r .value) [] []) (r .cursor) × Plain (r .value) ⌝ }
 {
     Valued {
         value: Value::Test(Item::SameIp),
@@ -46,8 +46,8 @@ pub fn same_ip_option(s: &[u8], at: usize) -> Valued
 
 // ip_id, src_port, dst_port and ip_tos, whose limit the caller names.
 pub fn number_option(s: &[u8], at: usize, field: NumberField, limit: u64) -> Valued
-    requires { ⌜ (at ≤ length (now s)) × (limit ≤ wordMost) ⌝ }
-    ensures { λ r. ⌜ Reads (numberWithin field limit) (now (s .entry)) (Going at) (entryOf (now (s .entry)) (r .value) [] []) (r .cursor) × Plain (r .value) ⌝ }
+    requires { ⌜ (at ≤ length (now s)) × (limit ≤ maxWord) ⌝ }
+    ensures { λ r. ⌜ Reads (numberWithin field limit) (now (s .entry)) (Parsed at) (optionValueOf (now (s .entry)) (r .value) [] []) (r .cursor) × Plain (r .value) ⌝ }
 {
     let c = gap_at(s, at);
     let n = then_number(s, c, limit);
@@ -63,12 +63,12 @@ pub fn number_option(s: &[u8], at: usize, field: NumberField, limit: u64) -> Val
 // The option ip_ttl.
 pub fn ttl_option(s: &[u8], at: usize) -> Valued
     requires { ⌜ at ≤ length (now s) ⌝ }
-    ensures { λ r. ⌜ Reads ttlForm (now (s .entry)) (Going at) (entryOf (now (s .entry)) (r .value) [] []) (r .cursor) × Plain (r .value) ⌝ }
+    ensures { λ r. ⌜ Reads ttlForm (now (s .entry)) (Parsed at) (optionValueOf (now (s .entry)) (r .value) [] []) (r .cursor) × Plain (r .value) ⌝ }
 {
     let c = gap_at(s, at);
     let o = then_order(s, c);
     let c = o.cursor;
-    let n = then_number(s, c, BYTE_MOST);
+    let n = then_number(s, c, MAX_BYTE);
     let c = n.cursor;
     let cursor = then_closing(s, c);
     let order = o.order;
@@ -81,8 +81,8 @@ pub fn ttl_option(s: &[u8], at: usize) -> Valued
 
 // ip.total_length, ip.id, ip.checksum and ip.ttl, whose limit the caller names.
 pub fn field_option(s: &[u8], at: usize, field: HeaderField, limit: u64) -> Valued
-    requires { ⌜ (at ≤ length (now s)) × (limit ≤ wordMost) ⌝ }
-    ensures { λ r. ⌜ Reads (fieldWithin field limit) (now (s .entry)) (Going at) (entryOf (now (s .entry)) (r .value) [] []) (r .cursor) × Plain (r .value) ⌝ }
+    requires { ⌜ (at ≤ length (now s)) × (limit ≤ maxWord) ⌝ }
+    ensures { λ r. ⌜ Reads (fieldWithin field limit) (now (s .entry)) (Parsed at) (optionValueOf (now (s .entry)) (r .value) [] []) (r .cursor) × Plain (r .value) ⌝ }
 {
     let c = gap_at(s, at);
     let m = then_mask(s, c, limit);
@@ -110,12 +110,12 @@ pub fn field_option(s: &[u8], at: usize, field: HeaderField, limit: u64) -> Valu
 // The option data_size.
 pub fn size_option(s: &[u8], at: usize) -> Valued
     requires { ⌜ at ≤ length (now s) ⌝ }
-    ensures { λ r. ⌜ Reads sizeForm (now (s .entry)) (Going at) (entryOf (now (s .entry)) (r .value) [] []) (r .cursor) × Plain (r .value) ⌝ }
+    ensures { λ r. ⌜ Reads sizeForm (now (s .entry)) (Parsed at) (optionValueOf (now (s .entry)) (r .value) [] []) (r .cursor) × Plain (r .value) ⌝ }
 {
     let c = gap_at(s, at);
     let o = then_size_order(s, c);
     let c = o.cursor;
-    let n = then_number(s, c, WORD_MOST);
+    let n = then_number(s, c, MAX_WORD);
     let c = n.cursor;
     let f = then_size_field(s, c);
     let c = f.cursor;
@@ -136,10 +136,10 @@ pub fn size_option(s: &[u8], at: usize) -> Valued
 // The option data_at.
 pub fn at_option(s: &[u8], at: usize) -> Valued
     requires { ⌜ at ≤ length (now s) ⌝ }
-    ensures { λ r. ⌜ Reads atForm (now (s .entry)) (Going at) (entryOf (now (s .entry)) (r .value) [] []) (r .cursor) × Plain (r .value) ⌝ }
+    ensures { λ r. ⌜ Reads atForm (now (s .entry)) (Parsed at) (optionValueOf (now (s .entry)) (r .value) [] []) (r .cursor) × Plain (r .value) ⌝ }
 {
     let c = gap_at(s, at);
-    let n = then_number(s, c, WORD_MOST);
+    let n = then_number(s, c, MAX_WORD);
     let c = n.cursor;
     let m = then_relative(s, c);
     let c = m.cursor;

@@ -6,7 +6,7 @@ ghost use Rattle.definitions.specs.Refusals.{refuseIf};
 ghost use Rattle.definitions.specs.Tables.{bare, noSlot as emptySlot};
 ghost use Rattle.read_state.specs.Sound.{withoutItem};
 ghost use Rattle.read_state.specs.State.{stateOf};
-use definitions::answers::Due;
+use definitions::answers::Check;
 use definitions::answers::Refusal;
 use definitions::limits::ITEMS;
 use definitions::limits::PATTERNS;
@@ -48,8 +48,8 @@ pub struct State {
 
 // What is due for a value, the state behind it, and the slot that it puts at a place among the items; a place past their end is none. Where something is
 // due the others say nothing.
-pub struct Entered {
-    pub due: Due,
+pub struct Inserted {
+    pub check: Check,
     pub state: State,
     pub place: usize,
     pub slot: Slot,
@@ -67,12 +67,12 @@ pub fn no_slot() -> Slot
 }
 
 // An option that makes no item and changes none.
-pub fn no_item(due: Due, state: State) -> Entered
-    ensures { λ r. ⌜ r ≡ withoutItem due state ⌝ }
+pub fn no_item(check: Check, state: State) -> Inserted
+    ensures { λ r. ⌜ r ≡ withoutItem check state ⌝ }
 {
     let slot = no_slot();
-    Entered {
-        due,
+    Inserted {
+        check,
         state,
         place: ITEMS,
         slot,
@@ -108,13 +108,13 @@ pub fn fresh() -> State
 }
 
 // 8, if it was given already.
-pub fn due_again(again: bool) -> Due
-    ensures { λ r. ⌜ r ≡ refuseIf again Refusal.Again Due.Fine ⌝ }
+pub fn check_again(again: bool) -> Check
+    ensures { λ r. ⌜ r ≡ refuseIf again Refusal.Repeated Check.Pass ⌝ }
 {
     if again {
-        return Due::No(Refusal::Again);
+        return Check::Refuse(Refusal::Repeated);
     }
-    Due::Fine
+    Check::Pass
 }
 
 // A pattern of `n` bytes without modifiers.
@@ -126,7 +126,7 @@ pub fn bare_pattern(negated: bool, n: usize) -> Pattern
         len: n,
         context: Context::Packet,
         nocase: false,
-        distance: Distance::Free,
-        within: Within::Free,
+        distance: Distance::Unset,
+        within: Within::Unset,
     }
 }

@@ -7,14 +7,14 @@ use native.Mathlib.Omega.{arith}
 use lib.ListN.{length, drop, getD}
 use types.Run.{OneOf}
 use denote.Enum.Declared.{tagOf}
-use Rattle.forms.specs.Scan.{begins, first}
+use Rattle.forms.specs.Scan.{begins, firstSet}
 use Rattle.definitions.specs.Numbers.{hexDigits}
 use Rattle.definitions.specs.Forms as forms
 use Rattle.definitions.specs.Forms.{spaces, hexPair, block, plainBytes, patternBytes}
-use Rattle.read_value.specs.Values.{Room, appended}
+use Rattle.read_value.specs.Values.{PatternBytes, appended}
 use Rattle.scan_cursors.proofs.Cursor as cursor-type
 use Rattle.scan_cursors.specs.declared.Cursor.{Cursor}
-use Rattle.scan_cursors.specs.declared.Cursor.the-variants.{Going, Stopped}
+use Rattle.scan_cursors.specs.declared.Cursor.the-variants.{Parsed, Failed}
 use Rattle.scan_cursors.specs.Reads.{Reads}
 use Rattle.scan_cursors.proofs.Readings.{made-reads, before-reads, stopped-reads}
 use Rattle.scan_cursors.proofs.Choices.{first-reads, second-reads}
@@ -29,28 +29,28 @@ use Rattle.read_stored.proofs.Rooms.{appended-none, Writing, Writes, wr
 abbrev pub pairWriting : Writing spacedPair pairs
 pairWriting = record { full = refl; bytes = λ vs. vs; one = λ v. v ∷ []; none = refl; snoc = λ vs v. refl; read = λ s at vs d r. r }
 
-module _ (s : List ℕ) (at : ℕ) (room : Room) (ready : Ready s (Going at) room) {here : ℕ} {to : Room}
-    (u : Writes pairWriting s at room here to) {v : ℕ} {d : Cursor} (r : Reads hexPair s (Going here) v d) where
-  pub pairs-halt : OneOf (1 ∷ 2 ∷ []) (tagOf cursor-type.the-type d) → Stores pairs s (Going at) room to d
+module _ (s : List ℕ) (at : ℕ) (room : PatternBytes) (ready : Ready s (Parsed at) room) {here : ℕ} {to : PatternBytes}
+    (u : Writes pairWriting s at room here to) {v : ℕ} {d : Cursor} (r : Reads hexPair s (Parsed here) v d) where
+  pub pairs-halt : OneOf (1 ∷ 2 ∷ []) (tagOf cursor-type.the-type d) → Stores pairs s (Parsed at) room to d
   pairs-halt k =
       let z = halted d k refl r in
-      let q : d ≡ Stopped (z .0) = z .1 in
-      let r′ : Reads hexPair s (Going here) v (Stopped (z .0)) = rw q at r in
+      let q : d ≡ Failed (z .0) = z .1 in
+      let r′ : Reads hexPair s (Parsed here) v (Failed (z .0)) = rw q at r in
       let stop = before-reads (u .turns .inside) r′ (stopped-reads spaces s (z .0) [] (r′ .inside)) in
       rw q (writes-stop pairWriting s at room ready u v [] stop (appended-none to))
 
-  module _ {n : ℕ} (e : d ≡ Going n) where
-    told : Reads hexPair s (Going here) v (Going n)
+  module _ {n : ℕ} (e : d ≡ Parsed n) where
+    told : Reads hexPair s (Parsed here) v (Parsed n)
     told = rw e at r
 
     pub pair-end : n ≤ length s
     pair-end = told .inside
 
     pub pair-room : to .used < length (to .bytes)
-    pair-room = let w = writes-ready pairWriting s at room ready u in omega (arith, w .behind, w .short, w .full, pair-end, ahead-more (w .inside) told refl)
+    pair-room = let w = writes-ready pairWriting s at room ready u in omega (arith, w .after, w .short, w .full, pair-end, ahead-more (w .inside) told refl)
 
-    module _ {x : List ℕ} {next : ℕ} (q : Reads spaces s (Going n) x (Going next)) where
-      spaced : Reads spacedPair s (Going here) v (Going next)
+    module _ {x : List ℕ} {next : ℕ} (q : Reads spaces s (Parsed n) x (Parsed next)) where
+      spaced : Reads spacedPair s (Parsed here) v (Parsed next)
       spaced = before-reads (u .turns .inside) told q
 
       further : here < next
@@ -59,11 +59,11 @@ module _ (s : List ℕ) (at : ℕ) (room : Room) (ready : Ready s (Going at) roo
       pub pairs-less : length s - next < length s - here
       pairs-less = omega (arith, further, q .inside)
 
-      module _ {to′ : Room} (k : to′ ≡ appended to (v ∷ [])) where
+      module _ {to′ : PatternBytes} (k : to′ ≡ appended to (v ∷ [])) where
         pub pairs-on : begins hexDigits (drop next s) ≡ true → Writes pairWriting s at room next to′
         pairs-on t = writes-on pairWriting s at room ready u v spaced k (omega (arith, further)) t
 
-        pub pairs-last : begins hexDigits (drop next s) ≡ false → Stores pairs s (Going at) room to′ (Going next)
+        pub pairs-last : begins hexDigits (drop next s) ≡ false → Stores pairs s (Parsed at) room to′ (Parsed next)
         pairs-last t = writes-last pairWriting s at room ready u v spaced k (omega (arith, further)) t
 
 -- ---- the elements of a pattern
@@ -83,34 +83,34 @@ elementWriting =
       read = λ s at vs d r. made-reads forms.joined r;
     }
 
-module _ (s : List ℕ) (at : ℕ) (room : Room) (ready : Ready s (Going at) room) {here : ℕ} {to to′ : Room}
-    (u : Writes elementWriting s at room here to) {d : Cursor} (r : Stores element s (Going here) to to′ d) where
-  pub elements-halt : OneOf (1 ∷ 2 ∷ []) (tagOf cursor-type.the-type d) → Stores patternBytes s (Going at) room to′ d
+module _ (s : List ℕ) (at : ℕ) (room : PatternBytes) (ready : Ready s (Parsed at) room) {here : ℕ} {to to′ : PatternBytes}
+    (u : Writes elementWriting s at room here to) {d : Cursor} (r : Stores element s (Parsed here) to to′ d) where
+  pub elements-halt : OneOf (1 ∷ 2 ∷ []) (tagOf cursor-type.the-type d) → Stores patternBytes s (Parsed at) room to′ d
   elements-halt k =
       let z = halted d k refl (r .1 .read) in
-      let q : d ≡ Stopped (z .0) = z .1 in
+      let q : d ≡ Failed (z .0) = z .1 in
       rw q (writes-stop elementWriting s at room ready u (r .0) (r .0) (rw q at (r .1 .read)) (r .1 .kept))
 
-  module _ {n : ℕ} (e : d ≡ Going n) where
-    told-element : Reads element s (Going here) (r .0) (Going n)
+  module _ {n : ℕ} (e : d ≡ Parsed n) where
+    told-element : Reads element s (Parsed here) (r .0) (Parsed n)
     told-element = rw e at (r .1 .read)
 
     pub elements-less : length s - n < length s - here
     elements-less = omega (arith, ahead-more (u .turns .inside) told-element refl, told-element .inside)
 
-    pub elements-on : begins (first element) (drop n s) ≡ true → Writes elementWriting s at room n to′
+    pub elements-on : begins (firstSet element) (drop n s) ≡ true → Writes elementWriting s at room n to′
     elements-on t = writes-on elementWriting s at room ready u (r .0) told-element (r .1 .kept) (r .1 .grown n e) t
 
-    pub elements-last : begins (first element) (drop n s) ≡ false → Stores patternBytes s (Going at) room to′ (Going n)
+    pub elements-last : begins (firstSet element) (drop n s) ≡ false → Stores patternBytes s (Parsed at) room to′ (Parsed n)
     elements-last t = writes-last elementWriting s at room ready u (r .0) told-element (r .1 .kept) (r .1 .grown n e) t
 
 -- a plain byte, or a block
-module _ (s : List ℕ) (at : ℕ) (room : Room) where
-  pub plain-room : Ready s (Going at) room → begins plainBytes (drop at s) ≡ true → room .used < length (room .bytes)
-  plain-room w t = omega (arith, w .behind, w .short, w .full, begins-in plainBytes s at t)
+module _ (s : List ℕ) (at : ℕ) (room : PatternBytes) where
+  pub plain-room : Ready s (Parsed at) room → begins plainBytes (drop at s) ≡ true → room .used < length (room .bytes)
+  plain-room w t = omega (arith, w .after, w .short, w .full, begins-in plainBytes s at t)
 
-  pub plain-stored : {to : Room} → begins plainBytes (drop at s) ≡ true → to ≡ appended room (getD s at 0 ∷ [])
-      → Stores element s (Going at) room to (Going (at + 1))
+  pub plain-stored : {to : PatternBytes} → begins plainBytes (drop at s) ≡ true → to ≡ appended room (getD s at 0 ∷ [])
+      → Stores element s (Parsed at) room to (Parsed (at + 1))
   plain-stored t e = (
     getD s at 0 ∷ [],
     record {
@@ -120,6 +120,6 @@ module _ (s : List ℕ) (at : ℕ) (room : Room) where
     },
   )
 
-  pub block-stored : {to : Room} {d : Cursor} → begins plainBytes (drop at s) ≡ false → Stores block s (Going at) room to d
-      → Stores element s (Going at) room to d
+  pub block-stored : {to : PatternBytes} {d : Cursor} → begins plainBytes (drop at s) ≡ false → Stores block s (Parsed at) room to d
+      → Stores element s (Parsed at) room to d
   block-stored t r = (r .0, record { read = second-reads refl t (r .1 .read); kept = r .1 .kept; grown = r .1 .grown })

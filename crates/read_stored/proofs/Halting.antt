@@ -12,20 +12,20 @@ use Rattle.forms.specs.Place.{placed, readAt}
 use Rattle.forms.proofs.Sound.{never}
 use Rattle.forms.proofs.Pieces.{free, over-free}
 use Rattle.scan_cursors.specs.declared.Cursor.{Cursor}
-use Rattle.scan_cursors.specs.declared.Cursor.the-variants.{Going, Over, Stopped}
+use Rattle.scan_cursors.specs.declared.Cursor.the-variants.{Parsed, OutOfRange, Failed}
 use Rattle.scan_cursors.proofs.Cursor as cursor-type
 use Rattle.scan_cursors.specs.Reads.{readBy, Reads}
 
-never-over : {A : Type 0} {f : Form A} {s : List ℕ} {i p n : ℕ} {v : A} → free f ≡ true → Reads f s (Going i) v (Over p n) → _≡_ {A = ℕ} 0 1
+never-over : {A : Type 0} {f : Form A} {s : List ℕ} {i p n : ℕ} {v : A} → free f ≡ true → Reads f s (Parsed i) v (OutOfRange p n) → _≡_ {A = ℕ} 0 1
 unfolding readAt
 never-over {A} {f} {s} {i} {p} {n} {v} w r = go (scan f (drop i s)) (rw (over-free f w (drop i s)) at (r .reads))
   where
-    go : (o : Scan A) → readBy v (Over p n) ≡ placed s [] o → _≡_ {A = ℕ} 0 1
+    go : (o : Scan A) → readBy v (OutOfRange p n) ≡ placed s [] o → _≡_ {A = ℕ} 0 1
     go (Got a m) q = never (cc)
     go (Stop m) q = never (cc)
 
 pub halted : {A : Type 0} {f : Form A} {s : List ℕ} {i : ℕ} {v : A} (d : Cursor) → OneOf (1 ∷ 2 ∷ []) (tagOf cursor-type.the-type d) → free f ≡ true
-    → Reads f s (Going i) v d → (p : ℕ) × (d ≡ Stopped p)
-halted (Going n) k w r = absurd (miss (1 ∷ 2 ∷ []) 0 tt k)
-halted (Over p n) k w r = never (never-over w r)
-halted (Stopped p) k w r = (p, refl)
+    → Reads f s (Parsed i) v d → (p : ℕ) × (d ≡ Failed p)
+halted (Parsed n) k w r = absurd (miss (1 ∷ 2 ∷ []) 0 tt k)
+halted (OutOfRange p n) k w r = never (never-over w r)
+halted (Failed p) k w r = (p, refl)

@@ -15,8 +15,8 @@ use Rattle.forms.proofs.Bools.{by-cases}
 use Rattle.forms.proofs.Sound.{never}
 use Rattle.definitions.specs.Numbers.{hexDigits, digitValue, valueOf}
 use Rattle.definitions.specs.Forms.{hexPair}
-use Rattle.scan_cursors.specs.declared.Cursor.the-variants.{Going, Stopped}
-use Rattle.definitions.specs.Limits.{byteMost}
+use Rattle.scan_cursors.specs.declared.Cursor.the-variants.{Parsed, Failed}
+use Rattle.definitions.specs.Limits.{maxByte}
 use Rattle.scan_bytes.specs.Capped.{farAbove, capped}
 use Rattle.scan_cursors.specs.Reads.{Reads}
 use Rattle.scan_cursors.proofs.Readings.{made-reads, pair-reads, stopped-reads, stopped-any}
@@ -42,7 +42,7 @@ abbrev byteOf : ℕ × ℕ → ℕ
 byteOf p = digitValue (p .0) * 16 + digitValue (p .1)
 
 module _ (s : List ℕ) (at : ℕ) where
-  pub pair-none : at ≤ length s → begins hexDigits (drop at s) ≡ false → Reads hexPair s (Going at) 0 (Stopped at)
+  pub pair-none : at ≤ length s → begins hexDigits (drop at s) ≡ false → Reads hexPair s (Parsed at) 0 (Failed at)
   pair-none h t =
       stopped-any (made-reads byteOf (pair-reads h (byte-none hexDigits s at h t 0) (stopped-reads (byte hexDigits) s at 0 h))) 0
 
@@ -50,7 +50,7 @@ module _ (s : List ℕ) (at : ℕ) where
     half-in : at + 1 ≤ length s
     half-in = begun-in hexDigits s at t
 
-    pub pair-half : begins hexDigits (drop (at + 1) s) ≡ false → Reads hexPair s (Going at) 0 (Stopped (at + 1))
+    pub pair-half : begins hexDigits (drop (at + 1) s) ≡ false → Reads hexPair s (Parsed at) 0 (Failed (at + 1))
     pair-half u =
         stopped-any (made-reads byteOf (pair-reads (omega (arith, half-in)) (byte-begun hexDigits s at t) (byte-none hexDigits s (at + 1) half-in u 0))) 0
 
@@ -75,10 +75,10 @@ module _ (s : List ℕ) (at : ℕ) where
           let q : v ≡ capped ((0 * 16 + digitValue (getD s at 0)) * 16 + digitValue (getD s (at + 1) 0)) = rw two at e in
           q ∙ rw (lt-ltb ((0 * 16 + digitValue (getD s at 0)) * 16 + digitValue (getD s (at + 1) 0)) farAbove (omega arith)) (omega arith)
 
-      pub pair-fits : (v : ℕ) → v ≡ capped (valueOf 16 0 (take (at + 2 - at) (drop at s))) → v ≤ byteMost
+      pub pair-fits : (v : ℕ) → v ≡ capped (valueOf 16 0 (take (at + 2 - at) (drop at s))) → v ≤ maxByte
       pair-fits v e = omega (arith, written v e, digit at t, digit (at + 1) u)
 
-      pub pair-whole : (v : ℕ) → v ≡ capped (valueOf 16 0 (take (at + 2 - at) (drop at s))) → Reads hexPair s (Going at) v (Going (at + 2))
+      pub pair-whole : (v : ℕ) → v ≡ capped (valueOf 16 0 (take (at + 2 - at) (drop at s))) → Reads hexPair s (Parsed at) v (Parsed (at + 2))
       pair-whole v e =
           let q : at + 1 + 1 ≡ at + 2 = omega arith in
           rw (written v e, ← q)

@@ -3,10 +3,10 @@ use Prim.Native.Nat.{ℕ}
 use mathlib.Core.Path.{_≡_}
 use mathlib.Core.List.{List, _∷_}
 use lib.ListN.{length, take}
-use Rattle.forms.specs.Form.{Form, pair, star, made}
-use Rattle.forms.specs.Pieces.{skip, opt, sign}
+use Rattle.forms.specs.Form.{Form, pair, many, fmap}
+use Rattle.forms.specs.Pieces.{preceded, opt, literal}
 use Rattle.definitions.specs.declared.table.Address.{Address}
-use Rattle.definitions.specs.Limits.{addressesMost, prefixMost}
+use Rattle.definitions.specs.Limits.{maxAddresses, maxPrefix}
 use Rattle.definitions.specs.Lists.{padded}
 use Rattle.definitions.specs.Numbers.{number}
 use Rattle.definitions.specs.Forms.{address}
@@ -16,15 +16,15 @@ use Rattle.scan_cursors.specs.Reads.{Reads}
 
 -- as within Forms.address and Forms.addresses
 abbrev pub prefixed : Form ℕ
-prefixed = opt prefixMost (skip (sign 47) (number prefixMost))
+prefixed = opt maxPrefix (preceded (literal 47) (number maxPrefix))
 
 abbrev pub listed : Form (List Address)
-listed = made (λ (p : Address × List Address). p .0 ∷ p .1) (pair address (star (skip (sign 44) address)))
+listed = fmap (λ (p : Address × List Address). p .0 ∷ p .1) (pair address (many (preceded (literal 44) address)))
 
 -- all are counted, and the first are kept
 pub record Listed (f : Form (List Address)) (s : List ℕ) (c : Cursor) (al list : List Address) (count : ℕ) (d : Cursor) : Type 0 where
   pub read : Reads f s c al d
-  pub kept : list ≡ padded addressesMost noAddress (take addressesMost al)
+  pub kept : list ≡ padded maxAddresses noAddress (take maxAddresses al)
   pub counted : count ≡ length al
 
 abbrev pub Lists : Form (List Address) → List ℕ → Cursor → List Address → ℕ → Cursor → Type 0

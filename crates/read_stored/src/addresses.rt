@@ -2,7 +2,7 @@
 ghost use mathlib.Core.Path.{_≡_};
 ghost use mathlib.Core.List.{_∷_, []};
 ghost use lib.ListN.{set};
-ghost use Rattle.definitions.specs.Limits.{addressesMost};
+ghost use Rattle.definitions.specs.Limits.{maxAddresses};
 ghost use Rattle.definitions.specs.Lists.{padded};
 ghost use Rattle.definitions.specs.Tables.{noAddress};
 ghost use Rattle.definitions.specs.Forms.{addresses};
@@ -41,7 +41,7 @@ fn kept(row: Row, count: usize, a: Address) -> Row
 
 // One address alone.
 fn one_kept(a: Address) -> Row
-    ensures { λ r. ⌜ r .list ≡ padded addressesMost noAddress (a ∷ []) ⌝ }
+    ensures { λ r. ⌜ r .list ≡ padded maxAddresses noAddress (a ∷ []) ⌝ }
 {
     let list = no_addresses();
     kept(Row { list: list }, 0, a)
@@ -84,11 +84,11 @@ pub fn then_addresses(s: &[u8], c: Cursor) -> AddressesAt
         let open = then_literal(s, c, b'[');
         let l = then_list(s, open);
         let list = l.list;
-        let behind = l.cursor;
+        let after = l.cursor;
         AddressesAt {
             list: list,
             count: l.count,
-            cursor: then_literal(s, behind, b']'),
+            cursor: then_literal(s, after, b']'),
         }
     } else {
         let first = then_address(s, c);

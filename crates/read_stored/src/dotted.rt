@@ -1,13 +1,13 @@
 // Addresses: four numbers with dots, and an optional prefix.
 ghost use mathlib.Core.Path.{_≡_};
 ghost use Prim.Native.Nat.{_+_, _*_, _≤_};
-ghost use Rattle.definitions.specs.Limits.{byteMost};
+ghost use Rattle.definitions.specs.Limits.{maxByte};
 ghost use Rattle.definitions.specs.Numbers.{number};
 ghost use Rattle.definitions.specs.Forms.{dotted, address};
 ghost use Rattle.scan_cursors.specs.Reads.{Inside, Reads};
 ghost use Rattle.read_stored.specs.Listing.{prefixed};
-use definitions::limits::BYTE_MOST;
-use definitions::limits::PREFIX_MOST;
+use definitions::limits::MAX_BYTE;
+use definitions::limits::MAX_PREFIX;
 use definitions::table::Address;
 use scan_cursors::Cursor;
 use scan_steps::numbers::then_number;
@@ -22,7 +22,7 @@ pub struct ByteAt {
 
 // A number that fits a byte.
 fn then_byte(s: &[u8], c: Cursor, limit: u64) -> ByteAt
-    requires { ⌜ Inside (now s) c × (limit ≤ byteMost) ⌝ }
+    requires { ⌜ Inside (now s) c × (limit ≤ maxByte) ⌝ }
     ensures { λ r. ⌜ Reads (number limit) (now (s .entry)) c (r .value) (r .cursor) ⌝ }
 {
     let n = then_number(s, c, limit);
@@ -38,11 +38,11 @@ fn then_dotted(s: &[u8], c: Cursor) -> ByteAt
     requires { ⌜ Inside (now s) c ⌝ }
     ensures { λ r. ⌜ Reads dotted (now (s .entry)) c (r .value) (r .cursor) ⌝ }
 {
-    let n = then_byte(s, c, BYTE_MOST);
-    let behind = n.cursor;
+    let n = then_byte(s, c, MAX_BYTE);
+    let after = n.cursor;
     ByteAt {
         value: n.value,
-        cursor: then_literal(s, behind, b'.'),
+        cursor: then_literal(s, after, b'.'),
     }
 }
 
@@ -53,10 +53,10 @@ fn then_prefix(s: &[u8], c: Cursor) -> ByteAt
 {
     if next_is(s, c, b'/') {
         let slash = then_literal(s, c, b'/');
-        return then_byte(s, slash, PREFIX_MOST as u64);
+        return then_byte(s, slash, MAX_PREFIX as u64);
     }
     ByteAt {
-        value: PREFIX_MOST,
+        value: MAX_PREFIX,
         cursor: c,
     }
 }
@@ -85,7 +85,7 @@ pub fn then_address(s: &[u8], c: Cursor) -> AddressAt
     let c = n2.cursor;
     let n3 = then_dotted(s, c);
     let c = n3.cursor;
-    let n4 = then_byte(s, c, BYTE_MOST);
+    let n4 = then_byte(s, c, MAX_BYTE);
     let c = n4.cursor;
     let p = then_prefix(s, c);
     let cursor = p.cursor;

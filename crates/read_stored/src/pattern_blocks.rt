@@ -6,9 +6,9 @@ ghost use lib.ListN.{length, drop};
 ghost use Rattle.forms.specs.Scan.{begins};
 ghost use Rattle.definitions.specs.Numbers.{hexDigits};
 ghost use Rattle.definitions.specs.Forms.{hexPair, block};
-ghost use Rattle.read_value.specs.Values.{roomOf, appended};
+ghost use Rattle.read_value.specs.Values.{patternBytesOf, appended};
 ghost use Rattle.scan_cursors.specs.Reads.{Reads};
-ghost use Rattle.scan_cursors.specs.declared.Cursor.the-variants.{Going};
+ghost use Rattle.scan_cursors.specs.declared.Cursor.the-variants.{Parsed};
 ghost use Rattle.read_stored.specs.Storing.{pairs, Ready, Stores};
 use scan_bytes::bytes::Class;
 use scan_bytes::bytes::in_class;
@@ -29,7 +29,7 @@ pub struct BytesAt {
 // The byte behind those in use; the answer counts it with them.
 pub fn put(bytes: &mut [u8], used: usize, b: u8) -> usize
     requires { ⌜ used < length (now bytes) ⌝ }
-    ensures { λ r. ⌜ roomOf (now (bytes .exit)) r ≡ appended (roomOf (now (bytes .entry)) used) (b ∷ []) ⌝ }
+    ensures { λ r. ⌜ patternBytesOf (now (bytes .exit)) r ≡ appended (patternBytesOf (now (bytes .entry)) used) (b ∷ []) ⌝ }
 {
     bytes[used] = b;
     used + 1
@@ -56,38 +56,38 @@ pub struct PairAt {
 // Two hex digits.
 fn pair_at(s: &[u8], at: usize) -> PairAt
     requires { ⌜ at ≤ length (now s) ⌝ }
-    ensures { λ r. ⌜ Reads hexPair (now (s .entry)) (Going at) (r .byte) (r .cursor) ⌝ }
+    ensures { λ r. ⌜ Reads hexPair (now (s .entry)) (Parsed at) (r .byte) (r .cursor) ⌝ }
 {
     if !is_hex_at(s, at) {
         return PairAt {
             byte: 0,
-            cursor: Cursor::Stopped(at),
+            cursor: Cursor::Failed(at),
         };
     }
     if !is_hex_at(s, at + 1) {
         return PairAt {
             byte: 0,
-            cursor: Cursor::Stopped(at + 1),
+            cursor: Cursor::Failed(at + 1),
         };
     }
     let v = value_of(s, at, at + 2, 16);
     PairAt {
         byte: v as u8,
-        cursor: Cursor::Going(at + 2),
+        cursor: Cursor::Parsed(at + 2),
     }
 }
 
 // One or more pairs, spaces behind each. The loop goes from place to place: a cursor for each pair would be tested at each.
 fn pairs_at(s: &[u8], at: usize, bytes: &mut [u8], used: usize) -> BytesAt
-    requires { ⌜ Ready (now s) (Going at) (roomOf (now bytes) used) ⌝ }
-    ensures { λ r. ⌜ Stores pairs (now (s .entry)) (Going at) (roomOf (now (bytes .entry)) used) (roomOf (now (bytes .exit)) (r .used)) (r .cursor) ⌝ }
+    requires { ⌜ Ready (now s) (Parsed at) (patternBytesOf (now bytes) used) ⌝ }
+    ensures { λ r. ⌜ Stores pairs (now (s .entry)) (Parsed at) (patternBytesOf (now (bytes .entry)) used) (patternBytesOf (now (bytes .exit)) (r .used)) (r .cursor) ⌝ }
 {
     let mut here = at;
     let mut to = used;
     loop {
         let p = pair_at(s, here);
         let c = p.cursor;
-        let Cursor::Going(n) = c else {
+        let Cursor::Parsed(n) = c else {
             return BytesAt {
                 used: to,
                 cursor: c,
@@ -98,7 +98,7 @@ fn pairs_at(s: &[u8], at: usize, bytes: &mut [u8], used: usize) -> BytesAt
         if !is_hex_at(s, here) {
             return BytesAt {
                 used: to,
-                cursor: Cursor::Going(here),
+                cursor: Cursor::Parsed(here),
             };
         }
     }
@@ -106,8 +106,8 @@ fn pairs_at(s: &[u8], at: usize, bytes: &mut [u8], used: usize) -> BytesAt
 
 // The pairs from any cursor on.
 fn then_pairs(s: &[u8], c: Cursor, bytes: &mut [u8], used: usize) -> BytesAt
-    requires { ⌜ Ready (now s) c (roomOf (now bytes) used) ⌝ }
-    ensures { λ r. ⌜ Stores pairs (now (s .entry)) c (roomOf (now (bytes .entry)) used) (roomOf (now (bytes .exit)) (r .used)) (r .cursor) ⌝ }
+    requires { ⌜ Ready (now s) c (patternBytesOf (now bytes) used) ⌝ }
+    ensures { λ r. ⌜ Stores pairs (now (s .entry)) c (patternBytesOf (now (bytes .entry)) used) (patternBytesOf (now (bytes .exit)) (r .used)) (r .cursor) ⌝ }
 {
     let at = place(c);
     let p = pairs_at(s, at, bytes, used);
@@ -120,15 +120,15 @@ fn then_pairs(s: &[u8], c: Cursor, bytes: &mut [u8], used: usize) -> BytesAt
 
 // A block between two bars.
 pub fn then_block(s: &[u8], c: Cursor, bytes: &mut [u8], used: usize) -> BytesAt
-    requires { ⌜ Ready (now s) c (roomOf (now bytes) used) ⌝ }
-    ensures { λ r. ⌜ Stores block (now (s .entry)) c (roomOf (now (bytes .entry)) used) (roomOf (now (bytes .exit)) (r .used)) (r .cursor) ⌝ }
+    requires { ⌜ Ready (now s) c (patternBytesOf (now bytes) used) ⌝ }
+    ensures { λ r. ⌜ Stores block (now (s .entry)) c (patternBytesOf (now (bytes .entry)) used) (patternBytesOf (now (bytes .exit)) (r .used)) (r .cursor) ⌝ }
 {
     let bar = then_literal(s, c, b'|');
     let from = then_spaces(s, bar);
     let p = then_pairs(s, from, bytes, used);
-    let behind = p.cursor;
+    let after = p.cursor;
     BytesAt {
         used: p.used,
-        cursor: then_literal(s, behind, b'|'),
+        cursor: then_literal(s, after, b'|'),
     }
 }

@@ -1,10 +1,10 @@
 // The bytes of a pattern, stored as they are read: one pass over the text.
 ghost use mathlib.Core.Path.{_≡_};
 ghost use lib.ListN.{drop};
-ghost use Rattle.forms.specs.Scan.{first, begins};
+ghost use Rattle.forms.specs.Scan.{firstSet, begins};
 ghost use Rattle.definitions.specs.Forms.{plainBytes, patternBytes};
-ghost use Rattle.read_value.specs.Values.{roomOf};
-ghost use Rattle.scan_cursors.specs.declared.Cursor.the-variants.{Going};
+ghost use Rattle.read_value.specs.Values.{patternBytesOf};
+ghost use Rattle.scan_cursors.specs.declared.Cursor.the-variants.{Parsed};
 ghost use Rattle.read_stored.specs.Storing.{element, Ready, Stores, PatternReads};
 use crate::pattern_blocks::BytesAt;
 use crate::pattern_blocks::put;
@@ -30,7 +30,7 @@ fn is_plain_at(s: &[u8], at: usize) -> bool
 
 // Whether pattern bytes go on at the place.
 fn goes_on(s: &[u8], at: usize) -> bool
-    ensures { λ r. ⌜ r ≡ begins (first element) (drop at (now (s .entry))) ⌝ }
+    ensures { λ r. ⌜ r ≡ begins (firstSet element) (drop at (now (s .entry))) ⌝ }
 {
     if is_plain_at(s, at) {
         return true;
@@ -40,25 +40,25 @@ fn goes_on(s: &[u8], at: usize) -> bool
 
 // A plain byte or a block.
 fn element_at(s: &[u8], at: usize, bytes: &mut [u8], used: usize) -> BytesAt
-    requires { ⌜ Ready (now s) (Going at) (roomOf (now bytes) used) ⌝ }
-    ensures { λ r. ⌜ Stores element (now (s .entry)) (Going at) (roomOf (now (bytes .entry)) used) (roomOf (now (bytes .exit)) (r .used)) (r .cursor) ⌝ }
+    requires { ⌜ Ready (now s) (Parsed at) (patternBytesOf (now bytes) used) ⌝ }
+    ensures { λ r. ⌜ Stores element (now (s .entry)) (Parsed at) (patternBytesOf (now (bytes .entry)) used) (patternBytesOf (now (bytes .exit)) (r .used)) (r .cursor) ⌝ }
 {
     if is_plain_at(s, at) {
         let b = s[at];
         let to = put(bytes, used, b);
         BytesAt {
             used: to,
-            cursor: Cursor::Going(at + 1),
+            cursor: Cursor::Parsed(at + 1),
         }
     } else {
-        then_block(s, Cursor::Going(at), bytes, used)
+        then_block(s, Cursor::Parsed(at), bytes, used)
     }
 }
 
 // One or more elements. The loop goes from place to place: a cursor for each byte would be tested at each.
 fn bytes_at(s: &[u8], at: usize, bytes: &mut [u8], used: usize) -> BytesAt
-    requires { ⌜ Ready (now s) (Going at) (roomOf (now bytes) used) ⌝ }
-    ensures { λ r. ⌜ Stores patternBytes (now (s .entry)) (Going at) (roomOf (now (bytes .entry)) used) (roomOf (now (bytes .exit)) (r .used)) (r .cursor) ⌝ }
+    requires { ⌜ Ready (now s) (Parsed at) (patternBytesOf (now bytes) used) ⌝ }
+    ensures { λ r. ⌜ Stores patternBytes (now (s .entry)) (Parsed at) (patternBytesOf (now (bytes .entry)) used) (patternBytesOf (now (bytes .exit)) (r .used)) (r .cursor) ⌝ }
 {
     let mut here = at;
     let mut to = used;
@@ -66,7 +66,7 @@ fn bytes_at(s: &[u8], at: usize, bytes: &mut [u8], used: usize) -> BytesAt
         let e = element_at(s, here, bytes, to);
         to = e.used;
         let c = e.cursor;
-        let Cursor::Going(n) = c else {
+        let Cursor::Parsed(n) = c else {
             return BytesAt {
                 used: to,
                 cursor: c,
@@ -76,7 +76,7 @@ fn bytes_at(s: &[u8], at: usize, bytes: &mut [u8], used: usize) -> BytesAt
         if !goes_on(s, here) {
             return BytesAt {
                 used: to,
-                cursor: Cursor::Going(here),
+                cursor: Cursor::Parsed(here),
             };
         }
     }
@@ -84,8 +84,8 @@ fn bytes_at(s: &[u8], at: usize, bytes: &mut [u8], used: usize) -> BytesAt
 
 // The elements from any cursor on.
 fn then_bytes(s: &[u8], c: Cursor, bytes: &mut [u8], used: usize) -> BytesAt
-    requires { ⌜ Ready (now s) c (roomOf (now bytes) used) ⌝ }
-    ensures { λ r. ⌜ Stores patternBytes (now (s .entry)) c (roomOf (now (bytes .entry)) used) (roomOf (now (bytes .exit)) (r .used)) (r .cursor) ⌝ }
+    requires { ⌜ Ready (now s) c (patternBytesOf (now bytes) used) ⌝ }
+    ensures { λ r. ⌜ Stores patternBytes (now (s .entry)) c (patternBytesOf (now (bytes .entry)) used) (patternBytesOf (now (bytes .exit)) (r .used)) (r .cursor) ⌝ }
 {
     let at = place(c);
     let p = bytes_at(s, at, bytes, used);
@@ -105,13 +105,13 @@ pub struct PatternAt {
 
 // A pattern in quotes.
 pub fn then_pattern(s: &[u8], c: Cursor, bytes: &mut [u8], used: usize) -> PatternAt
-    requires { ⌜ Ready (now s) c (roomOf (now bytes) used) ⌝ }
-    ensures { λ r. ⌜ PatternReads (now (s .entry)) c (roomOf (now (bytes .entry)) used) (roomOf (now (bytes .exit)) (r .used)) (r .len) (r .cursor) ⌝ }
+    requires { ⌜ Ready (now s) c (patternBytesOf (now bytes) used) ⌝ }
+    ensures { λ r. ⌜ PatternReads (now (s .entry)) c (patternBytesOf (now (bytes .entry)) used) (patternBytesOf (now (bytes .exit)) (r .used)) (r .len) (r .cursor) ⌝ }
 {
     let open = then_literal(s, c, b'"');
     let p = then_bytes(s, open, bytes, used);
-    let behind = p.cursor;
-    let cursor = then_literal(s, behind, b'"');
+    let after = p.cursor;
+    let cursor = then_literal(s, after, b'"');
     let to = p.used;
     PatternAt {
         used: to,

@@ -5,33 +5,33 @@ use lib.ListN.{length, take, drop}
 use lib.Seq.{sets}
 use Rattle.definitions.specs.declared.table.Address.{Address}
 use Rattle.definitions.specs.declared.table.Item.the-variants as item
-use Rattle.definitions.specs.Entries.{Entry, Name, Protocol, Flow, Test, Pattern, Modified, Context, NoCase, Distance, Within}
+use Rattle.definitions.specs.OptionValues.{OptionValue, Name, Protocol, Flow, Test, Pattern, Modified, Context, NoCase, Distance, Within}
 use Rattle.read_value.specs.declared.Value.{Value}
 use Rattle.read_value.specs.declared.Value.the-variants as value
 
 -- a value of the text s, with the addresses al and the pattern bytes b beside it
-unfoldable pub entryOf : List ℕ → Value → List Address → List ℕ → Entry
-entryOf s (value.Name from n) al b = Name (take n (drop from s))
-entryOf s (value.Protocol p) al b = Protocol p
-entryOf s (value.Flow f) al b = Flow f
-entryOf s (value.Test it) al b = Test it []
-entryOf s (value.Addresses a) al b = Test (item.Address a) al
-entryOf s (value.Pattern negated n) al b = Pattern negated b
-entryOf s (value.Context c) al b = Modified (Context c)
-entryOf s value.NoCase al b = Modified NoCase
-entryOf s (value.Distance d) al b = Modified (Distance d)
-entryOf s (value.Within w) al b = Modified (Within w)
+unfoldable pub optionValueOf : List ℕ → Value → List Address → List ℕ → OptionValue
+optionValueOf s (value.Name from n) al b = Name (take n (drop from s))
+optionValueOf s (value.Protocol p) al b = Protocol p
+optionValueOf s (value.Flow f) al b = Flow f
+optionValueOf s (value.Test it) al b = Test it []
+optionValueOf s (value.Addresses a) al b = Test (item.Address a) al
+optionValueOf s (value.Pattern negated n) al b = Pattern negated b
+optionValueOf s (value.Context c) al b = Modified (Context c)
+optionValueOf s value.NoCase al b = Modified NoCase
+optionValueOf s (value.Distance d) al b = Modified (Distance d)
+optionValueOf s (value.Within w) al b = Modified (Within w)
 
 -- the pattern bytes so far: the bytes of a buffer, and how many of them are in use
-pub record Room : Type 0 where
+pub record PatternBytes : Type 0 where
   pub bytes : List ℕ
   pub used : ℕ
 
-abbrev pub roomOf : List ℕ → ℕ → Room
-roomOf bytes used = record { bytes = bytes; used = used }
+abbrev pub patternBytesOf : List ℕ → ℕ → PatternBytes
+patternBytesOf bytes used = record { bytes = bytes; used = used }
 
 -- the bytes b behind those in use; past the end nothing is kept
-abbrev pub appended : Room → List ℕ → Room
+abbrev pub appended : PatternBytes → List ℕ → PatternBytes
 appended r b = record { bytes = sets (r .bytes) (r .used) b; used = r .used + length b }
 
 -- a value with nothing beside it: no addresses, no pattern bytes, no place in the text

@@ -1,16 +1,16 @@
 // What the reader's scanning hands to its entering, by value: an option's value, and the addresses beside it.
 ghost use mathlib.Core.Path.{_≡_};
 ghost use lib.ListN.{replicate};
-ghost use Rattle.definitions.specs.Limits.{addressesMost};
+ghost use Rattle.definitions.specs.Limits.{maxAddresses};
 ghost use Rattle.definitions.specs.Tables.{noAddress};
 use definitions::limits::ADDRESSES;
 use definitions::table::Address;
 use definitions::table::AddressTest;
 use definitions::table::Context;
+use definitions::table::DistanceValue;
 use definitions::table::Flow;
 use definitions::table::Item;
-use definitions::table::Reach;
-use definitions::table::Shift;
+use definitions::table::WithinValue;
 
 // A name is told by its first byte's place in the text and its length, a pattern by its length: its bytes are the last in use.
 // The addresses of an address test stand beside the value.
@@ -23,13 +23,13 @@ pub enum Value {
     Pattern(bool, usize),
     Context(Context),
     NoCase,
-    Distance(Shift),
-    Within(Reach),
+    Distance(DistanceValue),
+    Within(WithinValue),
 }
 
 // The addresses beside a value that has none.
 pub fn no_addresses() -> [Address; ADDRESSES]
-    ensures { λ r. ⌜ r ≡ replicate addressesMost noAddress ⌝ }
+    ensures { λ r. ⌜ r ≡ replicate maxAddresses noAddress ⌝ }
 {
     let none = Address {
         number: 0,

@@ -2,10 +2,10 @@
 // letter behind does.
 ghost use Prim.Native.Nat.{_≤_};
 ghost use Rattle.scan_cursors.specs.Reads.{Inside, Reads};
-ghost use Rattle.definitions.specs.Limits.{byteMost};
+ghost use Rattle.definitions.specs.Limits.{maxByte};
 ghost use Rattle.definitions.specs.Forms.{referenceWord};
 ghost use Rattle.read_words.specs.Words.{protocolValue, flowWord, contextWord, hWord, bWord, sizeWord};
-use definitions::limits::BYTE_MOST;
+use definitions::limits::MAX_BYTE;
 use definitions::table::Context;
 use definitions::table::Flow;
 use definitions::table::Reference;
@@ -44,7 +44,7 @@ pub struct ReferenceAt {
 // `tcp`, `udp`, `icmp` or a number.
 pub fn then_protocol(s: &[u8], c: Cursor) -> Numeric
     requires { ⌜ Inside (now s) c ⌝ }
-    ensures { λ r. ⌜ Reads protocolValue (now (s .entry)) c (r .value) (r .cursor) × (r .value ≤ byteMost) ⌝ }
+    ensures { λ r. ⌜ Reads protocolValue (now (s .entry)) c (r .value) (r .cursor) × (r .value ≤ maxByte) ⌝ }
 {
     if next_is_letter(s, c, b't') {
         return Numeric {
@@ -64,7 +64,7 @@ pub fn then_protocol(s: &[u8], c: Cursor) -> Numeric
             cursor: then_word(s, c, b"icmp"),
         };
     }
-    then_number(s, c, BYTE_MOST)
+    then_number(s, c, MAX_BYTE)
 }
 
 // `from_client` or `from_server`.

@@ -1,4 +1,4 @@
 -- Laws of the reader's parts.
 pub mod Listed
-pub mod Steps
+pub mod OptionSteps
 pub mod Looping

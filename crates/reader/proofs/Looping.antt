@@ -12,25 +12,25 @@ use Rattle.forms.proofs.Bools.{by-cases}
 use Rattle.definitions.specs.declared.answers.Refusal.the-variants as refusal
 use Rattle.definitions.specs.declared.table.Slot.{Slot}
 use Rattle.definitions.specs.Options.{optionAt}
-use Rattle.definitions.specs.Reading.{Said, entriesOf, refused, taken, dashes, options}
+use Rattle.definitions.specs.Reading.{Located, optionValuesOf, refused, optionStep, dashes, options}
 use Rattle.syntax.proofs.Loop.{passed-over}
 use Rattle.read_frame.proofs.Dashes.{head}
 use Rattle.read_state.specs.declared.State.{State}
-use Rattle.read_state.specs.State.{Holds, lastSlot, saidAlso}
-use Rattle.reader.specs.declared.turns.Turn.{Turn}
-use Rattle.reader.specs.declared.turns.Turn.the-variants.{Next, Done, Refused}
-use Rattle.reader.specs.declared.turns.Turned.{Turned}
-use Rattle.reader.specs.Turning.{closingTurn, TurnsTo, GoesTo, Goes}
+use Rattle.read_state.specs.State.{Holds, lastSlot, locatedAlso}
+use Rattle.reader.specs.declared.steps.Step.{Step}
+use Rattle.reader.specs.declared.steps.Step.the-variants.{Next, Done, Refused}
+use Rattle.reader.specs.declared.steps.Stepped.{Stepped}
+use Rattle.reader.specs.Stepping.{closingStep, StepsTo, GoesTo, Goes}
 
 -- ---- what the definition's loop does at a byte
 
-module _ (s : List ℕ) (at : ℕ) (h : at < length s) (said : List Said) (st : State) (bytes : List ℕ) where
-  pub goes-space : {items : List Slot} → Holds s said st bytes items → st .used ≤ at → getD s at 0 ≡ 32
-      → GoesTo s said at bytes (Next (at + 1)) st bytes items
+module _ (s : List ℕ) (at : ℕ) (h : at < length s) (located : List Located) (st : State) (bytes : List ℕ) where
+  pub goes-space : {items : List Slot} → Holds s located st bytes items → st .used ≤ at → getD s at 0 ≡ 32
+      → GoesTo s located at bytes (Next (at + 1)) st bytes items
   unfolding options
-  goes-space held behind e = (said, rw (head s at h, e), held, omega arith, omega arith, omega arith)
+  goes-space held after e = (located, rw (head s at h, e), held, omega arith, omega arith, omega arith)
 
-  pub goes-close : (items : List Slot) → getD s at 0 ≡ 41 → GoesTo s said at bytes (closingTurn (at + 1) (length s)) st bytes items
+  pub goes-close : (items : List Slot) → getD s at 0 ≡ 41 → GoesTo s located at bytes (closingStep (at + 1) (length s)) st bytes items
   unfolding options
   goes-close items e =
       by-cases (eqb (at + 1) (length s))
@@ -38,21 +38,21 @@ module _ (s : List ℕ) (at : ℕ) (h : at < length s) (said : List Said) (st : 
       (λ t. let n = eqb-false (at + 1) (length s) t in rw t (rw (head s at h, e, head s (at + 1) (omega arith))))
 
   module _ (space : getD s at 0 ≡ 32 → ⊥) (close : getD s at 0 ≡ 41 → ⊥) where
-    pub goes-nowhere : (items : List Slot) → dashes (drop at s) ≡ false → GoesTo s said at bytes (Refused refusal.NotDue at) st bytes items
+    pub goes-nowhere : (items : List Slot) → dashes (drop at s) ≡ false → GoesTo s located at bytes (Refused refusal.NeitherOptionNorEnd at) st bytes items
     unfolding options
     goes-nowhere items e =
         let d : dashes (getD s at 0 ∷ drop (at + 1) s) ≡ false = rw (head s at h) at e in
         rw (head s at h, ne-eqb (getD s at 0) 32 space, ne-eqb (getD s at 0) 41 close, d)
 
     to-option : dashes (drop at s) ≡ true
-        → options s (drop at s) 0 at said
-        ≡ taken (optionAt s at) (entriesOf said) at (λ e next. options s (drop (at + 1) s) (next - (at + 1)) (at + 1) (saidAlso said at e))
+        → options s (drop at s) 0 at located
+        ≡ optionStep (optionAt s at) (optionValuesOf located) at (λ e next. options s (drop (at + 1) s) (next - (at + 1)) (at + 1) (locatedAlso located at e))
     unfolding options
     to-option e =
         let d : dashes (getD s at 0 ∷ drop (at + 1) s) ≡ true = rw (head s at h) at e in
         rw (head s at h, ne-eqb (getD s at 0) 32 space, ne-eqb (getD s at 0) 41 close, d)
 
-    passes : (n : ℕ) (more : List Said) → at + 2 ≤ n → n ≤ length s
+    passes : (n : ℕ) (more : List Located) → at + 2 ≤ n → n ≤ length s
         → options s (drop (at + 1) s) (n - (at + 1)) (at + 1) more ≡ options s (drop n s) 0 n more
     passes n more a b =
         let k = n - (at + 1) in
@@ -67,11 +67,11 @@ module _ (s : List ℕ) (at : ℕ) (h : at < length s) (said : List Said) (st : 
         ∙ passed-over s x (drop n s) (at + 1) more
         ∙ ap (λ (m : ℕ). options s (drop n s) 0 m more) z)
 
-    pub goes-option : (after : List ℕ) (items : List Slot) → dashes (drop at s) ≡ true → (t : Turn) (u : State) → TurnsTo s said at t u after items
-        → GoesTo s said at bytes t u after items
+    pub goes-option : (after : List ℕ) (items : List Slot) → dashes (drop at s) ≡ true → (t : Step) (u : State) → StepsTo s located at t u after items
+        → GoesTo s located at bytes t u after items
     goes-option after items e (Next n) u w = (
-      saidAlso said at (w .0),
-      to-option e ∙ w .1 _ ∙ passes n (saidAlso said at (w .0)) (w .4) (w .5),
+      locatedAlso located at (w .0),
+      to-option e ∙ w .1 _ ∙ passes n (locatedAlso located at (w .0)) (w .4) (w .5),
       w .2,
       w .3,
       (let a = w .4 in omega arith),
@@ -81,13 +81,13 @@ module _ (s : List ℕ) (at : ℕ) (h : at < length s) (said : List Said) (st : 
     goes-option after items e (Refused q p) u w = to-option e ∙ w _
 
 -- what a turn promises, at the turn that it is
-pub goes-told : (s bytes : List ℕ) (st : State) (last : Slot) (at : ℕ) (after : List ℕ) (r : Turned) → Goes s bytes st last at after r
-    → (t : Turn) → r .turn ≡ t → (said : List Said) (items : List Slot) → Holds s said st bytes items → last ≡ lastSlot items st → st .used ≤ at
-    → GoesTo s said at bytes t (r .state) after (set items (r .place) (r .slot))
-goes-told s bytes st last at after r g t e said items h l u =
-    subst (λ (w : Turn). GoesTo s said at bytes w (r .state) after (set items (r .place) (r .slot))) e (g said items h l u)
+pub goes-told : (s bytes : List ℕ) (st : State) (last : Slot) (at : ℕ) (after : List ℕ) (r : Stepped) → Goes s bytes st last at after r
+    → (t : Step) → r .step ≡ t → (located : List Located) (items : List Slot) → Holds s located st bytes items → last ≡ lastSlot items st → st .used ≤ at
+    → GoesTo s located at bytes t (r .state) after (set items (r .place) (r .slot))
+goes-told s bytes st last at after r g t e located items h l u =
+    subst (λ (w : Step). GoesTo s located at bytes w (r .state) after (set items (r .place) (r .slot))) e (g located items h l u)
 
 -- the text ends where an option or `)` is due
-pub loop-out : (s : List ℕ) (at : ℕ) (said : List Said) → length s ≤ at → options s (drop at s) 0 at said ≡ refused refusal.NotDue at
+pub loop-out : (s : List ℕ) (at : ℕ) (located : List Located) → length s ≤ at → options s (drop at s) 0 at located ≡ refused refusal.NeitherOptionNorEnd at
 unfolding options
-loop-out s at said h = rw (drop-of-length-le s {i = at} h)
+loop-out s at located h = rw (drop-of-length-le s {i = at} h)

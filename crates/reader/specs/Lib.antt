@@ -1,2 +1,2 @@
 -- What the parts of the reader promise.
-pub mod Turning
+pub mod Stepping

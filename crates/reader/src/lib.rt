@@ -2,12 +2,12 @@
 ghost use mathlib.Core.Path.{_≡_};
 ghost use Prim.Native.Nat.{_≤_};
 ghost use lib.ListN.{length};
-ghost use Rattle.definitions.specs.Limits.{limits01};
+ghost use Rattle.definitions.specs.Limits.{documentLimits};
 ghost use Rattle.definitions.specs.Options.{opening};
 ghost use Rattle.definitions.specs.Reading.{read as readText};
 ghost use Rattle.read_frame.specs.Framing.{optionsRead};
-use crate::turns::Turn;
-use crate::turns::turn_at;
+use crate::steps::Step;
+use crate::steps::step_at;
 use definitions::answers::Reading;
 use definitions::answers::Refusal;
 use definitions::limits::ITEMS;
@@ -15,16 +15,16 @@ use definitions::limits::PATTERN_BYTES;
 use read_frame::Front;
 use read_frame::OPENING_BYTES;
 use read_frame::front_of;
+use read_insert::checking::refused;
 use read_insert::finish;
-use read_insert::judging::refused;
 use read_state::fresh;
 use read_state::no_slot;
 
-mod turns;
+mod steps;
 
 // The options of a text, from behind `F-SBID(` on. The pattern bytes and items stand here, and nowhere by value on the way of an option.
 fn read_options(s: &[u8]) -> Reading
-    requires { ⌜ (length opening ≤ length (now s)) × (length (now s) ≤ limits01 .text) ⌝ }
+    requires { ⌜ (length opening ≤ length (now s)) × (length (now s) ≤ documentLimits .text) ⌝ }
     ensures { λ r. ⌜ r ≡ optionsRead (now (s .entry)) ⌝ }
 {
     let none = no_slot();
@@ -39,10 +39,10 @@ fn read_options(s: &[u8]) -> Reading
         } else {
             let k = st.last;
             let last = items[k];
-            let t = turn_at(s, &mut bytes, st, last, at);
-            let turn = t.turn;
-            match turn {
-                Turn::Next(n) => {
+            let t = step_at(s, &mut bytes, st, last, at);
+            let step = t.step;
+            match step {
+                Step::Next(n) => {
                     let place = t.place;
                     if place < ITEMS {
                         let slot = t.slot;
@@ -52,21 +52,21 @@ fn read_options(s: &[u8]) -> Reading
                     st = state;
                     at = n;
                 }
-                Turn::Done => {
+                Step::Done => {
                     return finish(s, st, bytes, items);
                 }
-                Turn::Refused(r, p) => {
+                Step::Refused(r, p) => {
                     return refused(r, p);
                 }
             }
         }
     }
-    refused(Refusal::NotDue, at)
+    refused(Refusal::NeitherOptionNorEnd, at)
 }
 
 // THE READER: any bytes in, the table or a refusal with its place out.
 pub fn read(s: &[u8]) -> Reading
-    ensures { λ r. ⌜ r ≡ readText limits01 (now (s .entry)) ⌝ }
+    ensures { λ r. ⌜ r ≡ readText documentLimits (now (s .entry)) ⌝ }
 {
     let front = front_of(s);
     match front {

@@ -11,14 +11,14 @@ use lib.Dec.{eqb, leb}
 use borrow.Author.Tests.{le-leb, leb-true, eqb-true, lt-ltb}
 use Rattle.forms.specs.Bytes.{text}
 use Rattle.forms.specs.Form.{Row, none}
-use Rattle.forms.specs.Pieces.{skip, opt, sign}
+use Rattle.forms.specs.Pieces.{preceded, opt, literal}
 use Rattle.forms.proofs.Bools.{by-cases}
 use Rattle.definitions.specs.declared.table.Address.{Address}
-use Rattle.definitions.specs.Limits.{byteMost, addressMost, prefixMost}
+use Rattle.definitions.specs.Limits.{maxByte, maxAddress, maxPrefix}
 use Rattle.definitions.specs.Lists.{all?}
 use Rattle.definitions.specs.Numbers.{number}
 use Rattle.definitions.specs.Forms.{dotted, octet, address, addresses}
-use Rattle.definitions.specs.House.{decimal, textIf, addressText, addressesText, bracketed}
+use Rattle.definitions.specs.Canonical.{decimal, textIf, addressText, addressesText, bracketed}
 use Rattle.definitions.specs.WellFormed.{addressFits}
 use Rattle.roundtrip.proofs.Alls.{halves, all-head, all-tail}
 use Rattle.roundtrip.proofs.Decimals.{number-of}
@@ -27,17 +27,17 @@ use Rattle.roundtrip.proofs.Making.{Of, retexts, revalues, tells, makes
 -- ---- an address
 
 octet-of : (n : ℕ) → n ≤ 255 → Of octet (decimal n) n
-octet-of n h = number-of byteMost n (le-leb n byteMost h)
+octet-of n h = number-of maxByte n (le-leb n maxByte h)
 
 dotted-of : (n : ℕ) → n ≤ 255 → Of dotted (decimal n ++ (46 ∷ [])) n
 dotted-of n h = befores (octet-of n h) (signs 46)
 
 -- a prefix of 32 is left out
-prefix-of : (p : ℕ) → leb p prefixMost ≡ true → Of (opt prefixMost (skip (sign 47) (number prefixMost))) (textIf (not (eqb p prefixMost)) (text "/" ++ decimal p)) p
+prefix-of : (p : ℕ) → leb p maxPrefix ≡ true → Of (opt maxPrefix (preceded (literal 47) (number maxPrefix))) (textIf (not (eqb p maxPrefix)) (text "/" ++ decimal p)) p
 prefix-of p t =
-    by-cases (eqb p prefixMost)
-    (λ u. rw u (rights (revalues (sym (eqb-true p prefixMost u)) tells)))
-    (λ u. rw u (lefts (skips (signs 47) (number-of prefixMost p t))))
+    by-cases (eqb p maxPrefix)
+    (λ u. rw u (rights (revalues (sym (eqb-true p maxPrefix u)) tells)))
+    (λ u. rw u (lefts (skips (signs 47) (number-of maxPrefix p t))))
 
 byte-back : (n : ℕ) → n / 256 * 256 + n % 256 ≡ n
 byte-back n = omega arith
@@ -55,7 +55,7 @@ address-of : (a : Address) → addressFits a ≡ true → Of address (addressTex
 address-of a t =
     let h = halves t in
     let n = a .number in
-    let e = four-back n (leb-true n addressMost (h .0)) in
+    let e = four-back n (leb-true n maxAddress (h .0)) in
     revalues (ap (λ i. record { number = i; prefix = a .prefix }) e)
     (retexts (simp append-assoc)
     (makes (joins (dotted-of (n / 16777216 % 256) (omega arith)) (joins (dotted-of (n / 65536 % 256) (omega arith)) (joins (dotted-of (n / 256 % 256) (omega arith)) (joins (octet-of (n % 256) (omega arith)) (prefix-of (a .prefix) (h .1))))))))
@@ -71,7 +71,7 @@ unfolding addressesText tailText
 first-and-tail a [] = sym (append-nil (addressText a))
 first-and-tail a (b ∷ al) = ap (λ l. addressText a ++ (44 ∷ l)) (first-and-tail b al)
 
-tail-of : (al : List Address) → all? addressFits al ≡ true → Row (λ y w. Of (skip (sign 44) address) y w) (tailText al) al
+tail-of : (al : List Address) → all? addressFits al ≡ true → Row (λ y w. Of (preceded (literal 44) address) y w) (tailText al) al
 unfolding tailText
 tail-of [] t = none
 tail-of (a ∷ al) t = Row.more (skips (signs 44) (address-of a (all-head addressFits a al t))) (tail-of al (all-tail addressFits a al t))

@@ -36,9 +36,9 @@ module _ {A : Type 0} (f : A → Bool) where
   all-append [] ys p q = q
   all-append (x ∷ xs) ys p q = all-more x (xs ++ ys) (all-head x xs p) (all-append xs ys (all-tail x xs p) q)
 
-  pub all-behind : (xs ys : List A) → all? f (xs ++ ys) ≡ true → all? f ys ≡ true
-  all-behind [] ys t = t
-  all-behind (x ∷ xs) ys t = all-behind xs ys (all-tail x (xs ++ ys) t)
+  pub all-after : (xs ys : List A) → all? f (xs ++ ys) ≡ true → all? f ys ≡ true
+  all-after [] ys t = t
+  all-after (x ∷ xs) ys t = all-after xs ys (all-tail x (xs ++ ys) t)
 
   pub all-replicate : (n : ℕ) (x : A) → f x ≡ true → all? f (replicate n x) ≡ true
   all-replicate zero x p = all-none

@@ -13,7 +13,7 @@ use Rattle.forms.proofs.Bools.{by-cases}
 use Rattle.definitions.specs.Lists.{all?}
 use Rattle.definitions.specs.Numbers.{hexDigits, digitValue}
 use Rattle.definitions.specs.Forms.{block, plainBytes, joined, patternBytes}
-use Rattle.definitions.specs.House.{hexDigit, patternText}
+use Rattle.definitions.specs.Canonical.{hexDigit, patternText}
 use Rattle.roundtrip.proofs.Alls.{all-head, all-tail}
 use Rattle.roundtrip.proofs.Fits.{isByte}
 use Rattle.roundtrip.proofs.Making.{Of, revalues, is-byte, makes, skips, befores, joins, lefts, rights, stars, somes, signs}
@@ -46,12 +46,12 @@ record Shut (x bs : List ℕ) : Type 0 where
 
 record Begun (x bs : List ℕ) : Type 0 where
   front : List ℕ
-  behind : List ℕ
+  following : List ℕ
   pairs : List ℕ
   after : List ℕ
-  split : x ≡ front ++ (124 ∷ behind)
+  split : x ≡ front ++ (124 ∷ following)
   row : Row (λ y w. Of spacedPair y w) front pairs
-  rest : Shut behind after
+  rest : Shut following after
   bytes : bs ≡ pairs ++ after
 
 plain-one : (b : ℕ) (x l : List ℕ) → has plainBytes b ≡ true → Shut x l → Shut (b ∷ x) (b ∷ l)
@@ -66,7 +66,7 @@ hex-more : (b : ℕ) (x l : List ℕ) → isByte b ≡ true → Begun x l → Be
 hex-more b x l t i =
     record {
       front = hexDigit (b / 16) ∷ hexDigit (b % 16) ∷ i .front;
-      behind = i .behind;
+      following = i .following;
       pairs = b ∷ i .pairs;
       after = i .after;
       split = ap (λ y. hexDigit (b / 16) ∷ hexDigit (b % 16) ∷ y) (i .split);
@@ -80,7 +80,7 @@ hex-first b x l t i =
     let j = i .rest in
     let y : List ℕ = 124 ∷ hexDigit (b / 16) ∷ hexDigit (b % 16) ∷ (i .front ++ (124 ∷ [])) in
     let m : Of block y (b ∷ i .pairs) = skips (signs 124) (skips (stars none) (befores (somes (pair-of b t) (i .row)) (signs 124))) in
-    let e : y ++ i .behind ≡ 124 ∷ hexDigit (b / 16) ∷ hexDigit (b % 16) ∷ x = ap (λ z. 124 ∷ hexDigit (b / 16) ∷ hexDigit (b % 16) ∷ z) (append-assoc (i .front) (124 ∷ []) (i .behind) ∙ sym (i .split)) in
+    let e : y ++ i .following ≡ 124 ∷ hexDigit (b / 16) ∷ hexDigit (b % 16) ∷ x = ap (λ z. 124 ∷ hexDigit (b / 16) ∷ hexDigit (b % 16) ∷ z) (append-assoc (i .front) (124 ∷ []) (i .following) ∙ sym (i .split)) in
     record {
       parts = (b ∷ i .pairs) ∷ j .parts;
       row = subst (λ z. Row (λ y w. Of part y w) z ((b ∷ i .pairs) ∷ j .parts)) e (Row.more (rights m) (j .row));
@@ -88,7 +88,7 @@ hex-first b x l t i =
     }
 
 bar : (x l : List ℕ) → Shut x l → Begun (124 ∷ x) l
-bar x l i = record { front = []; behind = x; pairs = []; after = l; split = refl; row = none; rest = i; bytes = refl }
+bar x l i = record { front = []; following = x; pairs = []; after = l; split = refl; row = none; rest = i; bytes = refl }
 
 written : (bs : List ℕ) → all? isByte bs ≡ true → Shut (patternText false bs) bs × Begun (patternText true bs) bs
 unfolding patternText

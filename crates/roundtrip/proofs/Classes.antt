@@ -8,7 +8,7 @@ use Prim.Native.Nat.{ℕ, _≤_}
 use native.Mathlib.Omega.{arith}
 use lib.Dec.{leb}
 use borrow.Author.Tests.{le-leb, leb-true}
-use Rattle.forms.specs.Form.{Class, has, Form, tell, byte, pair, alt, star, made, bound, Row, none, Means}
+use Rattle.forms.specs.Form.{Class, has, Form, pure, byte, pair, alt, many, fmap, bound, Row, none, Means}
 use Rattle.forms.proofs.Bools.{by-cases, both-left, both-right}
 use Rattle.forms.proofs.Sound.{never}
 use Rattle.definitions.specs.Lists.{all?}
@@ -40,12 +40,12 @@ class-inside low high (r ∷ c) s b h =
 -- ---- printable forms
 
 abbrev pub printedForm : {A : Type 0} → Form A → Bool
-printedForm (tell a) = true
+printedForm (pure a) = true
 printedForm (byte c) = spansIn 32 126 c
 printedForm (pair f g) = printedForm f && printedForm g
 printedForm (alt f g) = printedForm f && printedForm g
-printedForm (star f) = printedForm f
-printedForm (made h f) = printedForm f
+printedForm (many f) = printedForm f
+printedForm (fmap h f) = printedForm f
 printedForm (bound p j f) = printedForm f
 
 pub inside-printed : (b : ℕ) → Inside 32 126 b → printable b ≡ true
@@ -58,12 +58,12 @@ row-printed P h x vs (Row.more {x = y} {y = z} {v} {vs = ws} p r) = all-append p
 
 pub form-printed : {A : Type 0} (k : Bool) (f : Form A) → printedForm f ≡ true → (x : List ℕ) (v : A) → Means k f x v → all? printable x ≡ true
 unfolding Means
-form-printed k (tell a) t x v m = rw (m .0) (all-none printable)
+form-printed k (pure a) t x v m = rw (m .0) (all-none printable)
 form-printed k (byte c) t x v m = rw (m .0) (all-more printable v [] (inside-printed v (class-inside 32 126 c t v (m .1))) (all-none printable))
 form-printed k (pair f g) t x v m =
     rw (m .2) (all-append printable (m .0) (m .1) (form-printed k f (both-left (printedForm f) (printedForm g) t) (m .0) (v .0) (m .3)) (form-printed k g (both-right (printedForm f) (printedForm g) t) (m .1) (v .1) (m .4)))
 form-printed k (alt f g) t x v (inl m) = form-printed k f (both-left (printedForm f) (printedForm g) t) x v m
 form-printed k (alt f g) t x v (inr m) = form-printed k g (both-right (printedForm f) (printedForm g) t) x v m
-form-printed k (star f) t x v m = row-printed (λ y w. Means k f y w) (λ y w n. form-printed k f t y w n) x v m
-form-printed k (made h f) t x v m = form-printed k f t x (m .0) (m .2)
+form-printed k (many f) t x v m = row-printed (λ y w. Means k f y w) (λ y w n. form-printed k f t y w n) x v m
+form-printed k (fmap h f) t x v m = form-printed k f t x (m .0) (m .2)
 form-printed k (bound p j f) t x v m = form-printed k f t x v (m .0)

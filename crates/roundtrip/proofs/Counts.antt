@@ -12,15 +12,15 @@ use Rattle.forms.proofs.Bools.{by-cases}
 use Rattle.forms.proofs.Sound.{never}
 use Rattle.definitions.specs.declared.answers.Refusal.{Refusal}
 use Rattle.definitions.specs.declared.answers.Refusal.the-variants as refusal
-use Rattle.definitions.specs.declared.answers.Due.{Due}
-use Rattle.definitions.specs.declared.answers.Due.the-variants.{Fine}
-use Rattle.definitions.specs.Limits.{patternsMost, testsMost, addressesMost}
+use Rattle.definitions.specs.declared.answers.Check.{Check}
+use Rattle.definitions.specs.declared.answers.Check.the-variants.{Pass}
+use Rattle.definitions.specs.Limits.{maxPatterns, maxTests, maxAddresses}
 use Rattle.definitions.specs.Lists.{all?, keep, count}
-use Rattle.definitions.specs.Entries.{Entry, Name, Protocol, Flow, Test, Pattern, Modified}
+use Rattle.definitions.specs.OptionValues.{OptionValue, Name, Protocol, Flow, Test, Pattern, Modified}
 use Rattle.definitions.specs.Tables.{slotsIn}
 use Rattle.definitions.specs.Refusals.{refuseIf}
-use Rattle.definitions.specs.Standing.{isTest, isPattern, dueFor}
-use Rattle.definitions.specs.Grammar.{Standing, none}
+use Rattle.definitions.specs.Occurrences.{isTest, isPattern, occurrenceCheck}
+use Rattle.definitions.specs.Grammar.{Occurrences, none}
 use Rattle.roundtrip.proofs.Alls.{all-none, all-more}
 
 -- ---- counts of lists put together
@@ -36,7 +36,7 @@ module _ {A : Type 0} (f : A → Bool) where
 
 -- ---- what is not due
 
-pub not-refused : (b : Bool) (r : Refusal) (d : Due) → refuseIf b r d ≡ Fine → b ≡ false
+pub not-refused : (b : Bool) (r : Refusal) (d : Check) → refuseIf b r d ≡ Pass → b ≡ false
 not-refused true r d e = never (cc)
 not-refused false r d e = refl
 
@@ -44,21 +44,21 @@ pub neither : (a b : Bool) → (a || b) ≡ false → (a ≡ false) × (b ≡ fa
 neither true b e = never (cc)
 neither false b e = (refl, e)
 
-abbrev pub fewAddresses : Entry → Bool
+abbrev pub fewAddresses : OptionValue → Bool
 fewAddresses (Name n) = true
 fewAddresses (Protocol p) = true
 fewAddresses (Flow f) = true
-fewAddresses (Test it al) = leb (length al) addressesMost
+fewAddresses (Test it al) = leb (length al) maxAddresses
 fewAddresses (Pattern n b) = true
 fewAddresses (Modified m) = true
 
 -- behind the entries that came before
-record Few (before es : List Entry) : Type 0 where
-  tests : count isTest before ≤ testsMost → count isTest before + count isTest es ≤ testsMost
-  patterns : count isPattern before ≤ patternsMost → count isPattern before + count isPattern es ≤ patternsMost
+record Few (before es : List OptionValue) : Type 0 where
+  tests : count isTest before ≤ maxTests → count isTest before + count isTest es ≤ maxTests
+  patterns : count isPattern before ≤ maxPatterns → count isPattern before + count isPattern es ≤ maxPatterns
   addresses : all? fewAddresses es ≡ true
 
-one-more : (before es : List Entry) (e : Entry) → (count isTest before ≤ testsMost → count isTest before + count isTest (e ∷ []) ≤ testsMost) → (count isPattern before ≤ patternsMost → count isPattern before + count isPattern (e ∷ []) ≤ patternsMost) → fewAddresses e ≡ true → Few (before ++ (e ∷ [])) es → Few before (e ∷ es)
+one-more : (before es : List OptionValue) (e : OptionValue) → (count isTest before ≤ maxTests → count isTest before + count isTest (e ∷ []) ≤ maxTests) → (count isPattern before ≤ maxPatterns → count isPattern before + count isPattern (e ∷ []) ≤ maxPatterns) → fewAddresses e ≡ true → Few (before ++ (e ∷ [])) es → Few before (e ∷ es)
 one-more before es e t p a i =
     let ct = count-append isTest before (e ∷ []) in
     let cp = count-append isPattern before (e ∷ []) in
@@ -70,27 +70,27 @@ one-more before es e t p a i =
       addresses = all-more fewAddresses e es a (i .addresses);
     }
 
-few : {before es : List Entry} → Standing before es → Few before es
-unfolding keep dueFor
+few : {before es : List OptionValue} → Occurrences before es → Few before es
+unfolding keep occurrenceCheck
 few none = record { tests = λ h. omega arith; patterns = λ h. omega arith; addresses = all-none fewAddresses }
-few (Standing.more {before} {es} {e = Name n} d s) = one-more before es (Name n) (λ h. omega arith) (λ h. omega arith) refl (few s)
-few (Standing.more {before} {es} {e = Protocol p} d s) = one-more before es (Protocol p) (λ h. omega arith) (λ h. omega arith) refl (few s)
-few (Standing.more {before} {es} {e = Flow f} d s) = one-more before es (Flow f) (λ h. omega arith) (λ h. omega arith) refl (few s)
-few (Standing.more {before} {es} {e = Test it al} d s) =
-    let n = neither (ltb addressesMost (length al)) (leb testsMost (count isTest before)) (not-refused (ltb addressesMost (length al) || leb testsMost (count isTest before)) refusal.TooMany Fine d) in
-    one-more before es (Test it al) (λ h. omega (arith, leb-false testsMost (count isTest before) (n .1))) (λ h. omega arith)
-    (le-leb (length al) addressesMost (ltb-false addressesMost (length al) (n .0))) (few s)
-few (Standing.more {before} {es} {e = Pattern n b} d s) =
+few (Occurrences.more {before} {es} {e = Name n} d s) = one-more before es (Name n) (λ h. omega arith) (λ h. omega arith) refl (few s)
+few (Occurrences.more {before} {es} {e = Protocol p} d s) = one-more before es (Protocol p) (λ h. omega arith) (λ h. omega arith) refl (few s)
+few (Occurrences.more {before} {es} {e = Flow f} d s) = one-more before es (Flow f) (λ h. omega arith) (λ h. omega arith) refl (few s)
+few (Occurrences.more {before} {es} {e = Test it al} d s) =
+    let n = neither (ltb maxAddresses (length al)) (leb maxTests (count isTest before)) (not-refused (ltb maxAddresses (length al) || leb maxTests (count isTest before)) refusal.CountExceeded Pass d) in
+    one-more before es (Test it al) (λ h. omega (arith, leb-false maxTests (count isTest before) (n .1))) (λ h. omega arith)
+    (le-leb (length al) maxAddresses (ltb-false maxAddresses (length al) (n .0))) (few s)
+few (Occurrences.more {before} {es} {e = Pattern n b} d s) =
     one-more before es (Pattern n b) (λ h. omega arith)
-    (λ h. omega (arith, leb-false patternsMost (count isPattern before) (not-refused (leb patternsMost (count isPattern before)) refusal.TooMany Fine d))) refl (few s)
-few (Standing.more {before} {es} {e = Modified m} d s) = one-more before es (Modified m) (λ h. omega arith) (λ h. omega arith) refl (few s)
+    (λ h. omega (arith, leb-false maxPatterns (count isPattern before) (not-refused (leb maxPatterns (count isPattern before)) refusal.CountExceeded Pass d))) refl (few s)
+few (Occurrences.more {before} {es} {e = Modified m} d s) = one-more before es (Modified m) (λ h. omega arith) (λ h. omega arith) refl (few s)
 
-module _ (es : List Entry) (s : Standing [] es) where
-  pub few-tests : count isTest es ≤ testsMost
+module _ (es : List OptionValue) (s : Occurrences [] es) where
+  pub few-tests : count isTest es ≤ maxTests
   unfolding keep
   few-tests = omega (arith, few s .tests (omega arith))
 
-  pub few-patterns : count isPattern es ≤ patternsMost
+  pub few-patterns : count isPattern es ≤ maxPatterns
   unfolding keep
   few-patterns = omega (arith, few s .patterns (omega arith))
 
@@ -98,7 +98,7 @@ module _ (es : List Entry) (s : Standing [] es) where
   few-addresses = few s .addresses
 
 -- a slot for each test and each pattern
-pub slots-counted : (es : List Entry) → length (slotsIn es) ≡ count isTest es + count isPattern es
+pub slots-counted : (es : List OptionValue) → length (slotsIn es) ≡ count isTest es + count isPattern es
 unfolding slotsIn keep
 slots-counted [] = refl
 slots-counted (Name n ∷ es) = slots-counted es

@@ -11,13 +11,13 @@ use Rattle.forms.specs.Bytes.{between}
 use Rattle.forms.specs.Form.{has}
 use Rattle.definitions.specs.declared.table.Flow as flows
 use Rattle.definitions.specs.declared.table.Flow.the-variants as flow
-use Rattle.definitions.specs.declared.table.Shift.{Shift}
+use Rattle.definitions.specs.declared.table.DistanceValue.{DistanceValue}
 use Rattle.definitions.specs.declared.table.Reference.the-variants as reference
 use Rattle.definitions.specs.declared.table.Item.{Item}
 use Rattle.definitions.specs.declared.table.Address.{Address}
-use Rattle.definitions.specs.Limits.{nameMost, byteMost, wordMost}
+use Rattle.definitions.specs.Limits.{maxName, maxByte, maxWord}
 use Rattle.definitions.specs.Lists.{all?, none?}
-use Rattle.definitions.specs.Entries.{Modifier, Context, NoCase, Distance, Within, Entry, Name, Protocol, Flow, Test, Pattern, Modified}
+use Rattle.definitions.specs.OptionValues.{Modifier, Context, NoCase, Distance, Within, OptionValue, Name, Protocol, Flow, Test, Pattern, Modified}
 use Rattle.definitions.specs.Forms.{quotable}
 use Rattle.definitions.specs.Items.{Kind, unused, addressed, patterned, plainTest, kindOf}
 use Rattle.definitions.specs.References.{sameReference}
@@ -35,39 +35,39 @@ testFits (patterned p) it al = false
 testFits plainTest it al = itemFits it && none? al
 
 abbrev pub isByte : ℕ → Bool
-isByte b = leb b byteMost
+isByte b = leb b maxByte
 
 abbrev pub modifierFits : Modifier → Bool
 modifierFits (Context c) = true
 modifierFits NoCase = true
-modifierFits (Distance d) = leb (natAbs (d .offset)) wordMost
-modifierFits (Within w) = leb (w .number) wordMost
+modifierFits (Distance d) = leb (natAbs (d .offset)) maxWord
+modifierFits (Within w) = leb (w .number) maxWord
 
-abbrev pub entryFits : Entry → Bool
-entryFits (Name n) = between 1 nameMost (length n) && all? (has quotable) n
-entryFits (Protocol p) = leb p byteMost
-entryFits (Flow f) = flowFits f
-entryFits (Test it al) = testFits (kindOf it) it al
-entryFits (Pattern n b) = leb 1 (length b) && all? isByte b
-entryFits (Modified m) = modifierFits m
+abbrev pub optionFits : OptionValue → Bool
+optionFits (Name n) = between 1 maxName (length n) && all? (has quotable) n
+optionFits (Protocol p) = leb p maxByte
+optionFits (Flow f) = flowFits f
+optionFits (Test it al) = testFits (kindOf it) it al
+optionFits (Pattern n b) = leb 1 (length b) && all? isByte b
+optionFits (Modified m) = modifierFits m
 
 -- reverse is written behind a reference only, and match is left out: usable patterns have no such distance
-abbrev pub shiftTold : Shift → Bool
+abbrev pub shiftTold : DistanceValue → Bool
 shiftTold d = not (d .reverse) || not (sameReference (d .reference) reference.Match)
 
-abbrev pub entryTold : Entry → Bool
-entryTold (Name n) = true
-entryTold (Protocol p) = true
-entryTold (Flow f) = true
-entryTold (Test it al) = true
-entryTold (Pattern n b) = true
-entryTold (Modified (Context c)) = true
-entryTold (Modified NoCase) = true
-entryTold (Modified (Distance d)) = shiftTold d
-entryTold (Modified (Within w)) = true
+abbrev pub optionTold : OptionValue → Bool
+optionTold (Name n) = true
+optionTold (Protocol p) = true
+optionTold (Flow f) = true
+optionTold (Test it al) = true
+optionTold (Pattern n b) = true
+optionTold (Modified (Context c)) = true
+optionTold (Modified NoCase) = true
+optionTold (Modified (Distance d)) = shiftTold d
+optionTold (Modified (Within w)) = true
 
 -- pattern bytes of an entry
-abbrev pub patternLength : Entry → ℕ
+abbrev pub patternLength : OptionValue → ℕ
 patternLength (Name n) = 0
 patternLength (Protocol p) = 0
 patternLength (Flow f) = 0
@@ -76,6 +76,6 @@ patternLength (Pattern n b) = length b
 patternLength (Modified m) = 0
 
 -- an entry of the text x fits and has no more pattern bytes than the text has bytes
-pub record Fitting (x : List ℕ) (e : Entry) : Type 0 where
-  pub fits : entryFits e ≡ true
+pub record Fitting (x : List ℕ) (e : OptionValue) : Type 0 where
+  pub fits : optionFits e ≡ true
   pub small : patternLength e ≤ length x

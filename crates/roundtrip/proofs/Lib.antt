@@ -23,5 +23,5 @@ pub mod Written
 pub mod Stands
 pub mod Told
 pub mod Printed
-pub mod House
+pub mod Canonical
 pub mod Buffer

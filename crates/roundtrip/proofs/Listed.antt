@@ -13,17 +13,17 @@ use Rattle.definitions.specs.declared.table.NumberField.{NumberField}
 use Rattle.definitions.specs.declared.table.NumberField.the-variants as numberField
 use Rattle.definitions.specs.declared.table.HeaderField.{HeaderField}
 use Rattle.definitions.specs.declared.table.HeaderField.the-variants as headerField
-use Rattle.definitions.specs.Entries.{Entry}
+use Rattle.definitions.specs.OptionValues.{OptionValue}
 use Rattle.definitions.specs.Forms.{nameForm, protocolForm, flowForm, addressForm, sameIpForm, numberForm, ttlForm, fieldForm, sizeForm, atForm, patternForm, contextForm, noCaseForm, distanceForm, withinForm}
 use Rattle.definitions.specs.Options.{Option, row, optionTable}
-use Rattle.definitions.specs.House.{sideName, numberName, fieldName}
+use Rattle.definitions.specs.Canonical.{sideName, numberName, fieldName}
 use Rattle.definitions.specs.Grammar.{OptionText, option}
 use Rattle.syntax.proofs.Rows.{allRows, each-row}
 use Rattle.roundtrip.proofs.Making.{Of}
 
 -- ---- one space and an option's text
 
-abbrev pub Written : List ℕ → Entry → Type 1
+abbrev pub Written : List ℕ → OptionValue → Type 1
 Written x e = (y : List ℕ) × (x ≡ 32 ∷ y) × OptionText y e
 
 abbrev ownName : Option → Bool
@@ -33,7 +33,7 @@ own-names : allRows ownName optionTable ≡ true
 unfolding optionTable sameWord lower
 own-names = refl
 
-pub row-written : {o : Option} → Mem o optionTable → {y : List ℕ} {e : Entry} → Of (o .form) y e → Written (text " --" ++ (o .name ++ y)) e
+pub row-written : {o : Option} → Mem o optionTable → {y : List ℕ} {e : OptionValue} → Of (o .form) y e → Written (text " --" ++ (o .name ++ y)) e
 row-written {o} m {y} k = (45 ∷ 45 ∷ (o .name ++ y), refl, option o (o .name) y m (each-row ownName m own-names) (k .means))
 
 -- ---- the rows

@@ -9,11 +9,11 @@ use native.Mathlib.Nat.{le-refl}
 use lib.ListN.{length}
 use borrow.Author.Tests.{le-leb}
 use Rattle.forms.specs.Bytes.{if_then_else_, between}
-use Rattle.forms.specs.Form.{Class, has, Form, tell, byte, pair, alt, star, made, bound, Row, none, Means}
-use Rattle.forms.specs.Pieces.{skip, before, some, sign, mark, says}
+use Rattle.forms.specs.Form.{Class, has, Form, pure, byte, pair, alt, many, fmap, bound, Row, none, Means}
+use Rattle.forms.specs.Pieces.{preceded, terminated, some, literal, literalAs, keyword}
 use Rattle.forms.proofs.Bools.{by-cases}
 use Rattle.definitions.specs.Lists.{all?}
-use Rattle.definitions.specs.Entries.{Entry}
+use Rattle.definitions.specs.OptionValues.{OptionValue}
 use Rattle.definitions.specs.Forms.{closed, valued}
 use Rattle.roundtrip.proofs.Alls.{both, all-head, all-tail}
 
@@ -23,7 +23,7 @@ pub record Of {A : Type 0} (f : Form A) (x : List ℕ) (v : A) : Type 0 where
 
 -- ---- the seven ways
 
-pub tells : {A : Type 0} {a : A} → Of (tell a) [] a
+pub tells : {A : Type 0} {a : A} → Of (pure a) [] a
 unfolding Means
 tells = record { means = (refl, refl) }
 
@@ -36,11 +36,11 @@ module _ {A B : Type 0} {f : Form A} {g : Form B} {x y : List ℕ} {a : A} {b : 
   unfolding Means
   joins = record { means = (x, y, refl, p .means, q .means) }
 
-  pub skips : Of (skip f g) (x ++ y) b
+  pub skips : Of (preceded f g) (x ++ y) b
   unfolding Means
   skips = record { means = ((a, b), refl, (x, y, refl, p .means, q .means)) }
 
-  pub befores : Of (before f g) (x ++ y) a
+  pub befores : Of (terminated f g) (x ++ y) a
   unfolding Means
   befores = record { means = ((a, b), refl, (x, y, refl, p .means, q .means)) }
 
@@ -53,7 +53,7 @@ module _ {A : Type 0} {f g : Form A} {x : List ℕ} {a : A} where
   unfolding Means
   rights m = record { means = inr (m .means) }
 
-pub makes : {A B : Type 0} {h : A → B} {f : Form A} {x : List ℕ} {a : A} → Of f x a → Of (made h f) x (h a)
+pub makes : {A B : Type 0} {h : A → B} {f : Form A} {x : List ℕ} {a : A} → Of f x a → Of (fmap h f) x (h a)
 unfolding Means
 makes {a} m = record { means = (a, refl, m .means) }
 
@@ -61,7 +61,7 @@ pub bounds : {A : Type 0} {p : A → Bool} {j : A → ℕ} {f : Form A} {x : Lis
 unfolding Means
 bounds t m = record { means = (m .means, λ k. t) }
 
-pub stars : {A : Type 0} {f : Form A} {x : List ℕ} {vs : List A} → Row (λ y w. Of f y w) x vs → Of (star f) x vs
+pub stars : {A : Type 0} {f : Form A} {x : List ℕ} {vs : List A} → Row (λ y w. Of f y w) x vs → Of (many f) x vs
 unfolding Means
 stars {f} r = record { means = go r }
   where
@@ -84,11 +84,11 @@ revalues {f} {x} e m = subst (λ z. Of f x z) e m
 own-span : (b : ℕ) → between b b b ≡ true
 own-span b = both (le-leb b b (le-refl b)) (le-leb b b (le-refl b))
 
-pub signs : (b : ℕ) → Of (sign b) (b ∷ []) b
+pub signs : (b : ℕ) → Of (literal b) (b ∷ []) b
 unfolding has
 signs b = is-byte (rw (own-span b))
 
-pub marks : {A : Type 0} (b : ℕ) (a : A) → Of (mark b a) (b ∷ []) a
+pub marks : {A : Type 0} (b : ℕ) (a : A) → Of (literalAs b a) (b ∷ []) a
 marks b a = makes {h = λ (x : ℕ). a} (signs b)
 
 own-case : (b : ℕ) → has (if between 97 122 b then (b, b) ∷ (b - 32, b - 32) ∷ [] else (b, b) ∷ []) b ≡ true
@@ -96,7 +96,7 @@ unfolding has
 own-case b = by-cases (between 97 122 b) (λ t. rw (t, own-span b)) (λ t. rw (t, own-span b))
 
 -- a word in small letters
-pub words : {A : Type 0} (w : List ℕ) (a : A) → Of (says w a) w a
+pub words : {A : Type 0} (w : List ℕ) (a : A) → Of (keyword w a) w a
 words [] a = tells
 words (b ∷ w) a = skips (is-byte (own-case b)) (words w a)
 
@@ -111,8 +111,8 @@ some-bytes c (b ∷ l) h t = somes (is-byte (all-head (has c) b l t)) (byte-row 
 
 -- ---- an option's value, `;` behind it; one space before it
 
-pub closes : {f : Form Entry} {x : List ℕ} {e : Entry} → Of f x e → Of (closed f) (x ++ (59 ∷ [])) e
+pub closes : {f : Form OptionValue} {x : List ℕ} {e : OptionValue} → Of f x e → Of (closed f) (x ++ (59 ∷ [])) e
 closes m = befores m (skips (stars none) (signs 59))
 
-pub values : {f : Form Entry} {x : List ℕ} {e : Entry} → Of f x e → Of (valued f) (32 ∷ (x ++ (59 ∷ []))) e
+pub values : {f : Form OptionValue} {x : List ℕ} {e : OptionValue} → Of f x e → Of (valued f) (32 ∷ (x ++ (59 ∷ []))) e
 values m = skips (somes (signs 32) none) (closes m)

@@ -8,8 +8,8 @@ use borrow.Author.Tests.{eqb-true, leb-true}
 use Rattle.forms.specs.Bytes.{between}
 use Rattle.forms.specs.Form.{has}
 use Rattle.definitions.specs.declared.table.Table.{Table}
-use Rattle.definitions.specs.declared.packet.Last.the-variants.{Nothing}
-use Rattle.definitions.specs.Limits.{nameMost, patternsMost, testsMost, itemsMost, byteMost}
+use Rattle.definitions.specs.declared.packet.LastMatch.the-variants.{None}
+use Rattle.definitions.specs.Limits.{maxName, maxPatterns, maxTests, maxItems, maxByte}
 use Rattle.definitions.specs.Lists.{all?}
 use Rattle.definitions.specs.Forms.{quotable}
 use Rattle.definitions.specs.Items.{patternsOf, slotsOf}
@@ -19,20 +19,20 @@ use Rattle.roundtrip.proofs.Alls.{halves}
 use Rattle.roundtrip.proofs.Fits.{isByte}
 
 pub record Formed (t : Table) : Type 0 where
-  pub name-length : between 1 nameMost (t .len) ≡ true
+  pub name-length : between 1 maxName (t .len) ≡ true
   pub name-bytes : all? (has quotable) (take (t .len) (t .name)) ≡ true
   pub name-rest : all? isZero (drop (t .len) (t .name)) ≡ true
-  pub protocol : leb (t .protocol) byteMost ≡ true
-  pub count : t .count ≤ itemsMost
+  pub protocol : leb (t .protocol) maxByte ≡ true
+  pub count : t .count ≤ maxItems
   pub slots : all? slotFits (slotsOf t) ≡ true
   pub slots-rest : all? slotUnused (drop (t .count) (t .items)) ≡ true
-  pub patterns : patternCount t ≤ patternsMost
-  pub tests : t .count - patternCount t ≤ testsMost
+  pub patterns : patternCount t ≤ maxPatterns
+  pub tests : t .count - patternCount t ≤ maxTests
   pub used : t .used ≡ bytesOf (patternsOf (slotsOf t))
   pub used-most : t .used ≤ length (t .bytes)
   pub bytes : all? isByte (take (t .used) (t .bytes)) ≡ true
   pub bytes-rest : all? isZero (drop (t .used) (t .bytes)) ≡ true
-  pub usable : usableRun Nothing (patternsOf (slotsOf t)) ≡ patternCount t
+  pub usable : usableRun None (patternsOf (slotsOf t)) ≡ patternCount t
 
 pub formed : (t : Table) → wellFormed t ≡ true → Formed t
 unfolding wellFormed nameFits itemsFit bytesFit
@@ -55,14 +55,14 @@ formed t w =
       name-bytes = n1 .0;
       name-rest = n1 .1;
       protocol = b .0;
-      count = leb-true (t .count) itemsMost (i .0);
+      count = leb-true (t .count) maxItems (i .0);
       slots = i1 .0;
       slots-rest = i2 .0;
-      patterns = leb-true (patternCount t) patternsMost (i3 .0);
-      tests = leb-true (t .count - patternCount t) testsMost (i3 .1);
+      patterns = leb-true (patternCount t) maxPatterns (i3 .0);
+      tests = leb-true (t .count - patternCount t) maxTests (i3 .1);
       used = eqb-true (t .used) (bytesOf (patternsOf (slotsOf t))) (u .0);
       used-most = leb-true (t .used) (length (t .bytes)) (u1 .0);
       bytes = u2 .0;
       bytes-rest = u2 .1;
-      usable = eqb-true (usableRun Nothing (patternsOf (slotsOf t))) (patternCount t) (d .1);
+      usable = eqb-true (usableRun None (patternsOf (slotsOf t))) (patternCount t) (d .1);
     }

@@ -11,7 +11,7 @@ use Rattle.forms.specs.Bytes.{between, lower, sameWord}
 use Rattle.forms.proofs.Bools.{by-cases}
 use Rattle.forms.proofs.Sound.{never}
 use Rattle.definitions.specs.Lists.{all?}
-use Rattle.definitions.specs.Entries.{Entry}
+use Rattle.definitions.specs.OptionValues.{OptionValue}
 use Rattle.definitions.specs.Options.{Option, optionTable, printable}
 use Rattle.definitions.specs.Grammar.{OptionText, option, OptionsText, close, space}
 use Rattle.syntax.proofs.Rows.{allRows, each-row}
@@ -52,7 +52,7 @@ one-dash : printable 45 ≡ true
 unfolding printable
 one-dash = refl
 
-option-printed : {x : List ℕ} {e : Entry} → OptionText x e → all? printable x ≡ true
+option-printed : {x : List ℕ} {e : OptionValue} → OptionText x e → all? printable x ≡ true
 option-printed (option o n y {e} m q w) =
     let h : (all? printable (o .name) ≡ true) × (printedForm (o .form) ≡ true) = halves (each-row printedRow m rows-printed) in
     all-append printable (45 ∷ 45 ∷ n) y (dashed n (word-printed n (o .name) q (h .0))) (form-printed true (o .form) (h .1) y e w)
@@ -60,7 +60,7 @@ option-printed (option o n y {e} m q w) =
     dashed : (n : List ℕ) → all? printable n ≡ true → all? printable (45 ∷ 45 ∷ n) ≡ true
     dashed n t = all-more printable 45 (45 ∷ n) one-dash (all-more printable 45 n one-dash t)
 
-pub options-printed : {l : List ℕ} {es : List Entry} → OptionsText l es → all? printable l ≡ true
+pub options-printed : {l : List ℕ} {es : List OptionValue} → OptionsText l es → all? printable l ≡ true
 unfolding all? printable
 options-printed close = refl
 options-printed (space o) = options-printed o

@@ -23,28 +23,28 @@ use Rattle.laws.proofs.Refusing.{EmptyOrAccepted, unbounded-empty}
 use Rattle.syntax.proofs.Counting.{options-tests}
 use Rattle.syntax.proofs.Exact.{syntax-exactly, read-exactly}
 use Rattle.roundtrip.proofs.Counts.{few-addresses}
-use Rattle.roundtrip.proofs.Formed.{options-fit, options-bytes, Entries, entries-formed, entries-named, entries-slotted}
+use Rattle.roundtrip.proofs.Formed.{options-fit, options-bytes, Entries, options-formed, options-named, options-slotted}
 use Rattle.roundtrip.proofs.Shape.{table-shaped}
 use Rattle.list_laws.proofs.Padded.{padded-holds}
 
 -- ---- texts of the grammar
 
 module _ (room : ℕ) (s : List ℕ) (t : Table) (d : Derives room s t) where
-  entries-known : Entries (d .entries)
-  entries-known = record { fit = options-fit (d .made); only = options-tests (d .made); standing = d .standing; usable = d .usable; complete = d .complete }
+  options-known : Entries (d .values)
+  options-known = record { fit = options-fit (d .made); only = options-tests (d .made); occurrences = d .occurrences; usable = d .usable; complete = d .complete }
 
   pub derived-formed : Shaped room t → wellFormed t ≡ true
   unfolding tableOf
   derived-formed h =
       let e = d .table in
-      let r : length (tableOf room (d .entries) .bytes) ≡ room = ap (λ (u : Table). length (u .bytes)) (sym e) ∙ h .roomy in
-      rw e (entries-formed room (d .entries) entries-known (padded-holds room 0 (bytesIn (d .entries)) r))
+      let r : length (tableOf room (d .values) .bytes) ≡ room = ap (λ (u : Table). length (u .bytes)) (sym e) ∙ h .roomy in
+      rw e (options-formed room (d .values) options-known (padded-holds room 0 (bytesIn (d .values)) r))
 
   pub derived-shaped : length s ≤ room → Shaped room t
   derived-shaped h =
       let l = ap length (d .framed) ∙ length-append opening (d .body) in
-      rw (d .table) (table-shaped room (d .entries) (entries-named room (d .entries) entries-known) (omega (arith, h, l, options-bytes (d .made)))
-      (entries-slotted room (d .entries) entries-known) (few-addresses (d .entries) (d .standing)))
+      rw (d .table) (table-shaped room (d .values) (options-named room (d .values) options-known) (omega (arith, h, l, options-bytes (d .made)))
+      (options-slotted room (d .values) options-known) (few-addresses (d .values) (d .occurrences)))
 
 -- ---- reading
 

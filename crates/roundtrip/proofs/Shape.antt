@@ -9,9 +9,9 @@ use lib.Dec.{eqb}
 use borrow.Author.Tests.{eq-eqb, eqb-true, leb-true}
 use Rattle.definitions.specs.declared.table.Slot.{Slot}
 use Rattle.definitions.specs.declared.table.Table.{Table}
-use Rattle.definitions.specs.Limits.{nameMost, itemsMost, addressesMost}
+use Rattle.definitions.specs.Limits.{maxName, maxItems, maxAddresses}
 use Rattle.definitions.specs.Lists.{all?, padded}
-use Rattle.definitions.specs.Entries.{Entry, Name, Protocol, Flow, Test, Pattern, Modified}
+use Rattle.definitions.specs.OptionValues.{OptionValue, Name, Protocol, Flow, Test, Pattern, Modified}
 use Rattle.definitions.specs.Tables.{nameIn, noAddress, slotOf, noSlot, slotsIn, bytesIn, tableOf}
 use Rattle.definitions.specs.WellFormed.{Shaped}
 use Rattle.list_laws.proofs.Padded.{padded-full}
@@ -21,31 +21,31 @@ use Rattle.roundtrip.proofs.Counts.{fewAddresses}
 -- ---- each slot has its addresses
 
 abbrev pub wholeSlot : Slot → Bool
-wholeSlot sl = eqb (length (sl .addresses)) addressesMost
+wholeSlot sl = eqb (length (sl .addresses)) maxAddresses
 
-slots-whole : (es : List Entry) → all? fewAddresses es ≡ true → all? wholeSlot (slotsIn es) ≡ true
+slots-whole : (es : List OptionValue) → all? fewAddresses es ≡ true → all? wholeSlot (slotsIn es) ≡ true
 unfolding slotsIn
 slots-whole [] f = all-none wholeSlot
 slots-whole (Name n ∷ es) f = slots-whole es (all-tail fewAddresses (Name n) es f)
 slots-whole (Protocol p ∷ es) f = slots-whole es (all-tail fewAddresses (Protocol p) es f)
 slots-whole (Flow g ∷ es) f = slots-whole es (all-tail fewAddresses (Flow g) es f)
 slots-whole (Test it al ∷ es) f =
-    let h = padded-full addressesMost noAddress al (leb-true (length al) addressesMost (all-head fewAddresses (Test it al) es f)) in
-    all-more wholeSlot (slotOf it al) (slotsIn es) (eq-eqb (length (padded addressesMost noAddress al)) addressesMost h) (slots-whole es (all-tail fewAddresses (Test it al) es f))
+    let h = padded-full maxAddresses noAddress al (leb-true (length al) maxAddresses (all-head fewAddresses (Test it al) es f)) in
+    all-more wholeSlot (slotOf it al) (slotsIn es) (eq-eqb (length (padded maxAddresses noAddress al)) maxAddresses h) (slots-whole es (all-tail fewAddresses (Test it al) es f))
 slots-whole (Pattern n b ∷ es) f = all-more wholeSlot _ (slotsIn es) refl (slots-whole es (all-tail fewAddresses (Pattern n b) es f))
 slots-whole (Modified m ∷ es) f = slots-whole es (all-tail fewAddresses (Modified m) es f)
 
-pub table-shaped : (room : ℕ) (es : List Entry) → length (nameIn es) ≤ nameMost → length (bytesIn es) ≤ room → length (slotsIn es) ≤ itemsMost → all? fewAddresses es ≡ true → Shaped room (tableOf room es)
+pub table-shaped : (room : ℕ) (es : List OptionValue) → length (nameIn es) ≤ maxName → length (bytesIn es) ≤ room → length (slotsIn es) ≤ maxItems → all? fewAddresses es ≡ true → Shaped room (tableOf room es)
 unfolding tableOf
 table-shaped room es n b s f =
     record {
-      named = padded-full nameMost 0 (nameIn es) n;
+      named = padded-full maxName 0 (nameIn es) n;
       roomy = padded-full room 0 (bytesIn es) b;
-      slotted = padded-full itemsMost noSlot (slotsIn es) s;
+      slotted = padded-full maxItems noSlot (slotsIn es) s;
       addressed = λ sl m.
-          eqb-true (length (sl .addresses)) addressesMost
-          (all-each wholeSlot m (all-append wholeSlot (slotsIn es) (replicate (itemsMost - length (slotsIn es)) noSlot) (slots-whole es f) (all-replicate wholeSlot (itemsMost - length (slotsIn es)) noSlot refl)));
+          eqb-true (length (sl .addresses)) maxAddresses
+          (all-each wholeSlot m (all-append wholeSlot (slotsIn es) (replicate (maxItems - length (slotsIn es)) noSlot) (slots-whole es f) (all-replicate wholeSlot (maxItems - length (slotsIn es)) noSlot refl)));
     }
 
 pub slots-shaped : (room : ℕ) (t : Table) → Shaped room t → all? wholeSlot (t .items) ≡ true
-slots-shaped room t h = all-of wholeSlot (t .items) (λ sl m. eq-eqb (length (sl .addresses)) addressesMost (h .addressed sl m))
+slots-shaped room t h = all-of wholeSlot (t .items) (λ sl m. eq-eqb (length (sl .addresses)) maxAddresses (h .addressed sl m))

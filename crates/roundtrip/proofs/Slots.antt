@@ -15,31 +15,31 @@ use Rattle.definitions.specs.declared.table.Item.{Item}
 use Rattle.definitions.specs.declared.table.Item.the-variants as item
 use Rattle.definitions.specs.declared.table.Address.{Address}
 use Rattle.definitions.specs.declared.table.Pattern as patterns
-use Rattle.definitions.specs.Limits.{addressesMost}
+use Rattle.definitions.specs.Limits.{maxAddresses}
 use Rattle.definitions.specs.Lists.{all?, none?, padded}
-use Rattle.definitions.specs.Entries.{Modifier, Context, NoCase, Distance, Within, Entry, Name, Protocol, Flow, Test, Pattern, Modified}
+use Rattle.definitions.specs.OptionValues.{Modifier, Context, NoCase, Distance, Within, OptionValue, Name, Protocol, Flow, Test, Pattern, Modified}
 use Rattle.definitions.specs.Tables.{bare, with, modified, noAddress, slotOf, slotsIn, bytesIn}
 use Rattle.definitions.specs.Items.{kindOf, patternsOf}
 use Rattle.definitions.specs.WellFormed.{addressFits, addressUnused, distanceFits, withinFits, itemFits, addressesFit, slotFits, bytesOf}
 use Rattle.syntax.proofs.Counting.{testOnly, skipped}
 use Rattle.roundtrip.proofs.Alls.{both, all-none, all-more, all-head, all-tail, all-append, all-replicate}
 use Rattle.roundtrip.proofs.Counts.{fewAddresses}
-use Rattle.roundtrip.proofs.Fits.{testFits, isByte, modifierFits, entryFits}
+use Rattle.roundtrip.proofs.Fits.{testFits, isByte, modifierFits, optionFits}
 
 -- ---- tests
 
 -- so many addresses, and zeros behind them
-padded-fit : (al : List Address) → all? addressFits al ≡ true → addressesFit (length al) (padded addressesMost noAddress al) ≡ true
+padded-fit : (al : List Address) → all? addressFits al ≡ true → addressesFit (length al) (padded maxAddresses noAddress al) ≡ true
 padded-fit al f =
-    let z = replicate (addressesMost - length al) noAddress in
-    rw (take-append-seam al z, drop-append-seam al z) (both f (all-replicate addressUnused (addressesMost - length al) noAddress refl))
+    let z = replicate (maxAddresses - length al) noAddress in
+    rw (take-append-seam al z, drop-append-seam al z) (both f (all-replicate addressUnused (maxAddresses - length al) noAddress refl))
 
-plain-slot : (it : Item) (al : List Address) → (itemFits it && none? al) ≡ true → (itemFits it && addressesFit 0 (padded addressesMost noAddress al)) ≡ true
+plain-slot : (it : Item) (al : List Address) → (itemFits it && none? al) ≡ true → (itemFits it && addressesFit 0 (padded maxAddresses noAddress al)) ≡ true
 unfolding all?
 plain-slot it [] t = t
 plain-slot it (a ∷ al) t = let z = both-right (itemFits it) false t in never (cc)
 
-test-slot : (it : Item) (al : List Address) → testFits (kindOf it) it al ≡ true → leb (length al) addressesMost ≡ true → slotFits (slotOf it al) ≡ true
+test-slot : (it : Item) (al : List Address) → testFits (kindOf it) it al ≡ true → leb (length al) maxAddresses ≡ true → slotFits (slotOf it al) ≡ true
 unfolding itemFits
 test-slot item.Unused al t f = never (cc)
 test-slot (item.Address a) al t f =
@@ -66,15 +66,15 @@ with-fits NoCase p t f = f
 with-fits (Distance d) p t f = both t (both-right (distanceFits (p .distance)) (withinFits (p .within)) f)
 with-fits (Within w) p t f = both (both-left (distanceFits (p .distance)) (withinFits (p .within)) f) t
 
-modified-fits : (es : List Entry) (p : patterns.Pattern) → all? entryFits es ≡ true → rangeFits p ≡ true → rangeFits (modified es p) ≡ true
+modified-fits : (es : List OptionValue) (p : patterns.Pattern) → all? optionFits es ≡ true → rangeFits p ≡ true → rangeFits (modified es p) ≡ true
 unfolding modified
 modified-fits [] p t f = f
-modified-fits (Name n ∷ es) p t f = modified-fits es p (all-tail entryFits (Name n) es t) f
-modified-fits (Protocol q ∷ es) p t f = modified-fits es p (all-tail entryFits (Protocol q) es t) f
-modified-fits (Flow g ∷ es) p t f = modified-fits es p (all-tail entryFits (Flow g) es t) f
-modified-fits (Test it al ∷ es) p t f = modified-fits es p (all-tail entryFits (Test it al) es t) f
+modified-fits (Name n ∷ es) p t f = modified-fits es p (all-tail optionFits (Name n) es t) f
+modified-fits (Protocol q ∷ es) p t f = modified-fits es p (all-tail optionFits (Protocol q) es t) f
+modified-fits (Flow g ∷ es) p t f = modified-fits es p (all-tail optionFits (Flow g) es t) f
+modified-fits (Test it al ∷ es) p t f = modified-fits es p (all-tail optionFits (Test it al) es t) f
 modified-fits (Pattern n b ∷ es) p t f = f
-modified-fits (Modified m ∷ es) p t f = modified-fits es (with m p) (all-tail entryFits (Modified m) es t) (with-fits m p (all-head entryFits (Modified m) es t) f)
+modified-fits (Modified m ∷ es) p t f = modified-fits es (with m p) (all-tail optionFits (Modified m) es t) (with-fits m p (all-head optionFits (Modified m) es t) f)
 
 with-length : (m : Modifier) (p : patterns.Pattern) → with m p .len ≡ p .len
 with-length (Context c) p = refl
@@ -82,7 +82,7 @@ with-length NoCase p = refl
 with-length (Distance d) p = refl
 with-length (Within w) p = refl
 
-pub modified-length : (es : List Entry) (p : patterns.Pattern) → modified es p .len ≡ p .len
+pub modified-length : (es : List OptionValue) (p : patterns.Pattern) → modified es p .len ≡ p .len
 unfolding modified
 modified-length [] p = refl
 modified-length (Name n ∷ es) p = modified-length es p
@@ -98,39 +98,39 @@ pattern-slot p h f = both (both (lt-ltb 0 (p .len) (omega (arith, h))) f) refl
 
 -- ---- all slots
 
-pub slots-fit : (es : List Entry) → all? entryFits es ≡ true → all? fewAddresses es ≡ true → all? slotFits (slotsIn es) ≡ true
+pub slots-fit : (es : List OptionValue) → all? optionFits es ≡ true → all? fewAddresses es ≡ true → all? slotFits (slotsIn es) ≡ true
 unfolding slotsIn
 slots-fit [] t f = all-none slotFits
-slots-fit (Name n ∷ es) t f = slots-fit es (all-tail entryFits (Name n) es t) (all-tail fewAddresses (Name n) es f)
-slots-fit (Protocol p ∷ es) t f = slots-fit es (all-tail entryFits (Protocol p) es t) (all-tail fewAddresses (Protocol p) es f)
-slots-fit (Flow g ∷ es) t f = slots-fit es (all-tail entryFits (Flow g) es t) (all-tail fewAddresses (Flow g) es f)
+slots-fit (Name n ∷ es) t f = slots-fit es (all-tail optionFits (Name n) es t) (all-tail fewAddresses (Name n) es f)
+slots-fit (Protocol p ∷ es) t f = slots-fit es (all-tail optionFits (Protocol p) es t) (all-tail fewAddresses (Protocol p) es f)
+slots-fit (Flow g ∷ es) t f = slots-fit es (all-tail optionFits (Flow g) es t) (all-tail fewAddresses (Flow g) es f)
 slots-fit (Test it al ∷ es) t f =
-    all-more slotFits (slotOf it al) (slotsIn es) (test-slot it al (all-head entryFits (Test it al) es t) (all-head fewAddresses (Test it al) es f))
-    (slots-fit es (all-tail entryFits (Test it al) es t) (all-tail fewAddresses (Test it al) es f))
+    all-more slotFits (slotOf it al) (slotsIn es) (test-slot it al (all-head optionFits (Test it al) es t) (all-head fewAddresses (Test it al) es f))
+    (slots-fit es (all-tail optionFits (Test it al) es t) (all-tail fewAddresses (Test it al) es f))
 slots-fit (Pattern n b ∷ es) t f =
     let p = modified es (bare n (length b)) in
-    let i = all-head entryFits (Pattern n b) es t in
-    let g = all-tail entryFits (Pattern n b) es t in
+    let i = all-head optionFits (Pattern n b) es t in
+    let g = all-tail optionFits (Pattern n b) es t in
     let l = leb-true 1 (length b) (both-left (leb 1 (length b)) (all? isByte b) i) in
     let e : p .len ≡ length b = modified-length es (bare n (length b)) in
     all-more slotFits (slotOf (item.Pattern p) []) (slotsIn es) (pattern-slot p (omega (arith, e, l)) (modified-fits es (bare n (length b)) g refl))
     (slots-fit es g (all-tail fewAddresses (Pattern n b) es f))
-slots-fit (Modified m ∷ es) t f = slots-fit es (all-tail entryFits (Modified m) es t) (all-tail fewAddresses (Modified m) es f)
+slots-fit (Modified m ∷ es) t f = slots-fit es (all-tail optionFits (Modified m) es t) (all-tail fewAddresses (Modified m) es f)
 
 -- ---- pattern bytes
 
-pub bytes-fit : (es : List Entry) → all? entryFits es ≡ true → all? isByte (bytesIn es) ≡ true
+pub bytes-fit : (es : List OptionValue) → all? optionFits es ≡ true → all? isByte (bytesIn es) ≡ true
 unfolding bytesIn
 bytes-fit [] t = all-none isByte
-bytes-fit (Name n ∷ es) t = bytes-fit es (all-tail entryFits (Name n) es t)
-bytes-fit (Protocol p ∷ es) t = bytes-fit es (all-tail entryFits (Protocol p) es t)
-bytes-fit (Flow g ∷ es) t = bytes-fit es (all-tail entryFits (Flow g) es t)
-bytes-fit (Test it al ∷ es) t = bytes-fit es (all-tail entryFits (Test it al) es t)
-bytes-fit (Pattern n b ∷ es) t = all-append isByte b (bytesIn es) (both-right (leb 1 (length b)) (all? isByte b) (all-head entryFits (Pattern n b) es t)) (bytes-fit es (all-tail entryFits (Pattern n b) es t))
-bytes-fit (Modified m ∷ es) t = bytes-fit es (all-tail entryFits (Modified m) es t)
+bytes-fit (Name n ∷ es) t = bytes-fit es (all-tail optionFits (Name n) es t)
+bytes-fit (Protocol p ∷ es) t = bytes-fit es (all-tail optionFits (Protocol p) es t)
+bytes-fit (Flow g ∷ es) t = bytes-fit es (all-tail optionFits (Flow g) es t)
+bytes-fit (Test it al ∷ es) t = bytes-fit es (all-tail optionFits (Test it al) es t)
+bytes-fit (Pattern n b ∷ es) t = all-append isByte b (bytesIn es) (both-right (leb 1 (length b)) (all? isByte b) (all-head optionFits (Pattern n b) es t)) (bytes-fit es (all-tail optionFits (Pattern n b) es t))
+bytes-fit (Modified m ∷ es) t = bytes-fit es (all-tail optionFits (Modified m) es t)
 
 -- the patterns' lengths are those of their bytes
-pub lengths-in : (es : List Entry) → all? testOnly es ≡ true → bytesOf (patternsOf (slotsIn es)) ≡ length (bytesIn es)
+pub lengths-in : (es : List OptionValue) → all? testOnly es ≡ true → bytesOf (patternsOf (slotsIn es)) ≡ length (bytesIn es)
 unfolding slotsIn patternsOf bytesOf bytesIn
 lengths-in [] t = refl
 lengths-in (Name n ∷ es) t = lengths-in es (all-tail testOnly (Name n) es t)

@@ -9,8 +9,8 @@ use lib.ListN.{length, length-append}
 use lib.Dec.{leb}
 use lib.IntN.{natAbs}
 use borrow.Author.Tests.{le-leb, leb-true}
-use Rattle.forms.specs.Form.{has, Form, byte, made, Row, none, Means}
-use Rattle.forms.specs.Pieces.{skip, before, or, sign, says}
+use Rattle.forms.specs.Form.{has, Form, byte, fmap, Row, none, Means}
+use Rattle.forms.specs.Pieces.{preceded, terminated, or, literal, keyword}
 use Rattle.forms.proofs.Bools.{by-cases}
 use Rattle.definitions.specs.declared.table.Address.{Address}
 use Rattle.definitions.specs.Lists.{all?}
@@ -24,7 +24,7 @@ use Rattle.roundtrip.proofs.Fits.{isByte}
 
 -- ---- words and numbers
 
-pub says-every : {A : Type 0} (w : List ℕ) (a : A) (P : List ℕ → A → Type 0) → ((x : List ℕ) → P x a) → Every (says w a) P
+pub says-every : {A : Type 0} (w : List ℕ) (a : A) (P : List ℕ → A → Type 0) → ((x : List ℕ) → P x a) → Every (keyword w a) P
 says-every [] a P k = k []
 says-every (b ∷ w) a P k = λ c h. says-every w a (λ y v. P ((c ∷ []) ++ y) v) (λ y. k ((c ∷ []) ++ y))
 
@@ -63,16 +63,16 @@ not-none n = le-leb 1 (suc n) (omega arith)
 abbrev someFit : List Address → Bool
 someFit al = leb 1 (length al) && all? addressFits al
 
-some-fit : (x y : List ℕ) (a : Address) (al : List Address) → Means true address y a → Row (λ y w. Means true (skip (sign 44) address) y w) x al → someFit (a ∷ al) ≡ true
+some-fit : (x y : List ℕ) (a : Address) (al : List Address) → Means true address y a → Row (λ y w. Means true (preceded (literal 44) address) y w) x al → someFit (a ∷ al) ≡ true
 some-fit x y a al m r =
     both (not-none (length al)) (all-more addressFits a al (address-fits y a m)
-    (all-row addressFits (λ y w. Means true (skip (sign 44) address) y w)
-    (every (skip (sign 44) address) (λ x a. addressFits a ≡ true) (λ b h. known address (λ x a. addressFits a ≡ true) address-fits)) r))
+    (all-row addressFits (λ y w. Means true (preceded (literal 44) address) y w)
+    (every (preceded (literal 44) address) (λ x a. addressFits a ≡ true) (λ b h. known address (λ x a. addressFits a ≡ true) address-fits)) r))
 
 pub addresses-fit : (x : List ℕ) (al : List Address) → Means true addresses x al → someFit al ≡ true
 addresses-fit =
     every addresses (λ x al. someFit al ≡ true) (
-      (λ b h. known address (λ y a. (z : List ℕ) (al : List Address) → Row (λ y w. Means true (skip (sign 44) address) y w) z al → (c : ℕ) → has ((93, 93) ∷ []) c ≡ true → someFit (a ∷ al) ≡ true)
+      (λ b h. known address (λ y a. (z : List ℕ) (al : List Address) → Row (λ y w. Means true (preceded (literal 44) address) y w) z al → (c : ℕ) → has ((93, 93) ∷ []) c ≡ true → someFit (a ∷ al) ≡ true)
           (λ y a m z al r c g. some-fit z y a al m r)),
       known address (λ y a. someFit (a ∷ []) ≡ true) (λ y a m. some-fit [] y a [] m none),
     )
@@ -81,10 +81,10 @@ addresses-fit =
 
 -- a pair of digits, with any spaces behind it; a byte that stands for itself, or a block
 abbrev pub spacedPair : Form ℕ
-spacedPair = before hexPair spaces
+spacedPair = terminated hexPair spaces
 
 abbrev pub part : Form (List ℕ)
-part = or (made (λ (b : ℕ). b ∷ []) (byte plainBytes)) block
+part = or (fmap (λ (b : ℕ). b ∷ []) (byte plainBytes)) block
 
 pub digit-small : (b : ℕ) → has hexDigits b ≡ true → digitValue b ≤ 15
 unfolding digitValue

@@ -9,7 +9,7 @@ use lib.IntN.{ℤ, pos, negsuc, natAbs}
 use borrow.Author.Tests.{eqb-true, leb-true}
 use Rattle.forms.specs.Bytes.{text}
 use Rattle.forms.specs.Form.{pair, Row, none}
-use Rattle.forms.specs.Pieces.{skip, before, or, opt, sign, mark, says, word}
+use Rattle.forms.specs.Pieces.{preceded, terminated, or, opt, literal, literalAs, keyword, word}
 use Rattle.forms.proofs.Bools.{by-cases, both-left, both-right}
 use Rattle.forms.proofs.Sound.{never}
 use Rattle.definitions.specs.declared.table.Flow as flows
@@ -30,25 +30,25 @@ use Rattle.definitions.specs.declared.table.Context as contexts
 use Rattle.definitions.specs.declared.table.Context.the-variants as context
 use Rattle.definitions.specs.declared.table.Reference.{Reference}
 use Rattle.definitions.specs.declared.table.Reference.the-variants as reference
-use Rattle.definitions.specs.declared.table.Reach.{Reach}
+use Rattle.definitions.specs.declared.table.WithinValue.{WithinValue}
 use Rattle.definitions.specs.declared.table.Item.{Item}
 use Rattle.definitions.specs.declared.table.Item.the-variants as item
 use Rattle.definitions.specs.declared.table.Address.{Address}
-use Rattle.definitions.specs.Limits.{byteMost, wordMost}
+use Rattle.definitions.specs.Limits.{maxByte, maxWord}
 use Rattle.definitions.specs.Lists.{none?}
-use Rattle.definitions.specs.Entries.{Context, NoCase, Distance, Within, Entry, Name, Protocol, Flow, Test, Pattern, Modified}
+use Rattle.definitions.specs.OptionValues.{Context, NoCase, Distance, Within, OptionValue, Name, Protocol, Flow, Test, Pattern, Modified}
 use Rattle.definitions.specs.Numbers.{number, numeral}
-use Rattle.definitions.specs.Forms.{quotable, spaces, comma, negation, addressTest, test, lessOrGreater, comparison, fieldMost, numberMost, referenceWord, signed}
+use Rattle.definitions.specs.Forms.{quotable, spaces, comma, negation, addressTest, test, lessOrGreater, comparison, maxField, maxNumber, referenceWord, signed}
 use Rattle.definitions.specs.Items.{addressed, kindOf}
 use Rattle.definitions.specs.References.{sameReference}
-use Rattle.definitions.specs.House.{decimal, textIf, negatedText, orderText, operatorText, fieldText, sizeFieldText, contextText, referenceText, testText, modifierText, entryText}
+use Rattle.definitions.specs.Canonical.{decimal, textIf, negatedText, orderText, operatorText, fieldText, sizeFieldText, contextText, referenceText, testText, modifierText, optionText}
 use Rattle.definitions.specs.WellFormed.{itemFits}
 use Rattle.syntax.proofs.Truths.{impossible}
 use Rattle.roundtrip.proofs.Alls.{halves}
 use Rattle.roundtrip.proofs.Addressed.{addresses-of}
 use Rattle.roundtrip.proofs.Blocks.{pattern-of}
 use Rattle.roundtrip.proofs.Decimals.{number-of, numeral-of}
-use Rattle.roundtrip.proofs.Fits.{flowFits, testFits, entryFits, entryTold}
+use Rattle.roundtrip.proofs.Fits.{flowFits, testFits, optionFits, optionTold}
 use Rattle.roundtrip.proofs.Listed.{Written, row-written, name-row, protocol-row, flow-row, side-row, same-ip-row, number-row, ttl-row, field-row, size-row, at-row, pattern-row, context-row, no-case-row, distance-row, within-row}
 use Rattle.roundtrip.proofs.Making.{Of, retexts, revalues, tells, makes, bounds, skips, befores, joins, lefts, rights, stars, signs, marks, words, some-bytes, closes, values}
 
@@ -65,19 +65,19 @@ order-of order.Greater = lefts (rights (marks 62 order.Greater))
 
 -- ---- name, protocol, flow
 
-name-written : (n : List ℕ) → entryFits (Name n) ≡ true → Written (entryText (Name n)) (Name n)
-unfolding entryText
+name-written : (n : List ℕ) → optionFits (Name n) ≡ true → Written (optionText (Name n)) (Name n)
+unfolding optionText
 name-written n t =
     let h = halves t in
     let g = halves (h .0) in
     row-written name-row (values (makes {h = Name} (bounds (g .1) (skips (signs 34) (befores (some-bytes quotable n (leb-true 1 (length n) (g .0)) (h .1)) (signs 34))))))
 
-protocol-written : (p : ℕ) → entryFits (Protocol p) ≡ true → Written (entryText (Protocol p)) (Protocol p)
-unfolding entryText
-protocol-written p t = row-written protocol-row (values (makes {h = Protocol} (rights (rights (rights (number-of byteMost p t))))))
+protocol-written : (p : ℕ) → optionFits (Protocol p) ≡ true → Written (optionText (Protocol p)) (Protocol p)
+unfolding optionText
+protocol-written p t = row-written protocol-row (values (makes {h = Protocol} (rights (rights (rights (number-of maxByte p t))))))
 
-flow-written : (f : flows.Flow) → flowFits f ≡ true → Written (entryText (Flow f)) (Flow f)
-unfolding entryText
+flow-written : (f : flows.Flow) → flowFits f ≡ true → Written (optionText (Flow f)) (Flow f)
+unfolding optionText
 flow-written flow.Any t = impossible (cc)
 flow-written flow.FromClient t = row-written flow-row (values (makes {h = Flow} (skips (words (text "from_") 0) (lefts (words (text "client") flow.FromClient)))))
 flow-written flow.FromServer t = row-written flow-row (values (makes {h = Flow} (skips (words (text "from_") 0) (rights (words (text "server") flow.FromServer)))))
@@ -93,24 +93,24 @@ operator-of operator.AtMost = rights (rights (lefts (skips (signs 60) (lefts (ma
 operator-of operator.AtLeast = rights (rights (rights (skips (signs 62) (lefts (marks 61 operator.AtLeast)))))
 
 -- a full mask is left out
-mask-of : (limit n : ℕ) → leb n limit ≡ true → Of (opt limit (skip (sign 38) (skip spaces (before (numeral limit) spaces)))) (textIf (not (eqb n limit)) (text "& " ++ (decimal n ++ text " "))) n
+mask-of : (limit n : ℕ) → leb n limit ≡ true → Of (opt limit (preceded (literal 38) (preceded spaces (terminated (numeral limit) spaces)))) (textIf (not (eqb n limit)) (text "& " ++ (decimal n ++ text " "))) n
 mask-of limit n t =
     by-cases (eqb n limit)
     (λ u. rw u (rights (revalues (sym (eqb-true n limit u)) tells)))
     (λ u. rw u (lefts (skips (signs 38) (skips (stars (Row.more (signs 32) none)) (befores (numeral-of limit n t) (stars (Row.more (signs 32) none)))))))
 
-size-of : (f : SizeField) → Of (comma sizeField.Payload (or (says (text "payload") sizeField.Payload) (or (says (text "uri") sizeField.Uri) (or (says (text "header") sizeField.Header) (says (text "body") sizeField.Body))))) (sizeFieldText f) f
+size-of : (f : SizeField) → Of (comma sizeField.Payload (or (keyword (text "payload") sizeField.Payload) (or (keyword (text "uri") sizeField.Uri) (or (keyword (text "header") sizeField.Header) (keyword (text "body") sizeField.Body))))) (sizeFieldText f) f
 size-of sizeField.Payload = rights tells
 size-of sizeField.Uri = lefts (skips (signs 44) (rights (lefts (words (text "uri") sizeField.Uri))))
 size-of sizeField.Header = lefts (skips (signs 44) (rights (rights (lefts (words (text "header") sizeField.Header)))))
 size-of sizeField.Body = lefts (skips (signs 44) (rights (rights (rights (words (text "body") sizeField.Body)))))
 
-size-order : (o : Order) → Of (opt order.Equal (or lessOrGreater (mark 61 order.Equal))) (orderText o) o
+size-order : (o : Order) → Of (opt order.Equal (or lessOrGreater (literalAs 61 order.Equal))) (orderText o) o
 size-order order.Equal = rights tells
 size-order order.Less = lefts (lefts (lefts (marks 60 order.Less)))
 size-order order.Greater = lefts (lefts (rights (marks 62 order.Greater)))
 
-relative-of : (r : Bool) → Of (comma false (says (text "relative") true)) (textIf r (text ",relative")) r
+relative-of : (r : Bool) → Of (comma false (keyword (text "relative") true)) (textIf r (text ",relative")) r
 relative-of true = lefts (skips (signs 44) (words (text "relative") true))
 relative-of false = rights tells
 
@@ -131,11 +131,11 @@ address-written a al t =
 
 number-written : (a : NumberTest) → itemFits (item.Number a) ≡ true → Written (testText (item.Number a) []) (test (item.Number a))
 unfolding testText itemFits
-number-written a f = row-written (number-row (a .field)) (values (makes {h = λ (n : ℕ). test (item.Number (record { field = a .field; number = n }))} (number-of (numberMost (a .field)) (a .number) f)))
+number-written a f = row-written (number-row (a .field)) (values (makes {h = λ (n : ℕ). test (item.Number (record { field = a .field; number = n }))} (number-of (maxNumber (a .field)) (a .number) f)))
 
 ttl-written : (a : TtlTest) → itemFits (item.Ttl a) ≡ true → Written (testText (item.Ttl a) []) (test (item.Ttl a))
 unfolding testText itemFits
-ttl-written a f = row-written ttl-row (values (makes {h = λ (p : Order × ℕ). test (item.Ttl (record { order = p .0; number = p .1 }))} (joins (order-of (a .order)) (number-of byteMost (a .number) f))))
+ttl-written a f = row-written ttl-row (values (makes {h = λ (p : Order × ℕ). test (item.Ttl (record { order = p .0; number = p .1 }))} (joins (order-of (a .order)) (number-of maxByte (a .number) f))))
 
 field-written : (a : FieldTest) → itemFits (item.Field a) ≡ true → Written (testText (item.Field a) []) (test (item.Field a))
 unfolding testText itemFits fieldText
@@ -143,18 +143,18 @@ field-written a f =
     let h = halves f in
     row-written (field-row (a .field))
     (values {x = fieldText a} (makes {h = λ (p : ℕ × (Operator × ℕ)). test (item.Field (record { field = a .field; mask = p .0; operator = p .1 .0; number = p .1 .1 }))}
-    (retexts (simp append-assoc) (joins (mask-of (fieldMost (a .field)) (a .mask) (h .0)) (joins (befores (operator-of (a .operator)) (stars (Row.more (signs 32) none))) (numeral-of (fieldMost (a .field)) (a .number) (h .1)))))))
+    (retexts (simp append-assoc) (joins (mask-of (maxField (a .field)) (a .mask) (h .0)) (joins (befores (operator-of (a .operator)) (stars (Row.more (signs 32) none))) (numeral-of (maxField (a .field)) (a .number) (h .1)))))))
 
 size-written : (a : SizeTest) → itemFits (item.Size a) ≡ true → Written (testText (item.Size a) []) (test (item.Size a))
 unfolding testText itemFits
 size-written a f =
     row-written size-row
     (values (makes {h = λ (p : Order × (ℕ × SizeField)). test (item.Size (record { order = p .0; number = p .1 .0; field = p .1 .1 }))}
-    (joins (size-order (a .order)) (joins (number-of wordMost (a .number) f) (size-of (a .field))))))
+    (joins (size-order (a .order)) (joins (number-of maxWord (a .number) f) (size-of (a .field))))))
 
 at-written : (a : AtTest) → itemFits (item.At a) ≡ true → Written (testText (item.At a) []) (test (item.At a))
 unfolding testText itemFits
-at-written a f = row-written at-row (values (makes {h = λ (p : ℕ × Bool). test (item.At (record { number = p .0; relative = p .1 }))} (joins (number-of wordMost (a .number) f) (relative-of (a .relative)))))
+at-written a f = row-written at-row (values (makes {h = λ (p : ℕ × Bool). test (item.At (record { number = p .0; relative = p .1 }))} (joins (number-of maxWord (a .number) f) (relative-of (a .relative)))))
 
 pub test-written : (it : Item) (al : List Address) → testFits (kindOf it) it al ≡ true → Written (testText it al) (Test it al)
 unfolding testText
@@ -170,15 +170,15 @@ test-written (item.Pattern p) al t = impossible (cc)
 
 -- ---- patterns and their modifiers
 
-pattern-written : (n : Bool) (b : List ℕ) → entryFits (Pattern n b) ≡ true → Written (entryText (Pattern n b)) (Pattern n b)
-unfolding entryText
+pattern-written : (n : Bool) (b : List ℕ) → optionFits (Pattern n b) ≡ true → Written (optionText (Pattern n b)) (Pattern n b)
+unfolding optionText
 pattern-written n b t =
     let h = halves t in
     row-written pattern-row
     (values (makes {h = λ (p : Bool × List ℕ). Pattern (p .0) (p .1)}
     (joins (negation-of n) (skips (signs 34) (befores (pattern-of b (leb-true 1 (length b) (h .0)) (h .1)) (signs 34))))))
 
-context-of : (c : contexts.Context) → Of (or (says (text "packet") context.Packet) (or (says (text "uri") context.Uri) (or (skip (word (text "h")) (or (says (text "eader") context.Header) (says (text "ost") context.Host))) (or (skip (word (text "b")) (or (says (text "ody") context.Body) (says (text "anner") context.Banner))) (says (text "file") context.File))))) (contextText c) c
+context-of : (c : contexts.Context) → Of (or (keyword (text "packet") context.Packet) (or (keyword (text "uri") context.Uri) (or (preceded (word (text "h")) (or (keyword (text "eader") context.Header) (keyword (text "ost") context.Host))) (or (preceded (word (text "b")) (or (keyword (text "ody") context.Body) (keyword (text "anner") context.Banner))) (keyword (text "file") context.File))))) (contextText c) c
 context-of context.Packet = lefts (words (text "packet") context.Packet)
 context-of context.Uri = rights (lefts (words (text "uri") context.Uri))
 context-of context.Header = rights (rights (lefts (skips (words (text "h") 0) (lefts (words (text "eader") context.Header)))))
@@ -193,42 +193,42 @@ reference-of reference.Match = rights tells
 reference-of reference.Packet = lefts (skips (signs 44) (rights (lefts (words (text "packet") reference.Packet))))
 reference-of reference.Context = lefts (skips (signs 44) (rights (rights (words (text "context") reference.Context))))
 
-reverse-of : (r : Bool) → Of (comma false (says (text "reverse") true)) (textIf r (text ",reverse")) r
+reverse-of : (r : Bool) → Of (comma false (keyword (text "reverse") true)) (textIf r (text ",reverse")) r
 reverse-of true = lefts (skips (signs 44) (words (text "reverse") true))
 reverse-of false = rights tells
 
 -- reverse stands behind a reference
-shift-of : (r : Reference) (v : Bool) → (not v || not (sameReference r reference.Match)) ≡ true → Of (comma (reference.Match, false) (pair referenceWord (comma false (says (text "reverse") true)))) (referenceText r ++ textIf v (text ",reverse")) (r, v)
+shift-of : (r : Reference) (v : Bool) → (not v || not (sameReference r reference.Match)) ≡ true → Of (comma (reference.Match, false) (pair referenceWord (comma false (keyword (text "reverse") true)))) (referenceText r ++ textIf v (text ",reverse")) (r, v)
 shift-of reference.Match true t = never (cc)
 shift-of reference.Match false t = rights tells
 shift-of reference.Packet v t = lefts (skips (signs 44) (joins (rights (lefts (words (text "packet") reference.Packet))) (reverse-of v)))
 shift-of reference.Context v t = lefts (skips (signs 44) (joins (rights (rights (words (text "context") reference.Context))) (reverse-of v)))
 
-abbrev shifted : Bool × (ℕ × (Reference × Bool)) → Entry
+abbrev shifted : Bool × (ℕ × (Reference × Bool)) → OptionValue
 shifted p = Modified (Distance (record { offset = signed (p .0) (p .1 .0); reference = p .1 .1 .0; reverse = p .1 .1 .1 }))
 
-distance-written : (z : ℤ) (r : Reference) (v : Bool) → leb (natAbs z) wordMost ≡ true → (not v || not (sameReference r reference.Match)) ≡ true → Written (modifierText (Distance (record { offset = z; reference = r; reverse = v }))) (Modified (Distance (record { offset = z; reference = r; reverse = v })))
+distance-written : (z : ℤ) (r : Reference) (v : Bool) → leb (natAbs z) maxWord ≡ true → (not v || not (sameReference r reference.Match)) ≡ true → Written (modifierText (Distance (record { offset = z; reference = r; reverse = v }))) (Modified (Distance (record { offset = z; reference = r; reverse = v })))
 unfolding modifierText
 distance-written (pos n) r v t u =
-    row-written distance-row (values (makes {h = shifted} {a = (false, (n, (r, v)))} (joins (rights tells) (joins (number-of wordMost n t) (shift-of r v u)))))
+    row-written distance-row (values (makes {h = shifted} {a = (false, (n, (r, v)))} (joins (rights tells) (joins (number-of maxWord n t) (shift-of r v u)))))
 distance-written (negsuc n) r v t u =
-    row-written distance-row (values (makes {h = shifted} {a = (true, (suc n, (r, v)))} (joins (lefts (marks 45 true)) (joins (number-of wordMost (suc n) t) (shift-of r v u)))))
+    row-written distance-row (values (makes {h = shifted} {a = (true, (suc n, (r, v)))} (joins (lefts (marks 45 true)) (joins (number-of maxWord (suc n) t) (shift-of r v u)))))
 
-within-written : (w : Reach) → leb (w .number) wordMost ≡ true → Written (modifierText (Within w)) (Modified (Within w))
+within-written : (w : WithinValue) → leb (w .number) maxWord ≡ true → Written (modifierText (Within w)) (Modified (Within w))
 unfolding modifierText
 within-written w t =
-    row-written within-row (values (makes {h = λ (p : ℕ × Reference). Modified (Within (record { number = p .0; reference = p .1 }))} (joins (number-of wordMost (w .number) t) (reference-of (w .reference)))))
+    row-written within-row (values (makes {h = λ (p : ℕ × Reference). Modified (Within (record { number = p .0; reference = p .1 }))} (joins (number-of maxWord (w .number) t) (reference-of (w .reference)))))
 
 -- ---- all entries
 
-pub entry-written : (e : Entry) → entryFits e ≡ true → entryTold e ≡ true → Written (entryText e) e
-unfolding entryText modifierText
-entry-written (Name n) t u = name-written n t
-entry-written (Protocol p) t u = protocol-written p t
-entry-written (Flow f) t u = flow-written f t
-entry-written (Test it al) t u = test-written it al t
-entry-written (Pattern n b) t u = pattern-written n b t
-entry-written (Modified (Context c)) t u = row-written context-row (values (makes {h = λ (c : contexts.Context). Modified (Context c)} (context-of c)))
-entry-written (Modified NoCase) t u = row-written no-case-row (closes tells)
-entry-written (Modified (Distance d)) t u = distance-written (d .offset) (d .reference) (d .reverse) t u
-entry-written (Modified (Within w)) t u = within-written w t
+pub option-written : (e : OptionValue) → optionFits e ≡ true → optionTold e ≡ true → Written (optionText e) e
+unfolding optionText modifierText
+option-written (Name n) t u = name-written n t
+option-written (Protocol p) t u = protocol-written p t
+option-written (Flow f) t u = flow-written f t
+option-written (Test it al) t u = test-written it al t
+option-written (Pattern n b) t u = pattern-written n b t
+option-written (Modified (Context c)) t u = row-written context-row (values (makes {h = λ (c : contexts.Context). Modified (Context c)} (context-of c)))
+option-written (Modified NoCase) t u = row-written no-case-row (closes tells)
+option-written (Modified (Distance d)) t u = distance-written (d .offset) (d .reference) (d .reverse) t u
+option-written (Modified (Within w)) t u = within-written w t

@@ -10,7 +10,7 @@ use lib.Seq.{drop-cons}
 use lib.Dec.{leb, ltb}
 use borrow.Author.Tests.{ltb-true, ltb-false, le-ltb}
 use Rattle.forms.proofs.Bools.{by-cases}
-use Rattle.definitions.specs.Limits.{byteMost}
+use Rattle.definitions.specs.Limits.{maxByte}
 use Rattle.definitions.specs.Numbers.{digitValue, valueOf}
 use Rattle.scan_bytes.specs.Capped.{farAbove, capped}
 
@@ -67,5 +67,5 @@ module _ (base : ℕ) (low : 1 ≤ base) (s : List ℕ) (at end v i : ℕ) (u : 
       let k : capped v ≡ v = by-cases (ltb v farAbove) (λ t. rw t) (λ t. rw t (omega (arith, ltb-false v farAbove t, u .small))) in
       sym (u .sum ∙ rw z k)
 
-pub product-fits : (v base d : ℕ) → v ≤ farAbove → base ≤ 16 → d ≤ byteMost → v * base + d ≤ 68719477000
+pub product-fits : (v base d : ℕ) → v ≤ farAbove → base ≤ 16 → d ≤ maxByte → v * base + d ≤ 68719477000
 product-fits v base d h g k = omega (arith, mul-le-mul {n₁ = v} {m₁ = base} {n₂ = farAbove} {m₂ = 16} h g, k)

@@ -6,12 +6,12 @@ use Prim.Native.Nat.{ℕ}
 use lib.ListN.{drop}
 use Rattle.forms.specs.Bytes.{between}
 use Rattle.forms.specs.Form.{Class, has, Form, alt}
-use Rattle.forms.specs.Scan.{first, begins}
+use Rattle.forms.specs.Scan.{firstSet, begins}
 use Rattle.forms.specs.Place.{readAt, farther}
 use Rattle.forms.proofs.Bools.{by-cases}
 use Rattle.forms.proofs.At.{alt-at}
 use Rattle.scan_cursors.specs.declared.Cursor.{Cursor}
-use Rattle.scan_cursors.specs.declared.Cursor.the-variants.{Going, Over, Stopped}
+use Rattle.scan_cursors.specs.declared.Cursor.the-variants.{Parsed, OutOfRange, Failed}
 use Rattle.scan_cursors.specs.Reads.{from, Inside, nextIn, Reads}
 use Rattle.scan_cursors.proofs.Readings.{alike-reads}
 
@@ -39,27 +39,27 @@ begins-second c d l e f = rw (begins-either c d l, e) f
 -- ---- the byte of a test decides
 
 module _ {A : Type 0} (f g : Form A) (s : List ℕ) where
-  first-at : (n : ℕ) → begins (first f) (drop n s) ≡ true → readAt f s n ≡ readAt (alt f g) s n
+  first-at : (n : ℕ) → begins (firstSet f) (drop n s) ≡ true → readAt f s n ≡ readAt (alt f g) s n
   first-at n e = sym (alt-at f g s n ∙ rw e)
 
-  first-from : (c : Cursor) → nextIn (first f) s c ≡ true → from c (λ n. readAt f s n) ≡ from c (λ n. readAt (alt f g) s n)
-  first-from (Going n) e = first-at n e
-  first-from (Over p n) e = ap (farther p) (first-at n e)
-  first-from (Stopped p) e = refl
+  first-from : (c : Cursor) → nextIn (firstSet f) s c ≡ true → from c (λ n. readAt f s n) ≡ from c (λ n. readAt (alt f g) s n)
+  first-from (Parsed n) e = first-at n e
+  first-from (OutOfRange p n) e = ap (farther p) (first-at n e)
+  first-from (Failed p) e = refl
 
-  second-at : (n : ℕ) → begins (first f) (drop n s) ≡ false → readAt g s n ≡ readAt (alt f g) s n
+  second-at : (n : ℕ) → begins (firstSet f) (drop n s) ≡ false → readAt g s n ≡ readAt (alt f g) s n
   second-at n e = sym (alt-at f g s n ∙ rw e)
 
-  second-from : (c : Cursor) → nextIn (first f) s c ≡ false → from c (λ n. readAt g s n) ≡ from c (λ n. readAt (alt f g) s n)
-  second-from (Going n) e = second-at n e
-  second-from (Over p n) e = ap (farther p) (second-at n e)
-  second-from (Stopped p) e = refl
+  second-from : (c : Cursor) → nextIn (firstSet f) s c ≡ false → from c (λ n. readAt g s n) ≡ from c (λ n. readAt (alt f g) s n)
+  second-from (Parsed n) e = second-at n e
+  second-from (OutOfRange p n) e = ap (farther p) (second-at n e)
+  second-from (Failed p) e = refl
 
 module _ {A : Type 0} {f g : Form A} {s : List ℕ} {c d : Cursor} {v : A} {t : Bool} where
-  pub first-reads : t ≡ nextIn (first f) s c → t ≡ true → Reads f s c v d → Reads (alt f g) s c v d
+  pub first-reads : t ≡ nextIn (firstSet f) s c → t ≡ true → Reads f s c v d → Reads (alt f g) s c v d
   first-reads e y r = record { reads = r .reads ∙ first-from f g s c (sym e ∙ y); inside = r .inside }
 
-  pub second-reads : t ≡ nextIn (first f) s c → t ≡ false → Reads g s c v d → Reads (alt f g) s c v d
+  pub second-reads : t ≡ nextIn (firstSet f) s c → t ≡ false → Reads g s c v d → Reads (alt f g) s c v d
   second-reads e y r = record { reads = r .reads ∙ second-from f g s c (sym e ∙ y); inside = r .inside }
 
 -- ---- three in a row are chosen from the left
@@ -68,9 +68,9 @@ module _ {A : Type 0} (f g h : Form A) (s : List ℕ) where
   row-at : (n : ℕ) → readAt (alt f (alt g h)) s n ≡ readAt (alt (alt f g) h) s n
   row-at n =
       alt-at f (alt g h) s n
-      ∙ by-cases (begins (first f) (drop n s))
-      (λ t. rw t (sym (alt-at (alt f g) h s n ∙ rw (begins-either (first f) (first g) (drop n s), t) (alt-at f g s n ∙ rw t))))
-      (λ t. rw t (alt-at g h s n ∙ sym (alt-at (alt f g) h s n ∙ rw (begins-either (first f) (first g) (drop n s), t, alt-at f g s n, t))))
+      ∙ by-cases (begins (firstSet f) (drop n s))
+      (λ t. rw t (sym (alt-at (alt f g) h s n ∙ rw (begins-either (firstSet f) (firstSet g) (drop n s), t) (alt-at f g s n ∙ rw t))))
+      (λ t. rw t (alt-at g h s n ∙ sym (alt-at (alt f g) h s n ∙ rw (begins-either (firstSet f) (firstSet g) (drop n s), t, alt-at f g s n, t))))
 
 pub row-reads : {A : Type 0} {f g h : Form A} {s : List ℕ} {c d : Cursor} {v : A} → Inside s c → Reads (alt f (alt g h)) s c v d
     → Reads (alt (alt f g) h) s c v d

@@ -5,81 +5,81 @@ use mathlib.Core.List.{List, [], _∷_, _++_}
 use Prim.Native.Nat.{ℕ, suc, _+_, _-_, _≤_, _<_}
 use native.Mathlib.Omega.{arith}
 use lib.ListN.{length, drop, length-drop, length-append}
-use Rattle.forms.specs.Form.{Class, Form, Means, pair, star}
-use Rattle.forms.specs.Scan.{Scan, Got, Stop, scan, over, empty, fair}
-use Rattle.forms.specs.Place.{Read, Is, Far, No, placed, readAt, mapped, farther}
+use Rattle.forms.specs.Form.{Class, Form, Means, pair, many}
+use Rattle.forms.specs.Scan.{Scan, Got, Stop, scan, over, nullable, isLL1}
+use Rattle.forms.specs.Place.{Read, Parsed, OutOfRange, Failed, placed, readAt, mapped, farther}
 use Rattle.forms.specs.Pieces.{some}
 use Rattle.forms.proofs.Sound.{sound-loose, never}
 use Rattle.forms.proofs.Complete.{some-byte, no-empty}
 use Rattle.forms.proofs.At.{made-at}
 use Rattle.forms.proofs.Places.{begun}
 use Rattle.scan_cursors.specs.declared.Cursor.{Cursor}
-use Rattle.scan_cursors.specs.declared.Cursor.the-variants.{Going, Over, Stopped}
+use Rattle.scan_cursors.specs.declared.Cursor.the-variants as cursor
 use Rattle.scan_cursors.specs.Reads.{readBy, from, placeOf, Inside, nextIn, limitedBy, Reads}
 
 -- ---- a reading that goes on began where reading went on
 
-pub came-going : {A : Type 0} {f : Form A} {s : List ℕ} {c d : Cursor} {v : A} {n : ℕ} → Reads f s c v d → d ≡ Going n → (m : ℕ) × (c ≡ Going m)
+pub came-going : {A : Type 0} {f : Form A} {s : List ℕ} {c d : Cursor} {v : A} {n : ℕ} → Reads f s c v d → d ≡ cursor.Parsed n → (m : ℕ) × (c ≡ cursor.Parsed m)
 came-going {A} {f} {s} {c} {d} {v} {n} r e = go c (rw e at (r .reads))
   where
-    behind : (p : ℕ) (q : Read A) → Is v n ≡ farther {B = A} p q → _≡_ {A = ℕ} 0 1
-    behind p (Is a k) z = cc
-    behind p (Far q k) z = cc
-    behind p (No q) z = cc
+    after : (p : ℕ) (q : Read A) → Parsed v n ≡ farther {B = A} p q → _≡_ {A = ℕ} 0 1
+    after p (Parsed a k) z = cc
+    after p (OutOfRange q k) z = cc
+    after p (Failed q) z = cc
 
-    go : (b : Cursor) → Is v n ≡ from b (λ m. readAt f s m) → (m : ℕ) × (b ≡ Going m)
-    go (Going m) z = (m, refl)
-    go (Over p m) z = never (behind p (readAt f s m) z)
-    go (Stopped p) z = never (cc)
+    go : (b : Cursor) → Parsed v n ≡ from b (λ m. readAt f s m) → (m : ℕ) × (b ≡ cursor.Parsed m)
+    go (cursor.Parsed m) z = (m, refl)
+    go (cursor.OutOfRange p m) z = never (after p (readAt f s m) z)
+    go (cursor.Failed p) z = never (cc)
 
-pub limited-going : (b : Bool) (p : ℕ) (d : Cursor) {n : ℕ} → limitedBy b p d ≡ Going n → (d ≡ Going n) × (b ≡ true)
-limited-going true p (Going m) e = (e, refl)
-limited-going false p (Going m) e = never (cc)
-limited-going b p (Over q m) e = never (cc)
-limited-going b p (Stopped q) e = never (cc)
+pub limited-going : (b : Bool) (p : ℕ) (d : Cursor) {n : ℕ} → limitedBy b p d ≡ cursor.Parsed n → (d ≡ cursor.Parsed n) × (b ≡ true)
+limited-going true p (cursor.Parsed m) e = (e, refl)
+limited-going false p (cursor.Parsed m) e = never (cc)
+limited-going b p (cursor.OutOfRange q m) e = never (cc)
+limited-going b p (cursor.Failed q) e = never (cc)
 
-pub going-place : (d : Cursor) {n : ℕ} → d ≡ Going n → placeOf d ≡ n
+pub going-place : (d : Cursor) {n : ℕ} → d ≡ cursor.Parsed n → placeOf d ≡ n
 going-place d e = ap placeOf e
 
 -- ---- the place never goes back, where one byte decides
 
 placeBy : {A : Type 0} → Read A → ℕ
-placeBy (Is v n) = n
-placeBy (Far p n) = n
-placeBy (No p) = p
+placeBy (Parsed v n) = n
+placeBy (OutOfRange p n) = n
+placeBy (Failed p) = p
 
 place-by : {A : Type 0} (v : A) (d : Cursor) → placeBy (readBy v d) ≡ placeOf d
 unfolding placeBy
-place-by v (Going n) = refl
-place-by v (Over p n) = refl
-place-by v (Stopped p) = refl
+place-by v (cursor.Parsed n) = refl
+place-by v (cursor.OutOfRange p n) = refl
+place-by v (cursor.Failed p) = refl
 
 place-farther : {A : Type 0} (p : ℕ) (r : Read A) → placeBy (farther {B = A} p r) ≡ placeBy r
 unfolding placeBy
-place-farther p (Is a n) = refl
-place-farther p (Far q n) = refl
-place-farther p (No q) = refl
+place-farther p (Parsed a n) = refl
+place-farther p (OutOfRange q n) = refl
+place-farther p (Failed q) = refl
 
 -- what is left of the text from a place on, behind something
-left-behind : (s : List ℕ) (at : ℕ) (x r : List ℕ) → at ≤ length s → drop at s ≡ x ++ r → at + length x ≤ length s - length r
-left-behind s at x r h e = omega (arith, length-drop at s, ap length e ∙ length-append x r)
+left-after : (s : List ℕ) (at : ℕ) (x r : List ℕ) → at ≤ length s → drop at s ≡ x ++ r → at + length x ≤ length s - length r
+left-after s at x r h e = omega (arith, length-drop at s, ap length e ∙ length-append x r)
 
-onward-at : {A : Type 0} (f : Form A) → fair f ≡ true → (s : List ℕ) (at : ℕ) → at ≤ length s → at ≤ placeBy (readAt f s at)
+onward-at : {A : Type 0} (f : Form A) → isLL1 f ≡ true → (s : List ℕ) (at : ℕ) → at ≤ length s → at ≤ placeBy (readAt f s at)
 unfolding readAt placeBy
 onward-at {A} f w s at h = go (over f (drop at s)) (scan f (drop at s)) refl
   where
     go : (o : List (List ℕ)) (r : Scan A) → scan f (drop at s) ≡ r → at ≤ placeBy (placed s o r)
-    go [] (Got v r) e = let i = sound-loose f (drop at s) v r e in omega (arith, left-behind s at (i .0) r h (i .1))
-    go (x ∷ o) (Got v r) e = let i = sound-loose f (drop at s) v r e in omega (arith, left-behind s at (i .0) r h (i .1))
-    go o (Stop r) e = let i = begun f w (drop at s) r e in omega (arith, left-behind s at (i .0) r h (i .3))
+    go [] (Got v r) e = let i = sound-loose f (drop at s) v r e in omega (arith, left-after s at (i .0) r h (i .1))
+    go (x ∷ o) (Got v r) e = let i = sound-loose f (drop at s) v r e in omega (arith, left-after s at (i .0) r h (i .1))
+    go o (Stop r) e = let i = begun f w (drop at s) r e in omega (arith, left-after s at (i .0) r h (i .3))
 
-onward-from : {A : Type 0} (f : Form A) → fair f ≡ true → (s : List ℕ) (c : Cursor) → Inside s c → placeOf c ≤ placeBy (from c (λ n. readAt f s n))
+onward-from : {A : Type 0} (f : Form A) → isLL1 f ≡ true → (s : List ℕ) (c : Cursor) → Inside s c → placeOf c ≤ placeBy (from c (λ n. readAt f s n))
 unfolding placeBy
-onward-from f w s (Going n) h = onward-at f w s n h
-onward-from f w s (Over p n) h = rw (place-farther p (readAt f s n)) (onward-at f w s n h)
-onward-from f w s (Stopped p) h = omega arith
+onward-from f w s (cursor.Parsed n) h = onward-at f w s n h
+onward-from f w s (cursor.OutOfRange p n) h = rw (place-farther p (readAt f s n)) (onward-at f w s n h)
+onward-from f w s (cursor.Failed p) h = omega arith
 
-pub onward : {A : Type 0} {f : Form A} {s : List ℕ} {c d : Cursor} {v : A} → fair f ≡ true → Inside s c → Reads f s c v d → placeOf c ≤ placeOf d
+pub onward : {A : Type 0} {f : Form A} {s : List ℕ} {c d : Cursor} {v : A} → isLL1 f ≡ true → Inside s c → Reads f s c v d → placeOf c ≤ placeOf d
 onward {A} {f} {s} {c} {d} {v} w h r =
     let e : placeBy (from c (λ n. readAt f s n)) ≡ placeOf d = sym (ap placeBy (r .reads)) ∙ place-by v d in
     rw (sym e) (onward-from f w s c h)
@@ -87,80 +87,80 @@ onward {A} {f} {s} {c} {d} {v} w h r =
 -- ---- what is read lies ahead, by a byte at least where the form has no empty text
 
 abbrev pub Ahead : ℕ → Cursor → Type 0
-Ahead i (Going n) = i ≤ n
-Ahead i (Over p n) = i ≤ n
-Ahead i (Stopped p) = 0 ≤ p
+Ahead i (cursor.Parsed n) = i ≤ n
+Ahead i (cursor.OutOfRange p n) = i ≤ n
+Ahead i (cursor.Failed p) = 0 ≤ p
 
-module _ {A : Type 0} (f : Form A) (full : not (empty f) ≡ true) (s : List ℕ) where
+module _ {A : Type 0} (f : Form A) (full : not (nullable f) ≡ true) (s : List ℕ) where
   got-ahead : (i : ℕ) → i ≤ length s → (a : A) (m : List ℕ) → scan f (drop i s) ≡ Got a m → i + 1 ≤ length s - length m
   got-ahead i h a m e =
       let x = sound-loose f (drop i s) a m e in
       let b = some-byte (x .0) (λ z. no-empty false f full a (subst (λ y. Means false f y a) z (x .2))) in
-      omega (arith, left-behind s i (x .0) m h (x .1), b)
+      omega (arith, left-after s i (x .0) m h (x .1), b)
 
   module _ (i : ℕ) (h : i ≤ length s) (v : A) where
     placed-ahead : (o : List (List ℕ)) (r : Scan A) → scan f (drop i s) ≡ r → (d : Cursor) → readBy v d ≡ placed s o r → Ahead (i + 1) d
-    placed-ahead [] (Got a m) e (Going n) q = let z : n ≡ length s - length m = cc in rw z (got-ahead i h a m e)
-    placed-ahead (x ∷ o) (Got a m) e (Going n) q = never (cc)
-    placed-ahead [] (Got a m) e (Over p n) q = never (cc)
-    placed-ahead (x ∷ o) (Got a m) e (Over p n) q = let z : n ≡ length s - length m = cc in rw z (got-ahead i h a m e)
-    placed-ahead o (Stop m) e (Going n) q = never (cc)
-    placed-ahead o (Stop m) e (Over p n) q = never (cc)
-    placed-ahead o r e (Stopped p) q = omega arith
+    placed-ahead [] (Got a m) e (cursor.Parsed n) q = let z : n ≡ length s - length m = cc in rw z (got-ahead i h a m e)
+    placed-ahead (x ∷ o) (Got a m) e (cursor.Parsed n) q = never (cc)
+    placed-ahead [] (Got a m) e (cursor.OutOfRange p n) q = never (cc)
+    placed-ahead (x ∷ o) (Got a m) e (cursor.OutOfRange p n) q = let z : n ≡ length s - length m = cc in rw z (got-ahead i h a m e)
+    placed-ahead o (Stop m) e (cursor.Parsed n) q = never (cc)
+    placed-ahead o (Stop m) e (cursor.OutOfRange p n) q = never (cc)
+    placed-ahead o r e (cursor.Failed p) q = omega arith
 
     -- the same behind a number beyond its limit
     far-ahead : (p : ℕ) (o : List (List ℕ)) (r : Scan A) → scan f (drop i s) ≡ r → (d : Cursor) → readBy v d ≡ farther {B = A} p (placed s o r)
         → Ahead (i + 1) d
-    far-ahead p [] (Got a m) e (Going n) q = never (cc)
-    far-ahead p (x ∷ o) (Got a m) e (Going n) q = never (cc)
-    far-ahead p [] (Got a m) e (Over u n) q = let z : n ≡ length s - length m = cc in rw z (got-ahead i h a m e)
-    far-ahead p (x ∷ o) (Got a m) e (Over u n) q = let z : n ≡ length s - length m = cc in rw z (got-ahead i h a m e)
-    far-ahead p o (Stop m) e (Going n) q = never (cc)
-    far-ahead p o (Stop m) e (Over u n) q = never (cc)
-    far-ahead p o r e (Stopped u) q = omega arith
+    far-ahead p [] (Got a m) e (cursor.Parsed n) q = never (cc)
+    far-ahead p (x ∷ o) (Got a m) e (cursor.Parsed n) q = never (cc)
+    far-ahead p [] (Got a m) e (cursor.OutOfRange u n) q = let z : n ≡ length s - length m = cc in rw z (got-ahead i h a m e)
+    far-ahead p (x ∷ o) (Got a m) e (cursor.OutOfRange u n) q = let z : n ≡ length s - length m = cc in rw z (got-ahead i h a m e)
+    far-ahead p o (Stop m) e (cursor.Parsed n) q = never (cc)
+    far-ahead p o (Stop m) e (cursor.OutOfRange u n) q = never (cc)
+    far-ahead p o r e (cursor.Failed u) q = omega arith
 
   from-ahead : (c : Cursor) → Inside s c → (v : A) (d : Cursor) → readBy v d ≡ from c (λ n. readAt f s n) → Ahead (placeOf c + 1) d
   unfolding readAt
-  from-ahead (Going n) h v d q = placed-ahead n h v (over f (drop n s)) (scan f (drop n s)) refl d q
-  from-ahead (Over p n) h v d q = far-ahead n h v p (over f (drop n s)) (scan f (drop n s)) refl d q
-  from-ahead (Stopped p) h v (Going n) q = never (cc)
-  from-ahead (Stopped p) h v (Over u n) q = never (cc)
-  from-ahead (Stopped p) h v (Stopped u) q = omega arith
+  from-ahead (cursor.Parsed n) h v d q = placed-ahead n h v (over f (drop n s)) (scan f (drop n s)) refl d q
+  from-ahead (cursor.OutOfRange p n) h v d q = far-ahead n h v p (over f (drop n s)) (scan f (drop n s)) refl d q
+  from-ahead (cursor.Failed p) h v (cursor.Parsed n) q = never (cc)
+  from-ahead (cursor.Failed p) h v (cursor.OutOfRange u n) q = never (cc)
+  from-ahead (cursor.Failed p) h v (cursor.Failed u) q = omega arith
 
-pub ahead-more : {A : Type 0} {f : Form A} {s : List ℕ} {c d : Cursor} {v : A} → Inside s c → Reads f s c v d → not (empty f) ≡ true → Ahead (placeOf c + 1) d
+pub ahead-more : {A : Type 0} {f : Form A} {s : List ℕ} {c d : Cursor} {v : A} → Inside s c → Reads f s c v d → not (nullable f) ≡ true → Ahead (placeOf c + 1) d
 ahead-more {A} {f} {s} {c} {d} {v} h r full = from-ahead f full s c h v d (r .reads)
 
 -- how much is left of a text, and nothing where reading stopped
 abbrev pub left : List ℕ → Cursor → ℕ
-left s (Going n) = suc (length s - n)
-left s (Over p n) = suc (length s - n)
-left s (Stopped p) = 0
+left s (cursor.Parsed n) = suc (length s - n)
+left s (cursor.OutOfRange p n) = suc (length s - n)
+left s (cursor.Failed p) = 0
 
 left-less : (k : Class) (s : List ℕ) (c d : Cursor) → nextIn k s c ≡ true → Inside s d → Ahead (placeOf c + 1) d → left s d < left s c
-left-less k s (Going n) (Going m) t i a = omega (arith, a, i)
-left-less k s (Going n) (Over q m) t i a = omega (arith, a, i)
-left-less k s (Going n) (Stopped q) t i a = omega arith
-left-less k s (Over p n) (Going m) t i a = omega (arith, a, i)
-left-less k s (Over p n) (Over q m) t i a = omega (arith, a, i)
-left-less k s (Over p n) (Stopped q) t i a = omega arith
-left-less k s (Stopped p) d t i a = never (cc)
+left-less k s (cursor.Parsed n) (cursor.Parsed m) t i a = omega (arith, a, i)
+left-less k s (cursor.Parsed n) (cursor.OutOfRange q m) t i a = omega (arith, a, i)
+left-less k s (cursor.Parsed n) (cursor.Failed q) t i a = omega arith
+left-less k s (cursor.OutOfRange p n) (cursor.Parsed m) t i a = omega (arith, a, i)
+left-less k s (cursor.OutOfRange p n) (cursor.OutOfRange q m) t i a = omega (arith, a, i)
+left-less k s (cursor.OutOfRange p n) (cursor.Failed q) t i a = omega arith
+left-less k s (cursor.Failed p) d t i a = never (cc)
 
 -- less is left behind what is read where a byte was next
-pub less-left : {A : Type 0} {f : Form A} {s : List ℕ} {c d : Cursor} {v : A} (k : Class) → nextIn k s c ≡ true → not (empty f) ≡ true
+pub less-left : {A : Type 0} {f : Form A} {s : List ℕ} {c d : Cursor} {v : A} (k : Class) → nextIn k s c ≡ true → not (nullable f) ≡ true
     → Inside s c → Reads f s c v d → left s d < left s c
 less-left {A} {f} {s} {c} {d} k t full h r = left-less k s c d t (r .inside) (ahead-more h r full)
 
 -- ---- one or more are at least one
 
-pub some-filled : {A : Type 0} {f : Form A} {s : List ℕ} {c d : Cursor} {vs : List A} {n : ℕ} → Reads (some f) s c vs d → d ≡ Going n
+pub some-filled : {A : Type 0} {f : Form A} {s : List ℕ} {c d : Cursor} {vs : List A} {n : ℕ} → Reads (some f) s c vs d → d ≡ cursor.Parsed n
     → 1 ≤ length vs
 some-filled {A} {f} {s} {c} {d} {vs} {n} r e =
     let b = came-going r e in
-    let i : c ≡ Going (b .0) = b .1 in
-    let z : Is vs n ≡ readAt (some f) s (b .0) = rw (e, i) at (r .reads) in
-    go (readAt (pair f (star f)) s (b .0)) (z ∙ made-at (λ (p : A × List A). p .0 ∷ p .1) (pair f (star f)) s (b .0))
+    let i : c ≡ cursor.Parsed (b .0) = b .1 in
+    let z : Parsed vs n ≡ readAt (some f) s (b .0) = rw (e, i) at (r .reads) in
+    go (readAt (pair f (many f)) s (b .0)) (z ∙ made-at (λ (p : A × List A). p .0 ∷ p .1) (pair f (many f)) s (b .0))
   where
-    go : (q : Read (A × List A)) → Is vs n ≡ mapped (λ (p : A × List A). p .0 ∷ p .1) q → 1 ≤ length vs
-    go (Is p k) z = let y : vs ≡ p .0 ∷ p .1 = cc in rw y (omega arith)
-    go (Far p k) z = never (cc)
-    go (No p) z = never (cc)
+    go : (q : Read (A × List A)) → Parsed vs n ≡ mapped (λ (p : A × List A). p .0 ∷ p .1) q → 1 ≤ length vs
+    go (Parsed p k) z = let y : vs ≡ p .0 ∷ p .1 = cc in rw y (omega arith)
+    go (OutOfRange p k) z = never (cc)
+    go (Failed p) z = never (cc)

@@ -5,21 +5,21 @@ use mathlib.Core.List.{List}
 use Prim.Native.Nat.{ℕ, _+_, _-_, _≤_, _<_}
 use native.Mathlib.Omega.{arith}
 use lib.ListN.{length, drop, getD, length-drop}
-use Rattle.forms.specs.Form.{Class, has, Form, tell, byte, pair, made, bound}
-use Rattle.forms.specs.Place.{Read, Is, Far, No, readAt, mapped, farther, both-read, bounded}
-use Rattle.forms.specs.Pieces.{skip, before}
+use Rattle.forms.specs.Form.{Class, has, Form, pure, byte, pair, fmap, bound}
+use Rattle.forms.specs.Place.{Read, Parsed, OutOfRange, Failed, readAt, mapped, farther, both-read, bounded}
+use Rattle.forms.specs.Pieces.{preceded, terminated}
 use Rattle.forms.proofs.Bools.{by-cases}
 use Rattle.forms.proofs.At.{pair-at, skip-at, before-at, made-at, tell-at, byte-at, byte-end, bound-at}
 use Rattle.scan_cursors.specs.declared.Cursor.{Cursor}
-use Rattle.scan_cursors.specs.declared.Cursor.the-variants.{Going, Over, Stopped}
+use Rattle.scan_cursors.specs.declared.Cursor.the-variants as cursor
 use Rattle.scan_cursors.specs.Reads.{readBy, from, farBy, joined, placeOf, Inside, limitedBy, Reads}
 
 -- ---- forms that read alike where a cursor stands, inside the text
 
 pub from-at : {A : Type 0} (c : Cursor) (j k : ℕ → Read A) → j (placeOf c) ≡ k (placeOf c) → from c j ≡ from c k
-from-at (Going n) j k e = e
-from-at (Over p n) j k e = ap (farther p) e
-from-at (Stopped p) j k e = refl
+from-at (cursor.Parsed n) j k e = e
+from-at (cursor.OutOfRange p n) j k e = ap (farther p) e
+from-at (cursor.Failed p) j k e = refl
 
 from-alike : {A : Type 0} (s : List ℕ) (c : Cursor) (j k : ℕ → Read A) → Inside s c → ((n : ℕ) → n ≤ length s → j n ≡ k n) → from c j ≡ from c k
 from-alike s c j k i e = from-at c j k (e (placeOf c) i)
@@ -31,57 +31,57 @@ alike-reads {A} {f} {g} {s} {c} e i r = record { reads = r .reads ∙ from-alike
 -- ---- made
 
 mapped-farther : {A B : Type 0} (h : A → B) (p : ℕ) (r : Read A) → mapped h (farther {B = A} p r) ≡ farther p (mapped h r)
-mapped-farther h p (Is a n) = refl
-mapped-farther h p (Far q n) = refl
-mapped-farther h p (No q) = refl
+mapped-farther h p (Parsed a n) = refl
+mapped-farther h p (OutOfRange q n) = refl
+mapped-farther h p (Failed q) = refl
 
-made-from : {A B : Type 0} (h : A → B) (f : Form A) (s : List ℕ) (c : Cursor) → mapped h (from c (λ n. readAt f s n)) ≡ from c (λ n. readAt (made h f) s n)
-made-from h f s (Going n) = sym (made-at h f s n)
-made-from h f s (Over p n) = mapped-farther h p (readAt f s n) ∙ ap (farther p) (sym (made-at h f s n))
-made-from h f s (Stopped p) = refl
+made-from : {A B : Type 0} (h : A → B) (f : Form A) (s : List ℕ) (c : Cursor) → mapped h (from c (λ n. readAt f s n)) ≡ from c (λ n. readAt (fmap h f) s n)
+made-from h f s (cursor.Parsed n) = sym (made-at h f s n)
+made-from h f s (cursor.OutOfRange p n) = mapped-farther h p (readAt f s n) ∙ ap (farther p) (sym (made-at h f s n))
+made-from h f s (cursor.Failed p) = refl
 
 mapped-by : {A B : Type 0} (h : A → B) (v : A) (d : Cursor) → mapped h (readBy v d) ≡ readBy (h v) d
-mapped-by h v (Going n) = refl
-mapped-by h v (Over p n) = refl
-mapped-by h v (Stopped p) = refl
+mapped-by h v (cursor.Parsed n) = refl
+mapped-by h v (cursor.OutOfRange p n) = refl
+mapped-by h v (cursor.Failed p) = refl
 
-pub made-reads : {A B : Type 0} {f : Form A} {s : List ℕ} {c d : Cursor} {v : A} (h : A → B) → Reads f s c v d → Reads (made h f) s c (h v) d
+pub made-reads : {A B : Type 0} {f : Form A} {s : List ℕ} {c d : Cursor} {v : A} (h : A → B) → Reads f s c v d → Reads (fmap h f) s c (h v) d
 made-reads {A} {B} {f} {s} {c} {d} {v} h r =
     record { reads = sym (mapped-by h v d) ∙ ap (mapped h) (r .reads) ∙ made-from h f s c; inside = r .inside }
 
 -- ---- one after the other
 
 farther-mapped : {A B : Type 0} (h : A → B) (p : ℕ) (r : Read A) → farther {B = B} p r ≡ mapped h (farther {B = A} p r)
-farther-mapped h p (Is a n) = refl
-farther-mapped h p (Far q n) = refl
-farther-mapped h p (No q) = refl
+farther-mapped h p (Parsed a n) = refl
+farther-mapped h p (OutOfRange q n) = refl
+farther-mapped h p (Failed q) = refl
 
 by-both : {A B C : Type 0} (h : A → B → C) (v : A) (d : Cursor) (k : ℕ → Read B) → both-read h (readBy v d) k ≡ mapped (h v) (from d k)
-by-both h v (Going n) k = refl
-by-both h v (Over p n) k = farther-mapped (h v) p (k n)
-by-both h v (Stopped p) k = refl
+by-both h v (cursor.Parsed n) k = refl
+by-both h v (cursor.OutOfRange p n) k = farther-mapped (h v) p (k n)
+by-both h v (cursor.Failed p) k = refl
 
 farther-both : {A B C : Type 0} (h : A → B → C) (p : ℕ) (r : Read A) (k : ℕ → Read B)
     → farther p (both-read h r k) ≡ both-read h (farther {B = A} p r) k
-farther-both {A} {B} {C} h p (Is a n) k = go (k n)
+farther-both {A} {B} {C} h p (Parsed a n) k = go (k n)
   where
     go : (r : Read B) → farther {B = C} p (mapped (h a) r) ≡ farther p r
-    go (Is b m) = refl
-    go (Far q m) = refl
-    go (No q) = refl
-farther-both {A} {B} {C} h p (Far q n) k = go (k n)
+    go (Parsed b m) = refl
+    go (OutOfRange q m) = refl
+    go (Failed q) = refl
+farther-both {A} {B} {C} h p (OutOfRange q n) k = go (k n)
   where
     go : (r : Read B) → farther {B = C} p (farther {B = C} q r) ≡ farther p r
-    go (Is b m) = refl
-    go (Far u m) = refl
-    go (No u) = refl
-farther-both h p (No q) k = refl
+    go (Parsed b m) = refl
+    go (OutOfRange u m) = refl
+    go (Failed u) = refl
+farther-both h p (Failed q) k = refl
 
 from-both : {A B C : Type 0} (h : A → B → C) (c : Cursor) (j : ℕ → Read A) (k : ℕ → Read B)
     → from c (λ n. both-read h (j n) k) ≡ both-read h (from c j) k
-from-both h (Going n) j k = refl
-from-both h (Over p n) j k = farther-both h p (j n) k
-from-both h (Stopped p) j k = refl
+from-both h (cursor.Parsed n) j k = refl
+from-both h (cursor.OutOfRange p n) j k = farther-both h p (j n) k
+from-both h (cursor.Failed p) j k = refl
 
 -- a form that reads as the one and from behind it the other
 both-reads : {A B C : Type 0} {f : Form A} {g : Form B} {s : List ℕ} {c d e : Cursor} {v : A} {w : B} (h : A → B → C) (F : Form C)
@@ -102,44 +102,44 @@ module _ {A B : Type 0} {f : Form A} {g : Form B} {s : List ℕ} {c d e : Cursor
   pub pair-reads : Reads (pair f g) s c (v, w) e
   pair-reads = both-reads (λ (x : A) (y : B). (x, y)) (pair f g) (λ n h. pair-at f g s n h) i r q
 
-  pub skip-reads : Reads (skip f g) s c w e
-  skip-reads = both-reads (λ (x : A) (y : B). y) (skip f g) (λ n h. skip-at f g s n h) i r q
+  pub skip-reads : Reads (preceded f g) s c w e
+  skip-reads = both-reads (λ (x : A) (y : B). y) (preceded f g) (λ n h. skip-at f g s n h) i r q
 
-  pub before-reads : Reads (before f g) s c v e
-  before-reads = both-reads (λ (x : A) (y : B). x) (before f g) (λ n h. before-at f g s n h) i r q
+  pub before-reads : Reads (terminated f g) s c v e
+  before-reads = both-reads (λ (x : A) (y : B). x) (terminated f g) (λ n h. before-at f g s n h) i r q
 
 -- ---- nothing
 
-pub tell-reads : {A : Type 0} (a : A) (s : List ℕ) (c : Cursor) → Inside s c → Reads (tell a) s c a c
-tell-reads a s (Going n) h = record { reads = sym (tell-at a s n h); inside = h }
-tell-reads a s (Over p n) h = record { reads = sym (ap (farther p) (tell-at a s n h)); inside = h }
-tell-reads a s (Stopped p) h = record { reads = refl; inside = h }
+pub tell-reads : {A : Type 0} (a : A) (s : List ℕ) (c : Cursor) → Inside s c → Reads (pure a) s c a c
+tell-reads a s (cursor.Parsed n) h = record { reads = sym (tell-at a s n h); inside = h }
+tell-reads a s (cursor.OutOfRange p n) h = record { reads = sym (ap (farther p) (tell-at a s n h)); inside = h }
+tell-reads a s (cursor.Failed p) h = record { reads = refl; inside = h }
 
 -- ---- a byte of a class
 
 module _ (c : Class) (s : List ℕ) (at : ℕ) where
-  pub byte-reads : at < length s → has c (getD s at 0) ≡ true → Reads (byte c) s (Going at) (getD s at 0) (Going (at + 1))
+  pub byte-reads : at < length s → has c (getD s at 0) ≡ true → Reads (byte c) s (cursor.Parsed at) (getD s at 0) (cursor.Parsed (at + 1))
   byte-reads h e = record { reads = sym (byte-at c s at h ∙ rw e); inside = omega arith }
 
-  pub byte-stops : at < length s → has c (getD s at 0) ≡ false → (v : ℕ) → Reads (byte c) s (Going at) v (Stopped at)
+  pub byte-stops : at < length s → has c (getD s at 0) ≡ false → (v : ℕ) → Reads (byte c) s (cursor.Parsed at) v (cursor.Failed at)
   byte-stops h e v = record { reads = sym (byte-at c s at h ∙ rw e); inside = omega arith }
 
-  pub byte-ends : at ≡ length s → (v : ℕ) → Reads (byte c) s (Going at) v (Stopped at)
+  pub byte-ends : at ≡ length s → (v : ℕ) → Reads (byte c) s (cursor.Parsed at) v (cursor.Failed at)
   byte-ends h v = record { reads = sym (rw h (byte-end c s)); inside = omega arith }
 
 -- ---- a bound on the value, whose place is the first byte
 
 module _ {A : Type 0} (t : A → Bool) (s : List ℕ) where
   by-limit : (v : A) (at : ℕ) (d : Cursor) → readBy v (limitedBy (t v) at d) ≡ bounded t (λ a. at) (readBy v d)
-  by-limit v at (Going n) = by-cases (t v) (λ x. rw x) (λ x. rw x)
-  by-limit v at (Over p n) = refl
-  by-limit v at (Stopped p) = refl
+  by-limit v at (cursor.Parsed n) = by-cases (t v) (λ x. rw x) (λ x. rw x)
+  by-limit v at (cursor.OutOfRange p n) = refl
+  by-limit v at (cursor.Failed p) = refl
 
   limit-inside : (b : Bool) (at : ℕ) (d : Cursor) → Inside s d → Inside s (limitedBy b at d)
-  limit-inside true at (Going n) i = i
-  limit-inside false at (Going n) i = i
-  limit-inside b at (Over p n) i = i
-  limit-inside b at (Stopped p) i = i
+  limit-inside true at (cursor.Parsed n) i = i
+  limit-inside false at (cursor.Parsed n) i = i
+  limit-inside b at (cursor.OutOfRange p n) i = i
+  limit-inside b at (cursor.Failed p) i = i
 
   first-at : (f : Form A) (at : ℕ) → at ≤ length s → readAt (bound t (λ (a : A). 0) f) s at ≡ bounded t (λ a. at) (readAt f s at)
   first-at f at h =
@@ -147,15 +147,15 @@ module _ {A : Type 0} (t : A → Bool) (s : List ℕ) where
       bound-at t (λ (a : A). 0) f s at ∙ rw q
 
   bounded-farther : (at p : ℕ) (r : Read A) → bounded t (λ a. at) (farther {B = A} p r) ≡ farther p (bounded t (λ a. at) r)
-  bounded-farther at p (Is a n) = by-cases (t a) (λ x. rw x) (λ x. rw x)
-  bounded-farther at p (Far q n) = refl
-  bounded-farther at p (No q) = refl
+  bounded-farther at p (Parsed a n) = by-cases (t a) (λ x. rw x) (λ x. rw x)
+  bounded-farther at p (OutOfRange q n) = refl
+  bounded-farther at p (Failed q) = refl
 
   limit-from : (f : Form A) (c : Cursor) → Inside s c
       → bounded t (λ a. placeOf c) (from c (λ n. readAt f s n)) ≡ from c (λ n. readAt (bound t (λ (a : A). 0) f) s n)
-  limit-from f (Going n) i = sym (first-at f n i)
-  limit-from f (Over p n) i = bounded-farther n p (readAt f s n) ∙ ap (farther p) (sym (first-at f n i))
-  limit-from f (Stopped p) i = refl
+  limit-from f (cursor.Parsed n) i = sym (first-at f n i)
+  limit-from f (cursor.OutOfRange p n) i = bounded-farther n p (readAt f s n) ∙ ap (farther p) (sym (first-at f n i))
+  limit-from f (cursor.Failed p) i = refl
 
 pub limit-reads : {A : Type 0} {f : Form A} {s : List ℕ} {c d : Cursor} {v : A} (t : A → Bool) → Inside s c → Reads f s c v d
     → Reads (bound t (λ (a : A). 0) f) s c v (limitedBy (t v) (placeOf c) d)
@@ -168,35 +168,35 @@ limit-reads {A} {f} {s} {c} {d} {v} t i r =
 -- ---- a scanner from a place on makes one from any cursor on
 
 farther-by : {A : Type 0} (p : ℕ) (v : A) (d : Cursor) → readBy v (farBy p d) ≡ farther {B = A} p (readBy v d)
-farther-by p v (Going n) = refl
-farther-by p v (Over q n) = refl
-farther-by p v (Stopped q) = refl
+farther-by p v (cursor.Parsed n) = refl
+farther-by p v (cursor.OutOfRange q n) = refl
+farther-by p v (cursor.Failed q) = refl
 
 far-inside : (s : List ℕ) (p : ℕ) (d : Cursor) → Inside s d → Inside s (farBy p d)
-far-inside s p (Going n) i = i
-far-inside s p (Over q n) i = i
-far-inside s p (Stopped q) i = i
+far-inside s p (cursor.Parsed n) i = i
+far-inside s p (cursor.OutOfRange q n) i = i
+far-inside s p (cursor.Failed q) i = i
 
-join-reads : {A : Type 0} {f : Form A} {s : List ℕ} (c : Cursor) {d : Cursor} {v : A} → Inside s c → Reads f s (Going (placeOf c)) v d
+join-reads : {A : Type 0} {f : Form A} {s : List ℕ} (c : Cursor) {d : Cursor} {v : A} → Inside s c → Reads f s (cursor.Parsed (placeOf c)) v d
     → Reads f s c v (joined c d)
-join-reads (Going n) i r = r
-join-reads {A} {f} {s} (Over p n) {d} {v} i r =
+join-reads (cursor.Parsed n) i r = r
+join-reads {A} {f} {s} (cursor.OutOfRange p n) {d} {v} i r =
     record { reads = farther-by p v d ∙ ap (farther p) (r .reads); inside = far-inside s p d (r .inside) }
-join-reads (Stopped p) i r = record { reads = refl; inside = i }
+join-reads (cursor.Failed p) i r = record { reads = refl; inside = i }
 
 -- the same by the numbers that the code has
 pub step-reads : {A : Type 0} {f : Form A} {s : List ℕ} {c d e : Cursor} {v : A} {at : ℕ} → Inside s c → at ≡ placeOf c → e ≡ joined c d
-    → Reads f s (Going at) v d → Reads f s c v e
+    → Reads f s (cursor.Parsed at) v d → Reads f s c v e
 step-reads {A} {f} {s} {c} {d} {e} {v} i p j r =
-    subst (λ (x : Cursor). Reads f s c v x) (sym j) (join-reads c i (subst (λ (n : ℕ). Reads f s (Going n) v d) p r))
+    subst (λ (x : Cursor). Reads f s c v x) (sym j) (join-reads c i (subst (λ (n : ℕ). Reads f s (cursor.Parsed n) v d) p r))
 
 -- ---- where reading does not go on any value will do
 
-pub stopped-reads : {A : Type 0} (f : Form A) (s : List ℕ) (p : ℕ) (v : A) → p ≤ length s → Reads f s (Stopped p) v (Stopped p)
+pub stopped-reads : {A : Type 0} (f : Form A) (s : List ℕ) (p : ℕ) (v : A) → p ≤ length s → Reads f s (cursor.Failed p) v (cursor.Failed p)
 stopped-reads f s p v h = record { reads = refl; inside = h }
 
-pub stopped-any : {A : Type 0} {f : Form A} {s : List ℕ} {c : Cursor} {p : ℕ} {v : A} → Reads f s c v (Stopped p) → (w : A) → Reads f s c w (Stopped p)
+pub stopped-any : {A : Type 0} {f : Form A} {s : List ℕ} {c : Cursor} {p : ℕ} {v : A} → Reads f s c v (cursor.Failed p) → (w : A) → Reads f s c w (cursor.Failed p)
 stopped-any r w = record { reads = r .reads; inside = r .inside }
 
-pub over-any : {A : Type 0} {f : Form A} {s : List ℕ} {c : Cursor} {p n : ℕ} {v : A} → Reads f s c v (Over p n) → (w : A) → Reads f s c w (Over p n)
+pub over-any : {A : Type 0} {f : Form A} {s : List ℕ} {c : Cursor} {p n : ℕ} {v : A} → Reads f s c v (cursor.OutOfRange p n) → (w : A) → Reads f s c w (cursor.OutOfRange p n)
 over-any r w = record { reads = r .reads; inside = r .inside }

@@ -7,52 +7,52 @@ use lib.ListN.{length, drop}
 use Rattle.forms.specs.Bytes.{if_then_else_}
 use Rattle.forms.specs.Form.{Class, Form}
 use Rattle.forms.specs.Scan.{begins}
-use Rattle.forms.specs.Place.{Read, Is, Far, No, readAt, farther}
+use Rattle.forms.specs.Place.{Read, Parsed, OutOfRange, Failed, readAt, farther}
 use Rattle.scan_cursors.specs.declared.Cursor.{Cursor}
-use Rattle.scan_cursors.specs.declared.Cursor.the-variants.{Going, Over, Stopped}
+use Rattle.scan_cursors.specs.declared.Cursor.the-variants as cursor
 
 -- a value and a cursor as the answer of a form; the value counts only where scanning goes on
 abbrev pub readBy : {A : Type 0} → A → Cursor → Read A
-readBy v (Going n) = Is v n
-readBy v (Over p n) = Far p n
-readBy v (Stopped p) = No p
+readBy v (cursor.Parsed n) = Parsed v n
+readBy v (cursor.OutOfRange p n) = OutOfRange p n
+readBy v (cursor.Failed p) = Failed p
 
 -- the answer of a form from where a cursor stands
 abbrev pub from : {A : Type 0} → Cursor → (ℕ → Read A) → Read A
-from (Going n) k = k n
-from (Over p n) k = farther p (k n)
-from (Stopped p) k = No p
+from (cursor.Parsed n) k = k n
+from (cursor.OutOfRange p n) k = farther p (k n)
+from (cursor.Failed p) k = Failed p
 
 abbrev pub farBy : ℕ → Cursor → Cursor
-farBy p (Going n) = Over p n
-farBy p (Over q n) = Over p n
-farBy p (Stopped q) = Stopped q
+farBy p (cursor.Parsed n) = cursor.OutOfRange p n
+farBy p (cursor.OutOfRange q n) = cursor.OutOfRange p n
+farBy p (cursor.Failed q) = cursor.Failed q
 
 -- the cursor d, which a scanner answered from the place of c, behind all that c went through
 abbrev pub joined : Cursor → Cursor → Cursor
-joined (Going n) d = d
-joined (Over p n) d = farBy p d
-joined (Stopped p) d = Stopped p
+joined (cursor.Parsed n) d = d
+joined (cursor.OutOfRange p n) d = farBy p d
+joined (cursor.Failed p) d = cursor.Failed p
 
 abbrev pub placeOf : Cursor → ℕ
-placeOf (Going n) = n
-placeOf (Over p n) = n
-placeOf (Stopped p) = p
+placeOf (cursor.Parsed n) = n
+placeOf (cursor.OutOfRange p n) = n
+placeOf (cursor.Failed p) = p
 
 abbrev pub Inside : List ℕ → Cursor → Type 0
 Inside s c = placeOf c ≤ length s
 
 -- whether scanning goes on, with a byte of the class
 abbrev pub nextIn : Class → List ℕ → Cursor → Bool
-nextIn k s (Going n) = begins k (drop n s)
-nextIn k s (Over p n) = begins k (drop n s)
-nextIn k s (Stopped p) = false
+nextIn k s (cursor.Parsed n) = begins k (drop n s)
+nextIn k s (cursor.OutOfRange p n) = begins k (drop n s)
+nextIn k s (cursor.Failed p) = false
 
 -- the cursor d behind a value that began at the place p and keeps its limit or not
 abbrev pub limitedBy : Bool → ℕ → Cursor → Cursor
-limitedBy b p (Going n) = if b then Going n else Over p n
-limitedBy b p (Over q n) = Over q n
-limitedBy b p (Stopped q) = Stopped q
+limitedBy b p (cursor.Parsed n) = if b then cursor.Parsed n else cursor.OutOfRange p n
+limitedBy b p (cursor.OutOfRange q n) = cursor.OutOfRange q n
+limitedBy b p (cursor.Failed q) = cursor.Failed q
 
 -- from the cursor c on the text s is read as the form f, with the value v, up to the cursor d
 pub record Reads {A : Type 0} (f : Form A) (s : List ℕ) (c : Cursor) (v : A) (d : Cursor) : Type 0 where

@@ -4,9 +4,9 @@ ghost use Rattle.scan_cursors.specs.Reads.{placeOf, farBy, joined, limit
 
 // At a place; at the second place, a number beyond its limit having stood at the first; or stopped at a place, for good.
 pub enum Cursor {
-    Going(usize),
-    Over(usize, usize),
-    Stopped(usize),
+    Parsed(usize),
+    OutOfRange(usize, usize),
+    Failed(usize),
 }
 
 // The place where scanning stands.
@@ -14,9 +14,9 @@ pub fn place(c: Cursor) -> usize
     ensures { λ r. ⌜ r ≡ placeOf c ⌝ }
 {
     match c {
-        Cursor::Going(at) => at,
-        Cursor::Over(_, at) => at,
-        Cursor::Stopped(at) => at,
+        Cursor::Parsed(at) => at,
+        Cursor::OutOfRange(_, at) => at,
+        Cursor::Failed(at) => at,
     }
 }
 
@@ -25,9 +25,9 @@ fn far(place: usize, d: Cursor) -> Cursor
     ensures { λ r. ⌜ r ≡ farBy place d ⌝ }
 {
     match d {
-        Cursor::Going(at) => Cursor::Over(place, at),
-        Cursor::Over(_, at) => Cursor::Over(place, at),
-        Cursor::Stopped(stop) => Cursor::Stopped(stop),
+        Cursor::Parsed(at) => Cursor::OutOfRange(place, at),
+        Cursor::OutOfRange(_, at) => Cursor::OutOfRange(place, at),
+        Cursor::Failed(stop) => Cursor::Failed(stop),
     }
 }
 
@@ -37,9 +37,9 @@ pub fn join(c: Cursor, d: Cursor) -> Cursor
     ensures { λ r. ⌜ r ≡ joined c d ⌝ }
 {
     match c {
-        Cursor::Going(_) => d,
-        Cursor::Over(place, _) => far(place, d),
-        Cursor::Stopped(at) => Cursor::Stopped(at),
+        Cursor::Parsed(_) => d,
+        Cursor::OutOfRange(place, _) => far(place, d),
+        Cursor::Failed(at) => Cursor::Failed(at),
     }
 }
 
@@ -48,14 +48,14 @@ pub fn limited(c: Cursor, kept: bool, d: Cursor) -> Cursor
     ensures { λ r. ⌜ r ≡ limitedBy kept (placeOf c) d ⌝ }
 {
     match d {
-        Cursor::Going(end) => {
+        Cursor::Parsed(end) => {
             if kept {
-                Cursor::Going(end)
+                Cursor::Parsed(end)
             } else {
-                Cursor::Over(place(c), end)
+                Cursor::OutOfRange(place(c), end)
             }
         }
-        Cursor::Over(far, end) => Cursor::Over(far, end),
-        Cursor::Stopped(at) => Cursor::Stopped(at),
+        Cursor::OutOfRange(far, end) => Cursor::OutOfRange(far, end),
+        Cursor::Failed(at) => Cursor::Failed(at),
     }
 }

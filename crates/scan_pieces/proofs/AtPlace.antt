@@ -10,10 +10,10 @@ use lib.Dec.{eqb, ltb}
 use borrow.Author.Tests.{eqb-true, ltb-true, ltb-false}
 use Rattle.forms.specs.Form.{Class, has, byte}
 use Rattle.forms.specs.Scan.{begins}
-use Rattle.forms.specs.Pieces.{sign, opt, mark}
+use Rattle.forms.specs.Pieces.{literal, opt, literalAs}
 use Rattle.forms.proofs.Bools.{by-cases, or-false}
 use Rattle.forms.proofs.Words.{span-one}
-use Rattle.scan_cursors.specs.declared.Cursor.the-variants.{Going, Stopped}
+use Rattle.scan_cursors.specs.declared.Cursor.the-variants.{Parsed, Failed}
 use Rattle.scan_cursors.specs.Reads.{Reads}
 use Rattle.scan_cursors.proofs.Readings.{byte-reads, byte-stops, byte-ends, made-reads, tell-reads}
 use Rattle.scan_cursors.proofs.Choices.{first-reads, second-reads}
@@ -36,10 +36,10 @@ module _ (c : Class) (s : List ℕ) (at : ℕ) where
   begun-in e = let h = begins-in e in omega arith
 
   -- the byte that stands there is of the class
-  pub byte-begun : begins c (drop at s) ≡ true → Reads (byte c) s (Going at) (getD s at 0) (Going (at + 1))
+  pub byte-begun : begins c (drop at s) ≡ true → Reads (byte c) s (Parsed at) (getD s at 0) (Parsed (at + 1))
   byte-begun e = let h = begins-in e in byte-reads c s at h (sym (begins-at h) ∙ e)
 
-  pub byte-none : at ≤ length s → begins c (drop at s) ≡ false → (v : ℕ) → Reads (byte c) s (Going at) v (Stopped at)
+  pub byte-none : at ≤ length s → begins c (drop at s) ≡ false → (v : ℕ) → Reads (byte c) s (Parsed at) v (Failed at)
   byte-none i e v =
       by-cases (ltb at (length s))
       (λ t. let h = ltb-true at (length s) t in byte-stops c s at h (sym (begins-at h) ∙ e) v)
@@ -50,16 +50,16 @@ pub has-one : (b x : ℕ) → has ((b, b) ∷ []) x ≡ eqb x b
 unfolding has
 has-one b x = or-false _ ∙ span-one x b
 
-pub sign-begun : (b : ℕ) (s : List ℕ) (at : ℕ) → begins ((b, b) ∷ []) (drop at s) ≡ true → Reads (sign b) s (Going at) b (Going (at + 1))
+pub sign-begun : (b : ℕ) (s : List ℕ) (at : ℕ) → begins ((b, b) ∷ []) (drop at s) ≡ true → Reads (literal b) s (Parsed at) b (Parsed (at + 1))
 sign-begun b s at e =
     let h = begins-in ((b, b) ∷ []) s at e in
     let q : getD s at 0 ≡ b = eqb-true _ _ (sym (has-one b (getD s at 0)) ∙ sym (begins-at ((b, b) ∷ []) s at h) ∙ e) in
-    subst (λ (x : ℕ). Reads (sign b) s (Going at) x (Going (at + 1))) q (byte-begun ((b, b) ∷ []) s at e)
+    subst (λ (x : ℕ). Reads (literal b) s (Parsed at) x (Parsed (at + 1))) q (byte-begun ((b, b) ∷ []) s at e)
 
 -- an optional byte
 module _ (b : ℕ) (s : List ℕ) (at : ℕ) where
-  pub mark-yes : begins ((b, b) ∷ []) (drop at s) ≡ true → Reads (opt false (mark b true)) s (Going at) true (Going (at + 1))
+  pub mark-yes : begins ((b, b) ∷ []) (drop at s) ≡ true → Reads (opt false (literalAs b true)) s (Parsed at) true (Parsed (at + 1))
   mark-yes e = first-reads refl e (made-reads (λ (x : ℕ). true) (sign-begun b s at e))
 
-  pub mark-no : at ≤ length s → begins ((b, b) ∷ []) (drop at s) ≡ false → Reads (opt false (mark b true)) s (Going at) false (Going at)
-  mark-no h e = second-reads refl e (tell-reads false s (Going at) h)
+  pub mark-no : at ≤ length s → begins ((b, b) ∷ []) (drop at s) ≡ false → Reads (opt false (literalAs b true)) s (Parsed at) false (Parsed at)
+  mark-no h e = second-reads refl e (tell-reads false s (Parsed at) h)

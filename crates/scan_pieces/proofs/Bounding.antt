@@ -12,7 +12,7 @@ use Rattle.forms.specs.Form.{Class, has}
 use Rattle.forms.proofs.Bools.{by-cases}
 use Rattle.definitions.specs.Numbers.{valueOf}
 use Rattle.scan_bytes.specs.Capped.{farAbove, capped}
-use Rattle.scan_cursors.specs.declared.Cursor.the-variants.{Going, Over, Stopped}
+use Rattle.scan_cursors.specs.declared.Cursor.the-variants.{Parsed, OutOfRange, Failed}
 use Rattle.scan_cursors.specs.Reads.{limitedBy, Reads}
 use Rattle.scan_cursors.proofs.Readings.{made-reads, limit-reads, stopped-any, over-any}
 use Rattle.scan_pieces.specs.Digits.{digitsWithin}
@@ -32,21 +32,21 @@ module _ (k : Class) (base limit : ℕ) (s : List ℕ) (at end x : ℕ) (h : at 
   abbrev fits : ℕ → Bool
   fits n = leb n limit
 
-  pub no-digits : end ≡ at → (v : ℕ) → Reads (digitsWithin k base limit) s (Going at) v (Stopped at)
+  pub no-digits : end ≡ at → (v : ℕ) → Reads (digitsWithin k base limit) s (Parsed at) v (Failed at)
   no-digits z v = stopped-any (limit-reads fits h (made-reads (valueOf base 0) (run-none k s at end h e z []))) v
 
   module _ (some : end ≡ at → ⊥) (far : limit < farAbove) (sum : x ≡ capped (valueOf base 0 (take (end - at) (drop at s)))) where
     abbrev value : ℕ
     value = valueOf base 0 (take (end - at) (drop at s))
 
-    whole : Reads (digitsWithin k base limit) s (Going at) value (limitedBy (leb value limit) at (Going end))
+    whole : Reads (digitsWithin k base limit) s (Parsed at) value (limitedBy (leb value limit) at (Parsed end))
     whole = limit-reads fits h (made-reads (valueOf base 0) (run-some k s at end h e some))
 
-    pub digits-within : x ≤ limit → Reads (digitsWithin k base limit) s (Going at) x (Going end)
+    pub digits-within : x ≤ limit → Reads (digitsWithin k base limit) s (Parsed at) x (Parsed end)
     digits-within g =
         let z = capped-low x value limit sum g far in
         let y : leb value limit ≡ true = le-leb value limit (omega (arith, z, g)) in
-        subst (λ (v : ℕ). Reads (digitsWithin k base limit) s (Going at) v (Going end)) (sym z) (rw y at whole)
+        subst (λ (v : ℕ). Reads (digitsWithin k base limit) s (Parsed at) v (Parsed end)) (sym z) (rw y at whole)
 
-    pub digits-beyond : limit < x → (v : ℕ) → Reads (digitsWithin k base limit) s (Going at) v (Over at end)
+    pub digits-beyond : limit < x → (v : ℕ) → Reads (digitsWithin k base limit) s (Parsed at) v (OutOfRange at end)
     digits-beyond g v = let y : leb value limit ≡ false = lt-leb value limit (capped-high x value limit sum g) in over-any (rw y at whole) v

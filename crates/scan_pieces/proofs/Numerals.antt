@@ -7,16 +7,16 @@ use native.Mathlib.Omega.{arith}
 use lib.ListN.{length, drop, getD, length-drop}
 use lib.Dec.{leb, ltb, eqb}
 use borrow.Author.Tests.{eqb-true, eqb-false, ltb-true, ltb-false, le-leb, lt-leb, leb-true, leb-false}
-use Rattle.forms.specs.Form.{Class, Form, byte, star, made, has}
+use Rattle.forms.specs.Form.{Class, Form, byte, many, fmap, has}
 use Rattle.forms.specs.Scan.{begins}
-use Rattle.forms.specs.Place.{Read, Is, Far, No, readAt, mapped, both-read, bounded}
-use Rattle.forms.specs.Pieces.{skip, some}
+use Rattle.forms.specs.Place.{Read, Parsed, OutOfRange, Failed, readAt, mapped, both-read, bounded}
+use Rattle.forms.specs.Pieces.{preceded, some}
 use Rattle.forms.proofs.Bools.{by-cases, both-left, both-right}
 use Rattle.forms.proofs.At.{alt-at, skip-at, made-at, pair-at, bound-at, byte-at, byte-end, mapped-both}
 use Rattle.definitions.specs.Numbers.{decimalDigits, hexDigits, digitValue, valueOf, number, eitherBase, numeral}
 use Rattle.scan_pieces.specs.Digits.{digitsWithin, hexMarked}
 use Rattle.scan_cursors.specs.declared.Cursor.{Cursor}
-use Rattle.scan_cursors.specs.declared.Cursor.the-variants.{Going}
+use Rattle.scan_cursors.specs.declared.Cursor.the-variants as cursor
 use Rattle.scan_cursors.specs.Reads.{Reads}
 use Rattle.scan_pieces.proofs.AtPlace.{begins-at, begins-in, has-one}
 
@@ -28,18 +28,18 @@ abbrev x-sign : List (ℕ × ℕ)
 x-sign = (120, 120) ∷ (88, 88) ∷ []
 
 -- a byte of a class that stands there
-stood : (c : List (ℕ × ℕ)) (s : List ℕ) (at : ℕ) → begins c (drop at s) ≡ true → readAt (byte c) s at ≡ Is (getD s at 0) (at + 1)
+stood : (c : List (ℕ × ℕ)) (s : List ℕ) (at : ℕ) → begins c (drop at s) ≡ true → readAt (byte c) s at ≡ Parsed (getD s at 0) (at + 1)
 stood c s at e = let h = begins-in c s at e in byte-at c s at h ∙ rw (sym (begins-at c s at h) ∙ e)
 
 mapped-id : {A : Type 0} (r : Read A) → mapped (λ (y : A). y) r ≡ r
-mapped-id (Is a n) = refl
-mapped-id (Far p n) = refl
-mapped-id (No p) = refl
+mapped-id (Parsed a n) = refl
+mapped-id (OutOfRange p n) = refl
+mapped-id (Failed p) = refl
 
 mapped-twice : {A B C : Type 0} (h : B → C) (g : A → B) (r : Read A) → mapped h (mapped g r) ≡ mapped (λ (a : A). h (g a)) r
-mapped-twice h g (Is a n) = refl
-mapped-twice h g (Far p n) = refl
-mapped-twice h g (No p) = refl
+mapped-twice h g (Parsed a n) = refl
+mapped-twice h g (OutOfRange p n) = refl
+mapped-twice h g (Failed p) = refl
 
 -- a digit but zero
 no-zero : (b : ℕ) → eqb b 48 ≡ false → has ((49, 57) ∷ []) b ≡ has decimalDigits b
@@ -51,7 +51,7 @@ no-zero b e =
     (λ t. rw (t, lt-leb 48 b (omega (arith, leb-false 49 b t, n))))
 
 skip-stood : {A : Type 0} (c : List (ℕ × ℕ)) (g : Form A) (s : List ℕ) (at : ℕ) → begins c (drop at s) ≡ true
-    → readAt (skip (byte c) g) s at ≡ readAt g s (at + 1)
+    → readAt (preceded (byte c) g) s at ≡ readAt g s (at + 1)
 skip-stood c g s at e =
     let h = begins-in c s at e in
     skip-at (byte c) g s at (omega arith) ∙ rw (stood c s at e) (mapped-id (readAt g s (at + 1)))
@@ -66,9 +66,9 @@ joined p = p .0 ∷ p .1
 -- a leading zero changes no number
 led-by-zero : (X : Read (List ℕ)) → mapped plainly (mapped (λ (l : List ℕ). 48 ∷ l) X) ≡ mapped plainly X
 unfolding valueOf digitValue
-led-by-zero (Is l n) = refl
-led-by-zero (Far p n) = refl
-led-by-zero (No p) = refl
+led-by-zero (Parsed l n) = refl
+led-by-zero (OutOfRange p n) = refl
+led-by-zero (Failed p) = refl
 
 -- ---- the digits
 
@@ -82,13 +82,13 @@ module _ (s : List ℕ) (at : ℕ) where
       ∙ rw x (skip-stood x-sign _ s (at + 1) x ∙ made-at _ _ s (at + 1 + 1) ∙ rw e))
 
   abbrev digits : ℕ → Read (List ℕ)
-  digits n = readAt (star (byte decimalDigits)) s n
+  digits n = readAt (many (byte decimalDigits)) s n
 
   -- one digit, and the rest
   some-at : at ≤ length s
       → readAt (some (byte decimalDigits)) s at ≡ both-read (λ (b : ℕ) (l : List ℕ). b ∷ l) (readAt (byte decimalDigits) s at) digits
   some-at h =
-      made-at _ _ s at ∙ ap (mapped joined) (pair-at (byte decimalDigits) (star (byte decimalDigits)) s at h)
+      made-at _ _ s at ∙ ap (mapped joined) (pair-at (byte decimalDigits) (many (byte decimalDigits)) s at h)
       ∙ mapped-both joined (readAt (byte decimalDigits) s at) digits
 
   zero-digit : begins zero-sign (drop at s) ≡ true → getD s at 0 ≡ 48
@@ -99,7 +99,7 @@ module _ (s : List ℕ) (at : ℕ) where
   unfolding has
   either-zero z x =
       let h = begins-in zero-sign s at z in
-      let d : readAt (byte decimalDigits) s at ≡ Is 48 (at + 1) = byte-at decimalDigits s at h ∙ rw (zero-digit z) in
+      let d : readAt (byte decimalDigits) s at ≡ Parsed 48 (at + 1) = byte-at decimalDigits s at h ∙ rw (zero-digit z) in
       let e = some-at (omega arith) ∙ ap (λ (X : Read ℕ). both-read (λ (b : ℕ) (l : List ℕ). b ∷ l) X digits) d in
       alt-at _ _ s at
       ∙ rw z (skip-stood zero-sign _ s at z ∙ alt-at _ _ s (at + 1)
@@ -123,8 +123,8 @@ module _ (s : List ℕ) (at : ℕ) where
       let of : ℕ × List ℕ → ℕ × ℕ = λ p. (0, valueOf 10 0 (p .0 ∷ p .1)) in
       let X : Read ℕ = readAt (byte decimalDigits) s at in
       let two : Read ℕ → Read (ℕ × List ℕ) = λ (Y : Read ℕ). both-read (λ (b : ℕ) (l : List ℕ). (b, l)) Y digits in
-      let one = pair-at (byte ((49, 57) ∷ [])) (star (byte decimalDigits)) s at h ∙ ap two (other-digit h z) in
-      let all = made-at _ _ s at ∙ ap (mapped joined) (pair-at (byte decimalDigits) (star (byte decimalDigits)) s at h) in
+      let one = pair-at (byte ((49, 57) ∷ [])) (many (byte decimalDigits)) s at h ∙ ap two (other-digit h z) in
+      let all = made-at _ _ s at ∙ ap (mapped joined) (pair-at (byte decimalDigits) (many (byte decimalDigits)) s at h) in
       alt-at _ _ s at
       ∙ rw z (made-at of _ s at ∙ ap (mapped of) one ∙ mapped-both of X digits
       ∙ sym (ap (mapped plainly) all ∙ mapped-twice plainly joined (two X) ∙ mapped-both of X digits))
@@ -132,44 +132,44 @@ module _ (s : List ℕ) (at : ℕ) where
 -- ---- the number
 
 -- where a broken bound is placed, behind the first k bytes
-abbrev behind : List ℕ → ℕ → ℕ → ℕ
-behind s at k = length s - length (drop k (drop at s))
+abbrev after : List ℕ → ℕ → ℕ → ℕ
+after s at k = length s - length (drop k (drop at s))
 
 abbrev within : ℕ → ℕ × ℕ → Bool
 within limit p = leb (p .1) limit
 
 -- bounds of the numeral and of its digits, over any reading of digits
 same-bound : (limit : ℕ) (s : List ℕ) (at here base k : ℕ) (X : Read (List ℕ)) → here ≡ at + k → here ≤ length s
-    → mapped (λ (p : ℕ × ℕ). p .1) (bounded (within limit) (λ (p : ℕ × ℕ). behind s at (p .0)) (mapped (λ (l : List ℕ). (k, valueOf base 0 l)) X))
-    ≡ bounded (λ (n : ℕ). leb n limit) (λ (n : ℕ). behind s here 0) (mapped (valueOf base 0) X)
-same-bound limit s at here base k (Is l n) e h =
-    let q : behind s at k ≡ behind s here 0 = omega (arith, length-drop k (drop at s), length-drop at s, length-drop here s, h, e) in
+    → mapped (λ (p : ℕ × ℕ). p .1) (bounded (within limit) (λ (p : ℕ × ℕ). after s at (p .0)) (mapped (λ (l : List ℕ). (k, valueOf base 0 l)) X))
+    ≡ bounded (λ (n : ℕ). leb n limit) (λ (n : ℕ). after s here 0) (mapped (valueOf base 0) X)
+same-bound limit s at here base k (Parsed l n) e h =
+    let q : after s at k ≡ after s here 0 = omega (arith, length-drop k (drop at s), length-drop at s, length-drop here s, h, e) in
     by-cases (leb (valueOf base 0 l) limit) (λ t. rw t) (λ t. rw (t, q))
-same-bound limit s at here base k (Far p n) e h = refl
-same-bound limit s at here base k (No p) e h = refl
+same-bound limit s at here base k (OutOfRange p n) e h = refl
+same-bound limit s at here base k (Failed p) e h = refl
 
 numeral-is : (limit : ℕ) (s : List ℕ) (at here k : ℕ) (c : Class) (base : ℕ) → here ≡ at + k → here ≤ length s
     → readAt eitherBase s at ≡ mapped (λ (l : List ℕ). (k, valueOf base 0 l)) (readAt (some (byte c)) s here)
     → readAt (numeral limit) s at ≡ readAt (digitsWithin c base limit) s here
 numeral-is limit s at here k c base e h x =
-    let left = bound-at _ _ eitherBase s at ∙ ap (bounded (within limit) (λ (p : ℕ × ℕ). behind s at (p .0))) x in
+    let left = bound-at _ _ eitherBase s at ∙ ap (bounded (within limit) (λ (p : ℕ × ℕ). after s at (p .0))) x in
     let right =
-    bound-at (λ (n : ℕ). leb n limit) (λ (n : ℕ). 0) (made (valueOf base 0) (some (byte c))) s here
-    ∙ ap (bounded (λ (n : ℕ). leb n limit) (λ (n : ℕ). behind s here 0)) (made-at (valueOf base 0) (some (byte c)) s here) in
+    bound-at (λ (n : ℕ). leb n limit) (λ (n : ℕ). 0) (fmap (valueOf base 0) (some (byte c))) s here
+    ∙ ap (bounded (λ (n : ℕ). leb n limit) (λ (n : ℕ). after s here 0)) (made-at (valueOf base 0) (some (byte c)) s here) in
     made-at _ _ s at ∙ ap (mapped (λ (p : ℕ × ℕ). p .1)) left ∙ same-bound limit s at here base k (readAt (some (byte c)) s here) e h ∙ sym right
 
 pub hex-inside : (s : List ℕ) (at : ℕ) → hexMarked s at ≡ true → at + 2 ≤ length s
 hex-inside s at e = omega (arith, begins-in x-sign s (at + 1) (both-right (begins zero-sign (drop at s)) (begins x-sign (drop (at + 1) s)) e))
 
 module _ (limit : ℕ) {s : List ℕ} {at : ℕ} {v : ℕ} {d : Cursor} where
-  pub hex-reads : hexMarked s at ≡ true → Reads (digitsWithin hexDigits 16 limit) s (Going (at + 2)) v d → Reads (numeral limit) s (Going at) v d
+  pub hex-reads : hexMarked s at ≡ true → Reads (digitsWithin hexDigits 16 limit) s (cursor.Parsed (at + 2)) v d → Reads (numeral limit) s (cursor.Parsed at) v d
   hex-reads e r =
       let z = both-left (begins zero-sign (drop at s)) (begins x-sign (drop (at + 1) s)) e in
       let x = both-right (begins zero-sign (drop at s)) (begins x-sign (drop (at + 1) s)) e in
       let q = numeral-is limit s at (at + 2) 2 hexDigits 16 refl (hex-inside s at e) (either-hex s at z x) in
       record { reads = r .reads ∙ sym q; inside = r .inside }
 
-  pub decimal-reads : at ≤ length s → hexMarked s at ≡ false → Reads (number limit) s (Going at) v d → Reads (numeral limit) s (Going at) v d
+  pub decimal-reads : at ≤ length s → hexMarked s at ≡ false → Reads (number limit) s (cursor.Parsed at) v d → Reads (numeral limit) s (cursor.Parsed at) v d
   decimal-reads h e r =
       let q : at ≡ at + 0 = omega arith in
       let w : readAt eitherBase s at ≡ mapped plainly (readAt (some (byte decimalDigits)) s at) =

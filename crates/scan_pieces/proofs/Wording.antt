@@ -7,13 +7,13 @@ use native.Mathlib.Omega.{arith}
 use native.Mathlib.Numerals.{add-one}
 use lib.ListN.{length, drop, getD, drop-of-length-le}
 use lib.Seq.{drop-cons}
-use Rattle.forms.specs.Form.{made}
+use Rattle.forms.specs.Form.{fmap}
 use Rattle.forms.specs.Scan.{Scan, Got, Stop, onGot, begins, scan, over}
 use Rattle.forms.specs.Place.{readAt}
-use Rattle.forms.specs.Pieces.{says, word, anyCase}
+use Rattle.forms.specs.Pieces.{keyword, word, anyCase}
 use Rattle.forms.proofs.Pieces.{skip-scan, over-free, free}
 use Rattle.scan_cursors.specs.declared.Cursor.{Cursor}
-use Rattle.scan_cursors.specs.declared.Cursor.the-variants.{Going, Stopped}
+use Rattle.scan_cursors.specs.declared.Cursor.the-variants.{Parsed, Failed}
 use Rattle.scan_bytes.specs.Classes.{caseClass}
 use Rattle.scan_cursors.specs.Reads.{Inside, Reads}
 use Rattle.scan_cursors.proofs.Readings.{alike-reads, made-reads, skip-reads, tell-reads, stopped-reads}
@@ -22,7 +22,7 @@ use Rattle.scan_pieces.proofs.AtPlace.{byte-begun, byte-none, begins-in
 -- what is still to come of a word
 pub record Word (s : List ℕ) (at : ℕ) (w : List ℕ) (i here : ℕ) : Type 0 where
   pub inside : here ≤ length s
-  pub rest : (d : Cursor) → Reads (word (drop i w)) s (Going here) 0 d → Reads (word w) s (Going at) 0 d
+  pub rest : (d : Cursor) → Reads (word (drop i w)) s (Parsed here) 0 d → Reads (word w) s (Parsed at) 0 d
 
 module _ (s : List ℕ) (at : ℕ) (w : List ℕ) (i here : ℕ) (u : Word s at w i here) where
   tail : i < length w → drop i w ≡ getD w i 0 ∷ drop (i + 1) w
@@ -35,38 +35,38 @@ module _ (s : List ℕ) (at : ℕ) (w : List ℕ) (i here : ℕ) (u : Word s at 
         rest = λ d r. u .rest d (rw (tail h) (skip-reads (u .inside) (byte-begun (caseClass (getD w i 0)) s here e) r));
       }
 
-  pub word-halt : i < length w → begins (caseClass (getD w i 0)) (drop here s) ≡ false → Reads (word w) s (Going at) 0 (Stopped here)
+  pub word-halt : i < length w → begins (caseClass (getD w i 0)) (drop here s) ≡ false → Reads (word w) s (Parsed at) 0 (Failed here)
   word-halt h e =
-      u .rest (Stopped here)
+      u .rest (Failed here)
       (rw (tail h)
       (skip-reads (u .inside) (byte-none (caseClass (getD w i 0)) s here (u .inside) e 0) (stopped-reads (word (drop (i + 1) w)) s here 0 (u .inside))))
 
-  pub word-out : length w ≤ i → Reads (word w) s (Going at) 0 (Going here)
-  word-out h = u .rest (Going here) (rw (drop-of-length-le w h) (tell-reads 0 s (Going here) (u .inside)))
+  pub word-out : length w ≤ i → Reads (word w) s (Parsed at) 0 (Parsed here)
+  word-out h = u .rest (Parsed here) (rw (drop-of-length-le w h) (tell-reads 0 s (Parsed here) (u .inside)))
 
 -- ---- what a word says plays no part in how it is scanned
 
-says-free : {A : Type 0} (w : List ℕ) (a : A) → free (says w a) ≡ true
+says-free : {A : Type 0} (w : List ℕ) (a : A) → free (keyword w a) ≡ true
 says-free [] a = refl
 says-free (b ∷ w) a = says-free w a
 
-says-on : {A B : Type 0} (h : A → B) (w : List ℕ) (a : A) (o : Scan ℕ) → ((l : List ℕ) → scan (says w (h a)) l ≡ onGot (scan (says w a) l) (λ x r. Got (h x) r))
-    → onGot o (λ n r. scan (says w (h a)) r) ≡ onGot (onGot o (λ n r. scan (says w a) r)) (λ x r. Got (h x) r)
+says-on : {A B : Type 0} (h : A → B) (w : List ℕ) (a : A) (o : Scan ℕ) → ((l : List ℕ) → scan (keyword w (h a)) l ≡ onGot (scan (keyword w a) l) (λ x r. Got (h x) r))
+    → onGot o (λ n r. scan (keyword w (h a)) r) ≡ onGot (onGot o (λ n r. scan (keyword w a) r)) (λ x r. Got (h x) r)
 says-on h w a (Got n r) e = e r
 says-on h w a (Stop r) e = refl
 
-says-scan : {A B : Type 0} (h : A → B) (w : List ℕ) (a : A) (l : List ℕ) → scan (says w (h a)) l ≡ onGot (scan (says w a) l) (λ x r. Got (h x) r)
+says-scan : {A B : Type 0} (h : A → B) (w : List ℕ) (a : A) (l : List ℕ) → scan (keyword w (h a)) l ≡ onGot (scan (keyword w a) l) (λ x r. Got (h x) r)
 unfolding scan
 says-scan h [] a l = refl
 says-scan {A} h (b ∷ w) a l =
-    skip-scan (anyCase b) (says w (h a)) l ∙ says-on h w a (scan (anyCase b) l) (λ m. says-scan h w a m)
-    ∙ sym (ap (λ (o : Scan A). onGot o (λ x r. Got (h x) r)) (skip-scan (anyCase b) (says w a) l))
+    skip-scan (anyCase b) (keyword w (h a)) l ∙ says-on h w a (scan (anyCase b) l) (λ m. says-scan h w a m)
+    ∙ sym (ap (λ (o : Scan A). onGot o (λ x r. Got (h x) r)) (skip-scan (anyCase b) (keyword w a) l))
 
-pub says-at : {A B : Type 0} (h : A → B) (w : List ℕ) (a : A) (s : List ℕ) (i : ℕ) → readAt (made h (says w a)) s i ≡ readAt (says w (h a)) s i
+pub says-at : {A B : Type 0} (h : A → B) (w : List ℕ) (a : A) (s : List ℕ) (i : ℕ) → readAt (fmap h (keyword w a)) s i ≡ readAt (keyword w (h a)) s i
 unfolding readAt scan over
 says-at h w a s i =
     let l = drop i s in
-    sym (rw (over-free (says w (h a)) (says-free w (h a)) l, over-free (says w a) (says-free w a) l, says-scan h w a l))
+    sym (rw (over-free (keyword w (h a)) (says-free w (h a)) l, over-free (keyword w a) (says-free w a) l, says-scan h w a l))
 
-pub says-reads : {A : Type 0} (w : List ℕ) {s : List ℕ} {c d : Cursor} (a : A) → Inside s c → Reads (word w) s c 0 d → Reads (says w a) s c a d
+pub says-reads : {A : Type 0} (w : List ℕ) {s : List ℕ} {c d : Cursor} (a : A) → Inside s c → Reads (word w) s c 0 d → Reads (keyword w a) s c a d
 says-reads w {s} a i r = alike-reads (λ n h. says-at (λ (x : ℕ). a) w 0 s n) i (made-reads (λ (x : ℕ). a) r)

@@ -6,7 +6,7 @@ ghost use Rattle.definitions.specs.Numbers.{number, numeral};
 ghost use Rattle.scan_bytes.specs.Classes.{classOf};
 ghost use Rattle.scan_bytes.specs.Capped.{farAbove};
 ghost use Rattle.scan_cursors.specs.Reads.{Reads};
-ghost use Rattle.scan_cursors.specs.declared.Cursor.the-variants.{Going};
+ghost use Rattle.scan_cursors.specs.declared.Cursor.the-variants.{Parsed};
 ghost use Rattle.scan_pieces.specs.Digits.{digitsWithin, hexMarked};
 use crate::signs::stands;
 use crate::signs::starts;
@@ -24,25 +24,25 @@ pub struct Numeric {
 // The run of digits of a class as a number in a base, up to a limit; one beyond it is told by its first digit.
 fn digits_at(s: &[u8], at: usize, k: Class, base: u64, limit: u64) -> Numeric
     requires { ⌜ (at ≤ length (now s)) × (limit < farAbove) × (1 ≤ base) × (base ≤ 16) ⌝ }
-    ensures { λ r. ⌜ Reads (digitsWithin (classOf k) base limit) (now (s .entry)) (Going at) (r .value) (r .cursor) × (r .value ≤ limit) ⌝ }
+    ensures { λ r. ⌜ Reads (digitsWithin (classOf k) base limit) (now (s .entry)) (Parsed at) (r .value) (r .cursor) × (r .value ≤ limit) ⌝ }
 {
     let end = run_of(s, at, k);
     if end == at {
         return Numeric {
             value: 0,
-            cursor: Cursor::Stopped(at),
+            cursor: Cursor::Failed(at),
         };
     }
     let v = value_of(s, at, end, base);
     if v <= limit {
         Numeric {
             value: v,
-            cursor: Cursor::Going(end),
+            cursor: Cursor::Parsed(end),
         }
     } else {
         Numeric {
             value: 0,
-            cursor: Cursor::Over(at, end),
+            cursor: Cursor::OutOfRange(at, end),
         }
     }
 }
@@ -50,7 +50,7 @@ fn digits_at(s: &[u8], at: usize, k: Class, base: u64, limit: u64) -> Numeric
 // A decimal number up to a limit.
 pub fn number_at(s: &[u8], at: usize, limit: u64) -> Numeric
     requires { ⌜ (at ≤ length (now s)) × (limit < farAbove) ⌝ }
-    ensures { λ r. ⌜ Reads (number limit) (now (s .entry)) (Going at) (r .value) (r .cursor) × (r .value ≤ limit) ⌝ }
+    ensures { λ r. ⌜ Reads (number limit) (now (s .entry)) (Parsed at) (r .value) (r .cursor) × (r .value ≤ limit) ⌝ }
 {
     digits_at(s, at, Class::Digit, 10, limit)
 }
@@ -69,7 +69,7 @@ fn is_hex_mark(s: &[u8], at: usize) -> bool
 // A number in decimal, or in hex behind `0x` or `0X`, up to a limit.
 pub fn numeral_at(s: &[u8], at: usize, limit: u64) -> Numeric
     requires { ⌜ (at ≤ length (now s)) × (limit < farAbove) ⌝ }
-    ensures { λ r. ⌜ Reads (numeral limit) (now (s .entry)) (Going at) (r .value) (r .cursor) × (r .value ≤ limit) ⌝ }
+    ensures { λ r. ⌜ Reads (numeral limit) (now (s .entry)) (Parsed at) (r .value) (r .cursor) × (r .value ≤ limit) ⌝ }
 {
     if is_hex_mark(s, at) {
         digits_at(s, at + 2, Class::HexDigit, 16, limit)

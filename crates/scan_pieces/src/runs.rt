@@ -5,7 +5,7 @@ ghost use Rattle.forms.specs.Form.{byte};
 ghost use Rattle.forms.specs.Pieces.{some};
 ghost use Rattle.scan_bytes.specs.Classes.{classOf};
 ghost use Rattle.scan_cursors.specs.Reads.{Reads};
-ghost use Rattle.scan_cursors.specs.declared.Cursor.the-variants.{Going};
+ghost use Rattle.scan_cursors.specs.declared.Cursor.the-variants.{Parsed};
 use scan_bytes::bytes::Class;
 use scan_bytes::runs::run_of;
 use scan_cursors::Cursor;
@@ -20,7 +20,7 @@ pub struct RunAt {
 // One or more bytes of a class.
 pub fn run_at(s: &[u8], at: usize, k: Class) -> RunAt
     requires { ⌜ at ≤ length (now s) ⌝ }
-    ensures { λ r. ⌜ Reads (some (byte (classOf k))) (now (s .entry)) (Going at) (take (r .len) (drop (r .from) (now (s .entry)))) (r .cursor) × (r .from + r .len ≤ length (now (s .entry))) ⌝ }
+    ensures { λ r. ⌜ Reads (some (byte (classOf k))) (now (s .entry)) (Parsed at) (take (r .len) (drop (r .from) (now (s .entry)))) (r .cursor) × (r .from + r .len ≤ length (now (s .entry))) ⌝ }
 {
     let end = run_of(s, at, k);
     let len = end - at;
@@ -28,12 +28,12 @@ pub fn run_at(s: &[u8], at: usize, k: Class) -> RunAt
         return RunAt {
             from: at,
             len,
-            cursor: Cursor::Stopped(at),
+            cursor: Cursor::Failed(at),
         };
     }
     RunAt {
         from: at,
         len,
-        cursor: Cursor::Going(end),
+        cursor: Cursor::Parsed(end),
     }
 }

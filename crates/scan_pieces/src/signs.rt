@@ -5,11 +5,11 @@ ghost use mathlib.Core.Bool.{true, false};
 ghost use Prim.Native.Nat.{_≤_};
 ghost use lib.ListN.{length, drop};
 ghost use Rattle.forms.specs.Scan.{begins};
-ghost use Rattle.forms.specs.Pieces.{skip, opt, sign, mark};
+ghost use Rattle.forms.specs.Pieces.{preceded, opt, literal, literalAs};
 ghost use Rattle.definitions.specs.Forms.{spaces, gap};
 ghost use Rattle.scan_bytes.specs.Classes.{caseClass};
 ghost use Rattle.scan_cursors.specs.Reads.{Reads, Skips};
-ghost use Rattle.scan_cursors.specs.declared.Cursor.the-variants.{Going};
+ghost use Rattle.scan_cursors.specs.declared.Cursor.the-variants.{Parsed};
 use crate::runs::run_at;
 use scan_bytes::bytes::Class;
 use scan_bytes::bytes::in_case;
@@ -38,19 +38,19 @@ pub fn starts(s: &[u8], at: usize, y: u8) -> bool
 // The byte, which must stand at the place.
 pub fn sign_at(s: &[u8], at: usize, b: u8) -> Cursor
     requires { ⌜ at ≤ length (now s) ⌝ }
-    ensures { λ r. ⌜ Reads (sign b) (now (s .entry)) (Going at) b r ⌝ }
+    ensures { λ r. ⌜ Reads (literal b) (now (s .entry)) (Parsed at) b r ⌝ }
 {
     if stands(s, at, b) {
-        Cursor::Going(at + 1)
+        Cursor::Parsed(at + 1)
     } else {
-        Cursor::Stopped(at)
+        Cursor::Failed(at)
     }
 }
 
 // One or more spaces.
 pub fn gap_at(s: &[u8], at: usize) -> Cursor
     requires { ⌜ at ≤ length (now s) ⌝ }
-    ensures { λ r. ⌜ Skips gap (now (s .entry)) (Going at) r ⌝ }
+    ensures { λ r. ⌜ Skips gap (now (s .entry)) (Parsed at) r ⌝ }
 {
     let run = run_at(s, at, Class::Space);
     run.cursor
@@ -65,17 +65,17 @@ pub struct Mark {
 // Whether the byte stands at the place, and the place behind it.
 pub fn mark_at(s: &[u8], at: usize, b: u8) -> Mark
     requires { ⌜ at ≤ length (now s) ⌝ }
-    ensures { λ r. ⌜ Reads (opt false (mark b true)) (now (s .entry)) (Going at) (r .yes) (r .cursor) ⌝ }
+    ensures { λ r. ⌜ Reads (opt false (literalAs b true)) (now (s .entry)) (Parsed at) (r .yes) (r .cursor) ⌝ }
 {
     if stands(s, at, b) {
         Mark {
             yes: true,
-            cursor: Cursor::Going(at + 1),
+            cursor: Cursor::Parsed(at + 1),
         }
     } else {
         Mark {
             yes: false,
-            cursor: Cursor::Going(at),
+            cursor: Cursor::Parsed(at),
         }
     }
 }
@@ -83,7 +83,7 @@ pub fn mark_at(s: &[u8], at: usize, b: u8) -> Mark
 // The place behind any spaces.
 pub fn spaces_at(s: &[u8], at: usize) -> usize
     requires { ⌜ at ≤ length (now s) ⌝ }
-    ensures { λ r. ⌜ Skips spaces (now (s .entry)) (Going at) (Going r) ⌝ }
+    ensures { λ r. ⌜ Skips spaces (now (s .entry)) (Parsed at) (Parsed r) ⌝ }
 {
     run_of(s, at, Class::Space)
 }
@@ -91,7 +91,7 @@ pub fn spaces_at(s: &[u8], at: usize) -> usize
 // Any spaces and `;`: the end of an option.
 pub fn closing_at(s: &[u8], at: usize) -> Cursor
     requires { ⌜ at ≤ length (now s) ⌝ }
-    ensures { λ r. ⌜ Skips (skip spaces (sign 59)) (now (s .entry)) (Going at) r ⌝ }
+    ensures { λ r. ⌜ Skips (preceded spaces (literal 59)) (now (s .entry)) (Parsed at) r ⌝ }
 {
     let from = spaces_at(s, at);
     sign_at(s, from, b';')

@@ -2,7 +2,7 @@
 ghost use mathlib.Core.Path.{_≡_};
 ghost use mathlib.Core.List.{_∷_, []};
 ghost use mathlib.Core.Bool.{true, false};
-ghost use Rattle.forms.specs.Pieces.{skip, opt, sign, mark};
+ghost use Rattle.forms.specs.Pieces.{preceded, opt, literal, literalAs};
 ghost use Rattle.definitions.specs.Forms.{spaces};
 ghost use Rattle.scan_bytes.specs.Classes.{caseClass};
 ghost use Rattle.scan_cursors.specs.Reads.{Inside, nextIn, Reads, Skips};
@@ -22,9 +22,9 @@ pub fn next_is(s: &[u8], c: Cursor, b: u8) -> bool
     ensures { λ r. ⌜ r ≡ nextIn ((b, b) ∷ []) (now (s .entry)) c ⌝ }
 {
     match c {
-        Cursor::Going(at) => stands(s, at, b),
-        Cursor::Over(_, at) => stands(s, at, b),
-        Cursor::Stopped(_) => false,
+        Cursor::Parsed(at) => stands(s, at, b),
+        Cursor::OutOfRange(_, at) => stands(s, at, b),
+        Cursor::Failed(_) => false,
     }
 }
 
@@ -33,16 +33,16 @@ pub fn next_is_letter(s: &[u8], c: Cursor, y: u8) -> bool
     ensures { λ r. ⌜ r ≡ nextIn (caseClass y) (now (s .entry)) c ⌝ }
 {
     match c {
-        Cursor::Going(at) => starts(s, at, y),
-        Cursor::Over(_, at) => starts(s, at, y),
-        Cursor::Stopped(_) => false,
+        Cursor::Parsed(at) => starts(s, at, y),
+        Cursor::OutOfRange(_, at) => starts(s, at, y),
+        Cursor::Failed(_) => false,
     }
 }
 
 // The byte, which must stand there.
 pub fn then_literal(s: &[u8], c: Cursor, b: u8) -> Cursor
     requires { ⌜ Inside (now s) c ⌝ }
-    ensures { λ r. ⌜ Reads (sign b) (now (s .entry)) c b r ⌝ }
+    ensures { λ r. ⌜ Reads (literal b) (now (s .entry)) c b r ⌝ }
 {
     let at = place(c);
     let d = sign_at(s, at, b);
@@ -52,7 +52,7 @@ pub fn then_literal(s: &[u8], c: Cursor, b: u8) -> Cursor
 // Whether the byte stands there, and the cursor behind it.
 pub fn then_optional_literal(s: &[u8], c: Cursor, b: u8) -> Mark
     requires { ⌜ Inside (now s) c ⌝ }
-    ensures { λ r. ⌜ Reads (opt false (mark b true)) (now (s .entry)) c (r .yes) (r .cursor) ⌝ }
+    ensures { λ r. ⌜ Reads (opt false (literalAs b true)) (now (s .entry)) c (r .yes) (r .cursor) ⌝ }
 {
     let at = place(c);
     let m = mark_at(s, at, b);
@@ -70,13 +70,13 @@ pub fn then_spaces(s: &[u8], c: Cursor) -> Cursor
 {
     let at = place(c);
     let end = spaces_at(s, at);
-    join(c, Cursor::Going(end))
+    join(c, Cursor::Parsed(end))
 }
 
 // Any spaces and `;`: the end of an option.
 pub fn then_closing(s: &[u8], c: Cursor) -> Cursor
     requires { ⌜ Inside (now s) c ⌝ }
-    ensures { λ r. ⌜ Skips (skip spaces (sign 59)) (now (s .entry)) c r ⌝ }
+    ensures { λ r. ⌜ Skips (preceded spaces (literal 59)) (now (s .entry)) c r ⌝ }
 {
     let at = place(c);
     let d = closing_at(s, at);

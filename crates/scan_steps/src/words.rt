@@ -2,7 +2,7 @@
 ghost use mathlib.Core.Bool.{true, false};
 ghost use Prim.Native.Nat.{_≤_};
 ghost use lib.ListN.{length};
-ghost use Rattle.forms.specs.Pieces.{or, says, word};
+ghost use Rattle.forms.specs.Pieces.{or, keyword, word};
 ghost use Rattle.scan_cursors.specs.Reads.{Inside, Reads};
 use crate::signs::next_is_letter;
 use scan_cursors::Cursor;
@@ -29,7 +29,7 @@ pub struct EitherAt {
 // Either of two words: the first letter of the one decides which must stand.
 pub fn then_either_word(s: &[u8], c: Cursor, one: &[u8], other: &[u8]) -> EitherAt
     requires { ⌜ Inside (now s) c × (1 ≤ length (now one)) ⌝ }
-    ensures { λ r. ⌜ Reads (or (says (now (one .entry)) true) (says (now (other .entry)) false)) (now (s .entry)) c (r .first) (r .cursor) ⌝ }
+    ensures { λ r. ⌜ Reads (or (keyword (now (one .entry)) true) (keyword (now (other .entry)) false)) (now (s .entry)) c (r .first) (r .cursor) ⌝ }
 {
     let letter = one[0];
     if next_is_letter(s, c, letter) {

@@ -15,14 +15,14 @@ use Rattle.definitions.specs.declared.table.Address.{Address}
 use Rattle.definitions.specs.declared.table.Slot.{Slot}
 use Rattle.definitions.specs.declared.table.Table.{Table}
 use Rattle.definitions.specs.declared.packet.Direction.{Direction}
-use Rattle.definitions.specs.declared.packet.Last.the-variants.{Nothing}
+use Rattle.definitions.specs.declared.packet.LastMatch.the-variants.{None}
 use Rattle.definitions.specs.declared.packet.Start.{Start}
-use Rattle.definitions.specs.Limits.{itemsMost, patternsMost, byteMost}
+use Rattle.definitions.specs.Limits.{maxItems, maxPatterns, maxByte}
 use Rattle.definitions.specs.Lists.{keep, all?}
-use Rattle.definitions.specs.Items.{Kind, unused, addressed, patterned, plainTest, kindOf, slotsOf, patternFirst, patternsOf, behindItem}
+use Rattle.definitions.specs.Items.{Kind, unused, addressed, patterned, plainTest, kindOf, slotsOf, patternFirst, patternsOf, afterItem}
 use Rattle.definitions.specs.WellFormed.{nameFits, slotFits, slotUnused, patternCount, itemsFit, bytesOf, bytesFit, wellFormed}
 use Rattle.definitions.specs.Fields.{View}
-use Rattle.definitions.specs.Placements.{wantedBy, wanted, itemsOf, positiveIn, positives, placements, headHolds, listed}
+use Rattle.definitions.specs.Placements.{constraintBy, constraints, itemsOf, positiveIn, positives, placements, headHolds, listed}
 use Rattle.definitions.specs.Answers.{placementOf}
 use Rattle.laws.proofs.Keep.{keep-in}
 use Rattle.laws.proofs.Listing.{placements-meet, meets-length}
@@ -37,40 +37,40 @@ use Rattle.search_items.specs.Items.{Ready}
 -- ---- no more positive patterns than patterns
 
 positives-by : (k : Kind) (it : Item) (al : List Address) (b : List ℕ) (n : ℕ) (ps : List Pattern) → n ≤ length ps
-    → positiveIn (wantedBy k it al b) + n ≤ length (patternFirst k ps)
+    → positiveIn (constraintBy k it al b) + n ≤ length (patternFirst k ps)
 positives-by unused it al b n ps h = omega arith
 positives-by (addressed a) it al b n ps h = omega arith
 positives-by (patterned p) it al b n ps h = by-cases (p .negated) (λ t. rw t (omega arith)) (λ f. rw f (omega arith))
 positives-by plainTest it al b n ps h = omega arith
 
-positives-few : (sls : List Slot) (b : List ℕ) → positives (wanted sls b) ≤ length (patternsOf sls)
-unfolding positives wanted patternsOf
+positives-few : (sls : List Slot) (b : List ℕ) → positives (constraints sls b) ≤ length (patternsOf sls)
+unfolding positives constraints patternsOf
 positives-few [] b = omega arith
 positives-few (sl ∷ sls) b =
     let k = kindOf (sl .item) in
-    positives-by k (sl .item) (sl .addresses) b (positives (wanted sls (behindItem k b))) (patternsOf sls) (positives-few sls (behindItem k b))
+    positives-by k (sl .item) (sl .addresses) b (positives (constraints sls (afterItem k b))) (patternsOf sls) (positives-few sls (afterItem k b))
 
 -- ---- a well-formed table
 
 module _ (t : Table) (formed : wellFormed t ≡ true) where
   items-fit : itemsFit t ≡ true
   unfolding wellFormed
-  items-fit = both-left (itemsFit t) _ (both-right (leb (t .protocol) byteMost) _ (both-right (nameFits (t .name) (t .len)) _ formed))
+  items-fit = both-left (itemsFit t) _ (both-right (leb (t .protocol) maxByte) _ (both-right (nameFits (t .name) (t .len)) _ formed))
 
   bytes-fit : bytesFit t ≡ true
   unfolding wellFormed
   bytes-fit =
-      both-left (bytesFit t) _ (both-right (itemsFit t) _ (both-right (leb (t .protocol) byteMost) _ (both-right (nameFits (t .name) (t .len)) _ formed)))
+      both-left (bytesFit t) _ (both-right (itemsFit t) _ (both-right (leb (t .protocol) maxByte) _ (both-right (nameFits (t .name) (t .len)) _ formed)))
 
-  pub few-items : t .count ≤ itemsMost
+  pub few-items : t .count ≤ maxItems
   few-items = forming.few-items t items-fit
 
-  few-patterns : patternCount t ≤ patternsMost
+  few-patterns : patternCount t ≤ maxPatterns
   unfolding itemsFit
   few-patterns =
-      leb-true (patternCount t) patternsMost
-      (both-left (leb (patternCount t) patternsMost) _
-      (both-right (all? slotUnused _) _ (both-right (all? slotFits (slotsOf t)) _ (both-right (leb (t .count) itemsMost) _ items-fit))))
+      leb-true (patternCount t) maxPatterns
+      (both-left (leb (patternCount t) maxPatterns) _
+      (both-right (all? slotUnused _) _ (both-right (all? slotFits (slotsOf t)) _ (both-right (leb (t .count) maxItems) _ items-fit))))
 
   stored : bytesOf (patternsOf (slotsOf t)) ≤ length (t .bytes)
   unfolding bytesFit
@@ -80,12 +80,12 @@ module _ (t : Table) (formed : wellFormed t ≡ true) where
       let room = leb-true (t .used) (length (t .bytes)) (both-left (leb (t .used) (length (t .bytes))) _ more) in
       omega arith
 
-  few-positives : positives (itemsOf t) ≤ patternsMost
+  few-positives : positives (itemsOf t) ≤ maxPatterns
   unfolding itemsOf
   few-positives = omega (arith, positives-few (slotsOf t) (t .bytes), few-patterns)
 
   pub ready-first : (s d : List ℕ) → length (t .bytes) < sizeBound → length s < sizeBound → length d < sizeBound
-      → Ready (slotsOf t) (t .bytes) s d Nothing (placementOf [])
+      → Ready (slotsOf t) (t .bytes) s d None (placementOf [])
   unfolding itemsOf
   ready-first s d b h k =
       record {
@@ -97,17 +97,17 @@ module _ (t : Table) (formed : wellFormed t ≡ true) where
   -- ---- what it lists
 
   module _ (v : View) where
-    short : (q : List Start) → Mem q (placements v (itemsOf t) Nothing) → length q ≤ patternsMost
-    short q m = let e = meets-length v (itemsOf t) Nothing q (placements-meet v (itemsOf t) Nothing q m) in omega (arith, few-positives)
+    short : (q : List Start) → Mem q (placements v (itemsOf t) None) → length q ≤ maxPatterns
+    short q m = let e = meets-length v (itemsOf t) None q (placements-meet v (itemsOf t) None q m) in omega (arith, few-positives)
 
     module _ (dir : Direction) (on-bound : Bool) (p : List Start) where
       pub found-first : (h : Bool) → h ≡ headHolds t v dir → not h ≡ false → (x : Outcome)
-          → x ≡ answer (placementOf []) on-bound p (placements v (wanted (slotsOf t) (t .bytes)) Nothing)
+          → x ≡ answer (placementOf []) on-bound p (placements v (constraints (slotsOf t) (t .bytes)) None)
           → x ≡ outcomeOf (keep (afterIf on-bound p) (listed t v dir))
       unfolding answer listed itemsOf
       found-first b e n x h =
-          h ∙ first-outcome (keep (afterIf on-bound p) (placements v (itemsOf t) Nothing))
-          (λ q m. short q (keep-in (afterIf on-bound p) q (placements v (itemsOf t) Nothing) m .0))
+          h ∙ first-outcome (keep (afterIf on-bound p) (placements v (itemsOf t) None))
+          (λ q m. short q (keep-in (afterIf on-bound p) q (placements v (itemsOf t) None) m .0))
           ∙ rw (sym e ∙ not-false b n)
 
 pub found-none : (t : Table) (v : View) (dir : Direction) (on-bound : Bool) (p : List Start) (h : Bool) → h ≡ headHolds t v dir → not h ≡ true

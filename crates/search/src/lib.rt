@@ -8,9 +8,9 @@ ghost use Rattle.search_state.specs.Choosing.{afterIf};
 ghost use Rattle.search.specs.Searching.{Searchable};
 use definitions::limits::PATTERNS;
 use definitions::packet::Direction;
-use definitions::packet::Facts;
 use definitions::packet::FieldMap;
-use definitions::packet::Last;
+use definitions::packet::LastMatch;
+use definitions::packet::PacketHeader;
 use definitions::packet::Start;
 use definitions::table::Table;
 use match_items::heads::head_holds;
@@ -23,7 +23,7 @@ use search_state::outcomes::no_match;
 // THE SEARCH: the first of the list of placements; where `on_bound`, the first after the one with the starts in `bound`.
 pub fn find<'a>(
     t: Table,
-    facts: Facts,
+    header: PacketHeader,
     payload: &'a [u8],
     decoded: &'a [u8],
     dir: Direction,
@@ -32,10 +32,10 @@ pub fn find<'a>(
     on_bound: bool,
 ) -> Outcome
     requires { ⌜ Searchable t (now payload) (now decoded) ⌝ }
-    ensures { λ r. ⌜ r ≡ outcomeOf (keep (afterIf «on_bound» bound) (listed t (seen facts (now (payload .entry)) (now (decoded .entry)) m) dir)) ⌝ }
+    ensures { λ r. ⌜ r ≡ outcomeOf (keep (afterIf «on_bound» bound) (listed t (seen header (now (payload .entry)) (now (decoded .entry)) m) dir)) ⌝ }
 {
     let flow = t.flow;
-    if !head_holds(t.protocol, flow, facts, dir) {
+    if !head_holds(t.protocol, flow, header, dir) {
         return no_match();
     }
     let items = t.items;
@@ -44,7 +44,7 @@ pub fn find<'a>(
     let input = SearchInput {
         items,
         count: t.count,
-        facts,
+        header,
         map: m,
         bound,
     };
@@ -54,7 +54,7 @@ pub fn find<'a>(
         all,
         payload,
         decoded,
-        Last::Nothing,
+        LastMatch::None,
         empty(),
         on_bound,
     )

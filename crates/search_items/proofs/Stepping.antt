@@ -13,16 +13,16 @@ use Rattle.definitions.specs.declared.table.Item.{Item}
 use Rattle.definitions.specs.declared.table.Item.the-variants as item
 use Rattle.definitions.specs.declared.table.Address.{Address}
 use Rattle.definitions.specs.declared.table.Slot.{Slot}
-use Rattle.definitions.specs.declared.packet.Last.{Last}
+use Rattle.definitions.specs.declared.packet.LastMatch.{LastMatch}
 use Rattle.definitions.specs.declared.packet.Start.{Start}
 use Rattle.definitions.specs.declared.packet.Placement.{Placement}
 use Rattle.definitions.specs.References.{lastAfter}
 use Rattle.definitions.specs.Windows.{lastEnd}
-use Rattle.definitions.specs.Items.{Kind, patternFirst, patternsOf, behindItem}
+use Rattle.definitions.specs.Items.{Kind, patternFirst, patternsOf, afterItem}
 use Rattle.definitions.specs.WellFormed.{bytesOf}
 use Rattle.definitions.specs.Fields.{View}
 use Rattle.definitions.specs.Tests.{testHolds}
-use Rattle.definitions.specs.Placements.{Wanted, placed, nowhere, tested, wantedPattern, wantedBy, wanted, positives, nowhereHolds, placements}
+use Rattle.definitions.specs.Placements.{Constraint, matched, unmatched, tested, patternConstraint, constraintBy, constraints, positives, unmatchedHolds, placements}
 use Rattle.definitions.proofs.table.Item as item-type
 use Rattle.definitions.proofs.OtherItems.{other-kind}
 use Rattle.list_laws.proofs.Firsts.{first-here, first-out}
@@ -41,13 +41,13 @@ abbrev pub NoPattern : Item → Type 0
 NoPattern it = OneOf (0 ∷ 1 ∷ 2 ∷ 3 ∷ 4 ∷ 5 ∷ 6 ∷ 7 ∷ []) (tagOf item-type.the-type it)
 
 module _ (all : List Slot) (sl : Slot) (sls : List Slot) (u : all ≡ sl ∷ sls) (b : List ℕ) where
-  pub wanted-test : NoPattern (sl .item) → wanted all b ≡ tested (sl .item) (sl .addresses) ∷ wanted sls b
-  unfolding wanted
+  pub wanted-test : NoPattern (sl .item) → constraints all b ≡ tested (sl .item) (sl .addresses) ∷ constraints sls b
+  unfolding constraints
   wanted-test k =
       let it = sl .item in
       let al = sl .addresses in
       rw u
-      (other-kind (λ (κ : Kind). _≡_ {A = List Wanted} (wantedBy κ it al b ∷ wanted sls (behindItem κ b)) (tested it al ∷ wanted sls b))
+      (other-kind (λ (κ : Kind). _≡_ {A = List Constraint} (constraintBy κ it al b ∷ constraints sls (afterItem κ b)) (tested it al ∷ constraints sls b))
       refl (λ a. refl) refl it k)
 
   bytes-test : NoPattern (sl .item) → bytesOf (patternsOf all) ≡ bytesOf (patternsOf sls)
@@ -55,14 +55,14 @@ module _ (all : List Slot) (sl : Slot) (sls : List Slot) (u : all ≡ sl ∷ sls
   bytes-test k = rw u (other-kind (λ (κ : Kind). bytesOf (patternFirst κ (patternsOf sls)) ≡ bytesOf (patternsOf sls)) refl (λ a. refl) refl (sl .item) k)
 
   module _ (p : Pattern) (e : sl .item ≡ item.Pattern p) where
-    wanted-pattern : wanted all b ≡ wantedPattern p (take (p .len) b) ∷ wanted sls (drop (p .len) b)
-    unfolding wanted
+    wanted-pattern : constraints all b ≡ patternConstraint p (take (p .len) b) ∷ constraints sls (drop (p .len) b)
+    unfolding constraints
     wanted-pattern = rw (u, e)
 
-    pub wanted-nowhere : p .negated ≡ true → wanted all b ≡ nowhere p (take (p .len) b) ∷ wanted sls (drop (p .len) b)
+    pub wanted-nowhere : p .negated ≡ true → constraints all b ≡ unmatched p (take (p .len) b) ∷ constraints sls (drop (p .len) b)
     wanted-nowhere n = wanted-pattern ∙ rw n
 
-    pub wanted-placed : p .negated ≡ false → wanted all b ≡ placed p (take (p .len) b) ∷ wanted sls (drop (p .len) b)
+    pub wanted-placed : p .negated ≡ false → constraints all b ≡ matched p (take (p .len) b) ∷ constraints sls (drop (p .len) b)
     wanted-placed n = wanted-pattern ∙ rw n
 
     bytes-pattern : bytesOf (patternsOf all) ≡ p .len + bytesOf (patternsOf sls)
@@ -81,23 +81,23 @@ left-out q k h = first-out (q .items) (q .count) k h
 
 -- ---- what the search rests on
 
-positives-test : (it : Item) (al : List Address) (ws : List Wanted) → positives (tested it al ∷ ws) ≡ positives ws
+positives-test : (it : Item) (al : List Address) (ws : List Constraint) → positives (tested it al ∷ ws) ≡ positives ws
 unfolding positives
 positives-test it al ws = omega arith
 
-positives-nowhere : (p : Pattern) (b : List ℕ) (ws : List Wanted) → positives (nowhere p b ∷ ws) ≡ positives ws
+positives-nowhere : (p : Pattern) (b : List ℕ) (ws : List Constraint) → positives (unmatched p b ∷ ws) ≡ positives ws
 unfolding positives
 positives-nowhere p b ws = omega arith
 
-positives-placed : (p : Pattern) (b : List ℕ) (ws : List Wanted) → positives (placed p b ∷ ws) ≡ 1 + positives ws
+positives-placed : (p : Pattern) (b : List ℕ) (ws : List Constraint) → positives (matched p b ∷ ws) ≡ 1 + positives ws
 unfolding positives
 positives-placed p b ws = refl
 
-module _ (all : List Slot) (sl : Slot) (sls : List Slot) (u : all ≡ sl ∷ sls) (b s d : List ℕ) (l : Last) (chosen : Placement)
+module _ (all : List Slot) (sl : Slot) (sls : List Slot) (u : all ≡ sl ∷ sls) (b s d : List ℕ) (l : LastMatch) (chosen : Placement)
     (rd : Ready all b s d l chosen) where
   pub ready-test : NoPattern (sl .item) → Ready sls b s d l chosen
   ready-test k =
-      let room : positives (wanted all b) ≡ positives (wanted sls b) = ap positives (wanted-test all sl sls u b k) ∙ positives-test _ _ _ in
+      let room : positives (constraints all b) ≡ positives (constraints sls b) = ap positives (wanted-test all sl sls u b k) ∙ positives-test _ _ _ in
       record { small = rd .small; stored = omega (arith, rd .stored, bytes-test all sl sls u b k); room = omega (arith, rd .room, room) }
 
   module _ (p : Pattern) (e : sl .item ≡ item.Pattern p) where
@@ -128,14 +128,14 @@ module _ (all : List Slot) (sl : Slot) (sls : List Slot) (u : all ≡ sl ∷ sls
 
     pub ready-nowhere : p .negated ≡ true → Ready sls (drop (p .len) b) s d l chosen
     ready-nowhere n =
-        let rest = wanted sls (drop (p .len) b) in
-        let room : positives (wanted all b) ≡ positives rest = ap positives (wanted-nowhere all sl sls u b p e n) ∙ positives-nowhere p _ _ in
+        let rest = constraints sls (drop (p .len) b) in
+        let room : positives (constraints all b) ≡ positives rest = ap positives (wanted-nowhere all sl sls u b p e n) ∙ positives-nowhere p _ _ in
         record { small = rest-small; stored = omega (arith, length-drop (p .len) b, pattern-stored); room = omega (arith, rd .room, room) }
 
     pub ready-placed : p .negated ≡ false → Trying sls (drop (p .len) b) p (take (p .len) b) s d l chosen
     ready-placed n =
-        let rest = wanted sls (drop (p .len) b) in
-        let room : positives (wanted all b) ≡ 1 + positives rest = ap positives (wanted-placed all sl sls u b p e n) ∙ positives-placed p _ _ in
+        let rest = constraints sls (drop (p .len) b) in
+        let room : positives (constraints all b) ≡ 1 + positives rest = ap positives (wanted-placed all sl sls u b p e n) ∙ positives-placed p _ _ in
         record {
           small = rest-small;
           len = omega (arith, pattern-stored, rd .small .bytes);
@@ -145,14 +145,14 @@ module _ (all : List Slot) (sl : Slot) (sls : List Slot) (u : all ≡ sl ∷ sls
         }
 
 -- a pattern that is to be placed, and the items behind it with its start chosen
-module _ (sls : List Slot) (b : List ℕ) (p : Pattern) (own s d : List ℕ) (l : Last) (chosen : Placement) (tr : Trying sls b p own s d l chosen) where
+module _ (sls : List Slot) (b : List ℕ) (p : Pattern) (own s d : List ℕ) (l : LastMatch) (chosen : Placement) (tr : Trying sls b p own s d l chosen) where
   pub trying-bounded : Bounded s d p own l
   trying-bounded = record { payload = tr .small .payload; decoded = tr .small .decoded; last = tr .small .last; pattern = tr .len; own = tr .own }
 
   last-small : (at : Start) → at .at + p .len < sizeBound → lastEnd (lastAfter l p at) < sizeBound
   last-small at h = by-cases (p .negated) (λ t. rw t (tr .small .last)) (λ t. rw t h)
 
-  pub ready-next : (at : Start) (next : Last) (ws : Placement) → at .at + p .len < sizeBound → next ≡ lastAfter l p at → ws ≡ push chosen at
+  pub ready-next : (at : Start) (next : LastMatch) (ws : Placement) → at .at + p .len < sizeBound → next ≡ lastAfter l p at → ws ≡ push chosen at
       → Ready sls b s d next ws
   ready-next at next ws h en ew =
       record {
@@ -163,7 +163,7 @@ module _ (sls : List Slot) (b : List ℕ) (p : Pattern) (own s d : List ℕ) (l 
 
 -- ---- what it answers: an item that holds leaves the answer to those behind it
 
-module _ (v : View) (l : Last) (chosen : Placement) (on-bound : Bool) (q : List Start) (ws : List Wanted) where
+module _ (v : View) (l : LastMatch) (chosen : Placement) (on-bound : Bool) (q : List Start) (ws : List Constraint) where
   module _ (it : Item) (al : List Address) where
     pub test-yes : testHolds v it al l ≡ true → answer chosen on-bound q (placements v (tested it al ∷ ws) l) ≡ answer chosen on-bound q (placements v ws l)
     unfolding placements
@@ -174,15 +174,15 @@ module _ (v : View) (l : Last) (chosen : Placement) (on-bound : Bool) (q : List 
     test-no h = rw h (answer-nothing chosen on-bound q)
 
   module _ (p : Pattern) (b : List ℕ) where
-    pub nowhere-yes : nowhereHolds v p b l ≡ true → answer chosen on-bound q (placements v (nowhere p b ∷ ws) l) ≡ answer chosen on-bound q (placements v ws l)
+    pub nowhere-yes : unmatchedHolds v p b l ≡ true → answer chosen on-bound q (placements v (unmatched p b ∷ ws) l) ≡ answer chosen on-bound q (placements v ws l)
     unfolding placements
     nowhere-yes h = rw h
 
-    pub nowhere-no : nowhereHolds v p b l ≡ false → answer chosen on-bound q (placements v (nowhere p b ∷ ws) l) ≡ nothing
+    pub nowhere-no : unmatchedHolds v p b l ≡ false → answer chosen on-bound q (placements v (unmatched p b ∷ ws) l) ≡ nothing
     unfolding placements
     nowhere-no h = rw h (answer-nothing chosen on-bound q)
 
-pub after-last : (v : View) (l : Last) (chosen : Placement) (on-bound : Bool) (q : List Start) (b : List ℕ)
-    → answer chosen on-bound q (placements v (wanted [] b) l) ≡ answer chosen on-bound q ([] ∷ [])
-unfolding placements wanted
+pub after-last : (v : View) (l : LastMatch) (chosen : Placement) (on-bound : Bool) (q : List Start) (b : List ℕ)
+    → answer chosen on-bound q (placements v (constraints [] b) l) ≡ answer chosen on-bound q ([] ∷ [])
+unfolding placements constraints
 after-last v l chosen on-bound q b = refl

@@ -3,13 +3,13 @@ ghost use mathlib.Core.Path.{_≡_};
 ghost use mathlib.Core.List.{_∷_};
 ghost use Prim.Native.Nat.{_+_, _≤_, _<_};
 ghost use lib.ListN.{drop};
-ghost use Rattle.definitions.specs.Limits.{itemsMost};
-ghost use Rattle.definitions.specs.Placements.{placed, wanted, placements};
+ghost use Rattle.definitions.specs.Limits.{maxItems};
+ghost use Rattle.definitions.specs.Placements.{matched, constraints, placements};
 ghost use Rattle.fields.specs.Seen.{seen};
 ghost use Rattle.search_state.specs.Choosing.{answer};
 ghost use Rattle.search_state.specs.Inputs.{itemsLeft};
 ghost use Rattle.search_items.specs.Items.{Ready, Trying};
-use definitions::packet::Last;
+use definitions::packet::LastMatch;
 use definitions::packet::Placement;
 use definitions::table::Item;
 use definitions::table::Pattern;
@@ -37,15 +37,15 @@ pub fn from_item<'a>(
     bytes: &[u8],
     payload: &'a [u8],
     decoded: &'a [u8],
-    last: Last,
+    last: LastMatch,
     chosen: Placement,
     on_bound: bool,
 ) -> Outcome
-    requires { ⌜ (input .count ≤ itemsMost) × Ready (itemsLeft input k) (now bytes) (now payload) (now decoded) last chosen ⌝ }
-    ensures { λ r. ⌜ r ≡ answer chosen «on_bound» (drop (chosen .count) (input .bound)) (placements (seen (input .facts) (now (payload .entry)) (now (decoded .entry)) (input .map)) (wanted (itemsLeft input k) (now (bytes .entry))) last) ⌝ }
+    requires { ⌜ (input .count ≤ maxItems) × Ready (itemsLeft input k) (now bytes) (now payload) (now decoded) last chosen ⌝ }
+    ensures { λ r. ⌜ r ≡ answer chosen «on_bound» (drop (chosen .count) (input .bound)) (placements (seen (input .header) (now (payload .entry)) (now (decoded .entry)) (input .map)) (constraints (itemsLeft input k) (now (bytes .entry))) last) ⌝ }
 {
     let count = input.count;
-    let facts = input.facts;
+    let header = input.header;
     let map = input.map;
     let mut i = k;
     // The pattern bytes from item i's on begin here.
@@ -55,7 +55,7 @@ pub fn from_item<'a>(
         let item = slot.item;
         let Item::Pattern(p) = item else {
             let addresses = slot.addresses;
-            if !test_holds(facts, payload, decoded, map, item, addresses, last) {
+            if !test_holds(header, payload, decoded, map, item, addresses, last) {
                 return no_match();
             }
             i += 1;
@@ -98,12 +98,12 @@ fn try_starts<'a>(
     rest: &[u8],
     payload: &'a [u8],
     decoded: &'a [u8],
-    last: Last,
+    last: LastMatch,
     chosen: Placement,
     on_bound: bool,
 ) -> Outcome
-    requires { ⌜ (k < input .count) × (input .count ≤ itemsMost) × Trying (itemsLeft input (k + 1)) (now rest) p (now own) (now payload) (now decoded) last chosen ⌝ }
-    ensures { λ r. ⌜ r ≡ answer chosen «on_bound» (drop (chosen .count) (input .bound)) (placements (seen (input .facts) (now (payload .entry)) (now (decoded .entry)) (input .map)) (placed p (now (own .entry)) ∷ wanted (itemsLeft input (k + 1)) (now (rest .entry))) last) ⌝ }
+    requires { ⌜ (k < input .count) × (input .count ≤ maxItems) × Trying (itemsLeft input (k + 1)) (now rest) p (now own) (now payload) (now decoded) last chosen ⌝ }
+    ensures { λ r. ⌜ r ≡ answer chosen «on_bound» (drop (chosen .count) (input .bound)) (placements (seen (input .header) (now (payload .entry)) (now (decoded .entry)) (input .map)) (matched p (now (own .entry)) ∷ constraints (itemsLeft input (k + 1)) (now (rest .entry))) last) ⌝ }
 {
     let map = input.map;
     let c = p.context;

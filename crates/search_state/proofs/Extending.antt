@@ -7,7 +7,7 @@ use native.Mathlib.Omega.{arith}
 use lib.ListN.{length, set, replicate, length-append}
 use lib.Seq.{set-append-seam, append-snoc}
 use Rattle.definitions.specs.declared.packet.Start.{Start}
-use Rattle.definitions.specs.Limits.{patternsMost}
+use Rattle.definitions.specs.Limits.{maxPatterns}
 use Rattle.definitions.specs.Starts.{startAt}
 use Rattle.definitions.specs.Answers.{placementOf}
 use Rattle.search_state.specs.Outcomes.{outcomeOf}
@@ -24,11 +24,11 @@ extend-to (s ∷ q) pre m =
     let e : set (pre ++ startAt 0 ∷ room) (length pre) s ≡ (pre ++ (s ∷ [])) ++ room = set-append-seam pre (startAt 0) room s ∙ sym (append-snoc pre s room) in
     rw (suc-add (length q) m, e, ← n, ← append-snoc pre s q) (extend-to q (pre ++ (s ∷ [])) m)
 
-extend-none : (q : List Start) → length q ≤ patternsMost → extend (placementOf []) q ≡ placementOf q
+extend-none : (q : List Start) → length q ≤ maxPatterns → extend (placementOf []) q ≡ placementOf q
 extend-none q h =
-    let e : length q + (patternsMost - length q) ≡ patternsMost = omega arith in
-    subst (λ (n : ℕ). extend (record { count = 0; starts = replicate n (startAt 0) }) q ≡ placementOf q) e (extend-to q [] (patternsMost - length q))
+    let e : length q + (maxPatterns - length q) ≡ maxPatterns = omega arith in
+    subst (λ (n : ℕ). extend (record { count = 0; starts = replicate n (startAt 0) }) q ≡ placementOf q) e (extend-to q [] (maxPatterns - length q))
 
-pub first-outcome : (ps : List (List Start)) → ((q : List Start) → Mem q ps → length q ≤ patternsMost) → firstOf (placementOf []) ps ≡ outcomeOf ps
+pub first-outcome : (ps : List (List Start)) → ((q : List Start) → Mem q ps → length q ≤ maxPatterns) → firstOf (placementOf []) ps ≡ outcomeOf ps
 first-outcome [] h = refl
 first-outcome (q ∷ ps) h = rw (extend-none q (h q (here refl)))

@@ -4,14 +4,14 @@ ghost use mathlib.Core.Bool.{_&&_};
 ghost use mathlib.Core.List.{List, [], _∷_};
 ghost use Prim.Native.Nat.{_+_, _<_};
 ghost use Rattle.definitions.specs.declared.packet.Start.{Start};
-ghost use Rattle.definitions.specs.Limits.{patternsMost};
+ghost use Rattle.definitions.specs.Limits.{maxPatterns};
 ghost use Rattle.definitions.specs.References.{lastAfter};
 ghost use Rattle.definitions.specs.Starts.{sameStart};
 ghost use Rattle.match_windows.specs.Spans.{sizeBound};
 ghost use Rattle.search_state.specs.Choosing.{push, answer, startFrom};
 use crate::outcomes::Outcome;
 use crate::outcomes::no_match;
-use definitions::packet::Last;
+use definitions::packet::LastMatch;
 use definitions::packet::Match;
 use definitions::packet::Placement;
 use definitions::packet::Start;
@@ -35,7 +35,7 @@ pub fn finish(chosen: Placement, on_bound: bool) -> Outcome
 
 // The starts chosen, with one more.
 pub fn with_start(chosen: Placement, s: Start) -> Placement
-    requires { ⌜ chosen .count < patternsMost ⌝ }
+    requires { ⌜ chosen .count < maxPatterns ⌝ }
     ensures { λ r. ⌜ r ≡ push chosen s ⌝ }
 {
     let j = chosen.count;
@@ -70,7 +70,7 @@ pub fn still_on_bound(on_bound: bool, s: Start, b: Start) -> bool
 }
 
 // The last positive pattern, after `p` that lies at the start `s`.
-pub fn last_after(last: Last, p: Pattern, s: Start) -> Last
+pub fn last_after(last: LastMatch, p: Pattern, s: Start) -> LastMatch
     requires { ⌜ s .at + p .len < sizeBound ⌝ }
     ensures { λ r. ⌜ r ≡ lastAfter last p s ⌝ }
 {
@@ -78,7 +78,7 @@ pub fn last_after(last: Last, p: Pattern, s: Start) -> Last
         return last;
     }
     let context = p.context;
-    Last::Was(Match {
+    LastMatch::Some(Match {
         context,
         end: s.at + p.len,
     })

@@ -1,8 +1,8 @@
 // What a search is given, the same for every item.
 use definitions::limits::ITEMS;
 use definitions::limits::PATTERNS;
-use definitions::packet::Facts;
 use definitions::packet::FieldMap;
+use definitions::packet::PacketHeader;
 use definitions::packet::Start;
 use definitions::table::Slot;
 
@@ -10,7 +10,7 @@ use definitions::table::Slot;
 pub struct SearchInput {
     pub items: [Slot; ITEMS],
     pub count: usize,
-    pub facts: Facts,
+    pub header: PacketHeader,
     pub map: FieldMap,
     pub bound: [Start; PATTERNS],
 }

@@ -16,10 +16,10 @@ use Rattle.definitions.specs.declared.answers.ReadOutcome.the-variants as outco
 use Rattle.definitions.specs.declared.table.Table.{Table}
 use Rattle.definitions.specs.Limits.{Limits}
 use Rattle.definitions.specs.Lists.{none?, all?, count, sameBytes}
-use Rattle.definitions.specs.Entries.{Entry}
+use Rattle.definitions.specs.OptionValues.{OptionValue}
 use Rattle.definitions.specs.Tables.{tableOf}
-use Rattle.definitions.specs.Standing.{isPattern, missing}
-use Rattle.definitions.specs.Reading.{Said, entriesOf, Options, ended, refused, options, patternDash, refusedReading, acceptedReading, judged, finished, readUnbounded, read}
+use Rattle.definitions.specs.Occurrences.{isPattern, missing}
+use Rattle.definitions.specs.Reading.{Located, optionValuesOf, Options, ended, refused, options, patternDash, refusedReading, acceptedReading, checkedTable, finished, readUnbounded, read}
 use Rattle.definitions.specs.Options.{printable, opening}
 use Rattle.definitions.specs.References.{usableIn}
 use Rattle.definitions.specs.Grammar.{Derives}
@@ -34,44 +34,44 @@ refused-never {ℓ} : {A : Type ℓ} (room : ℕ) (r : Refusal) (p : ℕ) (t : T
 refused-never room r p t e = let z : outcome.Refused r p ≡ outcome.Accepted = ap (λ x. x .outcome) e in impossible (cc)
 
 -- what is left to ask of the entries
-record Judged (room : ℕ) (es : List Entry) (t : Table) : Type 0 where
+record Checked (room : ℕ) (es : List OptionValue) (t : Table) : Type 0 where
   usable : usableIn es ≡ count isPattern es
   complete : missing es ≡ false
   table : t ≡ tableOf room es
 
-module _ (room : ℕ) (s : List ℕ) (said : List Said) (t : Table) (plain : all? testOnly (entriesOf said) ≡ true) where
-  judged-is : judged room s said ≡ acceptedReading t → Judged room (entriesOf said) t
-  unfolding judged
-  judged-is e =
-      cases (ltb (usableIn (entriesOf said)) (count isPattern (entriesOf said)))
-      (λ a. refused-never room refusal.Unusable (patternDash said (usableIn (entriesOf said))) t (rw a at e))
-      (λ a. cases (missing (entriesOf said))
+module _ (room : ℕ) (s : List ℕ) (located : List Located) (t : Table) (plain : all? testOnly (optionValuesOf located) ≡ true) where
+  checked-is : checkedTable room s located ≡ acceptedReading t → Checked room (optionValuesOf located) t
+  unfolding checkedTable
+  checked-is e =
+      cases (ltb (usableIn (optionValuesOf located)) (count isPattern (optionValuesOf located)))
+      (λ a. refused-never room refusal.Unusable (patternDash located (usableIn (optionValuesOf located))) t (rw a at e))
+      (λ a. cases (missing (optionValuesOf located))
       (λ b. refused-never room refusal.Missing (length s) t (rw (a, b) at e))
       (λ b.
-      let z : acceptedReading (tableOf room (entriesOf said)) ≡ acceptedReading t = rw (a, b) at e in
-      record { usable = usable-exactly (entriesOf said) plain .0 a; complete = b; table = sym (ap (λ x. x .table) z) }))
+      let z : acceptedReading (tableOf room (optionValuesOf located)) ≡ acceptedReading t = rw (a, b) at e in
+      record { usable = usable-exactly (optionValuesOf located) plain .0 a; complete = b; table = sym (ap (λ x. x .table) z) }))
 
-  is-judged : Judged room (entriesOf said) t → judged room s said ≡ acceptedReading t
-  unfolding judged
-  is-judged j = rw (usable-exactly (entriesOf said) plain .1 (j .usable), j .complete) (ap acceptedReading (sym (j .table)))
+  is-checked : Checked room (optionValuesOf located) t → checkedTable room s located ≡ acceptedReading t
+  unfolding checkedTable
+  is-checked j = rw (usable-exactly (optionValuesOf located) plain .1 (j .usable), j .complete) (ap acceptedReading (sym (j .table)))
 
-finished-is : (room : ℕ) (s : List ℕ) (o : Options) (t : Table) → finished room s o ≡ acceptedReading t → (said : List Said) × (o ≡ ended said) × (judged room s said ≡ acceptedReading t)
-finished-is room s (ended said) t e = (said, refl, e)
+finished-is : (room : ℕ) (s : List ℕ) (o : Options) (t : Table) → finished room s o ≡ acceptedReading t → (located : List Located) × (o ≡ ended located) × (checkedTable room s located ≡ acceptedReading t)
+finished-is room s (ended located) t e = (located, refl, e)
 finished-is room s (refused r p) t e = refused-never room r p t e
 
 -- ---- the whole text
 
 module _ (room : ℕ) (s : List ℕ) (t : Table) where
-  told-derives : s ≡ opening ++ drop (length opening) s → all? printable s ≡ true → (said : List Said) → judged room s said ≡ acceptedReading t → Told (drop (length opening) s) [] said → Derives room s t
-  told-derives f p said q i =
-      let j = subst (λ es. Judged room es t) (i .3) (judged-is room s said t (rw (i .3) (options-tests (i .1))) q) in
+  told-derives : s ≡ opening ++ drop (length opening) s → all? printable s ≡ true → (located : List Located) → checkedTable room s located ≡ acceptedReading t → Told (drop (length opening) s) [] located → Derives room s t
+  told-derives f p located q i =
+      let j = subst (λ es. Checked room es t) (i .3) (checked-is room s located t (rw (i .3) (options-tests (i .1))) q) in
       record {
         body = drop (length opening) s;
-        entries = i .0;
+        values = i .0;
         framed = f;
         printed = p;
         made = i .1;
-        standing = i .2;
+        occurrences = i .2;
         usable = j .usable;
         complete = j .complete;
         table = j .table;
@@ -99,10 +99,10 @@ module _ (room : ℕ) (s : List ℕ) (t : Table) where
   derives-accepted d =
       let b : drop (length opening) s ≡ d .body = ap (drop (length opening)) (d .framed) ∙ drop-append-seam opening (d .body) in
       let f : s ≡ opening ++ drop (length opening) s = d .framed ∙ ap (λ l. opening ++ l) (sym b) in
-      let i = options-read (d .made) s (length opening) [] (d .standing) b in
-      let j : Judged room (d .entries) t = record { usable = d .usable; complete = d .complete; table = d .table } in
+      let i = options-read (d .made) s (length opening) [] (d .occurrences) b in
+      let j : Checked room (d .values) t = record { usable = d .usable; complete = d .complete; table = d .table } in
       rw (some-text (d .body) (d .framed), printed-exactly s .1 (d .printed), opened-exactly s .1 f, b, i .1)
-      (is-judged room s (i .0) t (rw (i .2) (options-tests (d .made))) (subst (λ es. Judged room es t) (sym (i .2)) j))
+      (is-checked room s (i .0) t (rw (i .2) (options-tests (d .made))) (subst (λ es. Checked room es t) (sym (i .2)) j))
 
 -- THE SYNTAX EXACTLY
 pub syntax-exactly : (room : ℕ) (s : List ℕ) (t : Table) → (readUnbounded room s ≡ acceptedReading t) ↔ Derives room s t

@@ -19,12 +19,12 @@ use Rattle.definitions.specs.Options.{printable, opening}
 -- ---- places
 
 -- behind x, which stands at a place
-pub behind : (s : List ℕ) (at : ℕ) (x r : List ℕ) → drop at s ≡ x ++ r → drop (at + length x) s ≡ r
-behind s at x r d = sym (drop-drop (length x) at s) ∙ rw d (drop-append-seam x r)
+pub after : (s : List ℕ) (at : ℕ) (x r : List ℕ) → drop at s ≡ x ++ r → drop (at + length x) s ≡ r
+after s at x r d = sym (drop-drop (length x) at s) ∙ rw d (drop-append-seam x r)
 
 -- the place behind x, told by what is left
-pub place-behind : (s : List ℕ) (at : ℕ) (x r : List ℕ) → drop at s ≡ x ++ r → 0 < length x → length s - length r ≡ at + length x
-place-behind s at x r d h = let l : length s - at ≡ length x + length r = sym (length-drop at s) ∙ ap length d ∙ length-append x r in omega (arith, l, h)
+pub place-after : (s : List ℕ) (at : ℕ) (x r : List ℕ) → drop at s ≡ x ++ r → 0 < length x → length s - length r ≡ at + length x
+place-after s at x r d h = let l : length s - at ≡ length x + length r = sym (length-drop at s) ∙ ap length d ∙ length-append x r in omega (arith, l, h)
 
 -- so many bytes from a place on, and the rest
 pub parted : (s : List ℕ) (at n : ℕ) (r : List ℕ) → drop (at + n) s ≡ r → drop at s ≡ take n (drop at s) ++ r

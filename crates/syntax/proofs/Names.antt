@@ -10,12 +10,12 @@ use lib.Dec.{eqb, leb}
 use borrow.Author.Tests.{eqb-true, leb-true, le-leb, not-true}
 use Rattle.forms.specs.Bytes.{between, lower, sameWord, run}
 use Rattle.forms.specs.Form.{Means}
-use Rattle.forms.specs.Place.{Is, readAt}
+use Rattle.forms.specs.Place.{Parsed, readAt}
 use Rattle.forms.proofs.Bools.{by-cases, both-left, both-right}
 use Rattle.forms.proofs.Sound.{never}
 use Rattle.forms.proofs.Complete.{first-of, no-empty}
-use Rattle.definitions.specs.Entries.{Entry}
-use Rattle.definitions.specs.Options.{Option, optionTable, inName, listed, parsed}
+use Rattle.definitions.specs.OptionValues.{OptionValue}
+use Rattle.definitions.specs.Options.{Option, optionTable, inName, listed, namedOption}
 use Rattle.syntax.proofs.Truths.{cases, impossible}
 use Rattle.syntax.proofs.Rows.{allRows, each-row, plainWord, plainName, unlike, distinct, names-plain, names-distinct, form-alone}
 
@@ -50,7 +50,7 @@ run-word (x ∷ n) (y ∷ w) e p r z =
     rw q (ap suc (run-word n w (both-right (eqb (lower x) y) (sameWord n w) e) (p1 .2) r z))
 
 -- what is of an option's form begins with no name byte
-pub no-name-front : {o : Option} → Mem o optionTable → (y r : List ℕ) (e : Entry) → Means true (o .form) y e → run inName (y ++ r) ≡ 0
+pub no-name-front : {o : Option} → Mem o optionTable → (y r : List ℕ) (e : OptionValue) → Means true (o .form) y e → run inName (y ++ r) ≡ 0
 unfolding run
 no-name-front {o} m [] r e q = never (no-empty true (o .form) (form-alone m .is-full) e q)
 no-name-front {o} m (b ∷ y) r e q = rw (form-alone m .not-of-name b (first-of true (o .form) b y e q))
@@ -72,8 +72,8 @@ same-as (x ∷ n) (y ∷ w) (z ∷ u) e p =
     let p1 = word-parts y w p in
     rw (e1, p1 .1, same-as n w u (both-right (eqb (lower x) y) (sameWord n w) e) (p1 .2))
 
-row-found : {o : Option} {os : List Option} → Mem o os → distinct os ≡ true → allRows plainName os ≡ true → (n : List ℕ) → sameWord n (o .name) ≡ true → (s : List ℕ) (at : ℕ) → parsed os n s at ≡ listed (readAt (o .form) s at)
-unfolding parsed
+row-found : {o : Option} {os : List Option} → Mem o os → distinct os ≡ true → allRows plainName os ≡ true → (n : List ℕ) → sameWord n (o .name) ≡ true → (s : List ℕ) (at : ℕ) → namedOption os n s at ≡ listed (readAt (o .form) s at)
+unfolding namedOption
 row-found (first-one {x} {xs} e) d w n q s at = rw (subst (λ (z : Option). sameWord n (z .name) ≡ true) e q) (ap (λ (z : Option). listed (readAt (z .form) s at)) (sym e))
 row-found {o} (later-one {x} {xs} m) d w n q s at =
     let w1 = both-right (plainName x) (allRows plainName xs) w in
@@ -82,17 +82,17 @@ row-found {o} (later-one {x} {xs} m) d w n q s at =
     rw z (row-found m (both-right (allRows (unlike x) xs) (distinct xs) d) w1 n q s at)
 
 -- the table reads a listed name's option by its form
-pub named-parsed : {o : Option} → Mem o optionTable → (n : List ℕ) → sameWord n (o .name) ≡ true → (s : List ℕ) (at : ℕ) → parsed optionTable n s at ≡ listed (readAt (o .form) s at)
+pub named-parsed : {o : Option} → Mem o optionTable → (n : List ℕ) → sameWord n (o .name) ≡ true → (s : List ℕ) (at : ℕ) → namedOption optionTable n s at ≡ listed (readAt (o .form) s at)
 named-parsed m n q s at = row-found m names-distinct names-plain n q s at
 
 -- what the rows read is of one of them
-abbrev pub Row-of : List Option → List ℕ → List ℕ → ℕ → Entry → ℕ → Type 1
-Row-of os n s at e next = (o : Option) × Mem o os × (sameWord n (o .name) ≡ true) × (readAt (o .form) s at ≡ Is e next)
+abbrev pub Row-of : List Option → List ℕ → List ℕ → ℕ → OptionValue → ℕ → Type 1
+Row-of os n s at e next = (o : Option) × Mem o os × (sameWord n (o .name) ≡ true) × (readAt (o .form) s at ≡ Parsed e next)
 
-pub parsed-named : (os : List Option) (n s : List ℕ) (at : ℕ) (e : Entry) (next : ℕ) → parsed os n s at ≡ listed (Is e next) → Row-of os n s at e next
-unfolding parsed
+pub parsed-named : (os : List Option) (n s : List ℕ) (at : ℕ) (e : OptionValue) (next : ℕ) → namedOption os n s at ≡ listed (Parsed e next) → Row-of os n s at e next
+unfolding namedOption
 parsed-named [] n s at e next q = impossible (cc)
 parsed-named (o ∷ os) n s at e next q =
     cases (sameWord n (o .name))
-    (λ t. let z : listed (readAt (o .form) s at) ≡ listed (Is e next) = rw t at q in (o, first-one refl, t, cc))
+    (λ t. let z : listed (readAt (o .form) s at) ≡ listed (Parsed e next) = rw t at q in (o, first-one refl, t, cc))
     (λ t. let i = parsed-named os n s at e next (rw t at q) in (i .0, later-one (i .1), i .2, i .3))

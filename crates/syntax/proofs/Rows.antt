@@ -9,11 +9,11 @@ use lib.Dec.{eqb, leb}
 use borrow.Author.Tests.{eqb-true, leb-true, not-true}
 use Rattle.forms.specs.Bytes.{lower, sameWord}
 use Rattle.forms.specs.Form.{Class, has, Form}
-use Rattle.forms.specs.Scan.{empty, first, begins, further, fair}
+use Rattle.forms.specs.Scan.{nullable, firstSet, begins, followSet, isLL1}
 use Rattle.forms.proofs.Bools.{by-cases, both-left, both-right}
 use Rattle.forms.proofs.Sound.{never}
 use Rattle.definitions.specs.Lists.{none?}
-use Rattle.definitions.specs.Entries.{Entry}
+use Rattle.definitions.specs.OptionValues.{OptionValue}
 use Rattle.definitions.specs.Options.{Option, optionTable, inName}
 
 -- ---- tests over rows
@@ -61,7 +61,7 @@ noName (r ∷ c) = (eqb (r .0) (r .1) && not (inName (r .0))) && noName c
 
 -- one byte of look-ahead decides; the form begins with a byte that is not of a name, and nothing goes on behind it
 abbrev pub formAlone : Option → Bool
-formAlone o = fair (o .form) && (not (empty (o .form)) && (none? (further (o .form)) && noName (first (o .form))))
+formAlone o = isLL1 (o .form) && (not (nullable (o .form)) && (none? (followSet (o .form)) && noName (firstSet (o .form))))
 
 pub forms-alone : allRows formAlone optionTable ≡ true
 unfolding optionTable inName lower
@@ -87,21 +87,21 @@ no-name-byte (r ∷ c) e b h =
     subst (λ a. inName a ≡ false) y (not-true (inName (r .0)) (both-right (eqb (r .0) (r .1)) (not (inName (r .0))) e1)))
     (λ t. no-name-byte c (both-right (eqb (r .0) (r .1) && not (inName (r .0))) (noName c) e) b (rw t at h))
 
-pub record Alone (f : Form Entry) : Type 0 where
-  pub is-fair : fair f ≡ true
-  pub is-full : not (empty f) ≡ true
-  pub ends-itself : (r : List ℕ) → begins (further f) r ≡ false
-  pub not-of-name : (b : ℕ) → has (first f) b ≡ true → inName b ≡ false
+pub record Alone (f : Form OptionValue) : Type 0 where
+  pub is-fair : isLL1 f ≡ true
+  pub is-full : not (nullable f) ≡ true
+  pub ends-itself : (r : List ℕ) → begins (followSet f) r ≡ false
+  pub not-of-name : (b : ℕ) → has (firstSet f) b ≡ true → inName b ≡ false
 
 pub form-alone : {o : Option} → Mem o optionTable → Alone (o .form)
 form-alone {o} m =
     let f = o .form in
     let t = each-row formAlone m forms-alone in
-    let t1 = both-right (fair f) (not (empty f) && (none? (further f) && noName (first f))) t in
-    let t2 = both-right (not (empty f)) (none? (further f) && noName (first f)) t1 in
+    let t1 = both-right (isLL1 f) (not (nullable f) && (none? (followSet f) && noName (firstSet f))) t in
+    let t2 = both-right (not (nullable f)) (none? (followSet f) && noName (firstSet f)) t1 in
     record {
-      is-fair = both-left (fair f) (not (empty f) && (none? (further f) && noName (first f))) t;
-      is-full = both-left (not (empty f)) (none? (further f) && noName (first f)) t1;
-      ends-itself = none-begins (further f) (both-left (none? (further f)) (noName (first f)) t2);
-      not-of-name = no-name-byte (first f) (both-right (none? (further f)) (noName (first f)) t2);
+      is-fair = both-left (isLL1 f) (not (nullable f) && (none? (followSet f) && noName (firstSet f))) t;
+      is-full = both-left (not (nullable f)) (none? (followSet f) && noName (firstSet f)) t1;
+      ends-itself = none-begins (followSet f) (both-left (none? (followSet f)) (noName (firstSet f)) t2);
+      not-of-name = no-name-byte (firstSet f) (both-right (none? (followSet f)) (noName (firstSet f)) t2);
     }

@@ -5,7 +5,7 @@ ghost use Prim.Native.Nat.{ℕ, _≤_};
 ghost use lib.ListN.{length, take, drop};
 ghost use lib.Dec.{leb};
 ghost use Rattle.forms.specs.Form.{has};
-ghost use Rattle.definitions.specs.Limits.{byteMost};
+ghost use Rattle.definitions.specs.Limits.{maxByte};
 ghost use Rattle.definitions.specs.Lists.{all?};
 ghost use Rattle.definitions.specs.Forms.{quotable};
 ghost use Rattle.definitions.specs.WellFormed.{isZero, nameFits};
@@ -60,7 +60,7 @@ pub fn name_fits(name: [u8; NAME_BYTES], len: usize) -> bool
 
 // So many bytes are in use, and the room behind them is zero.
 pub fn room_fits(s: &[u8], used: usize) -> bool
-    ensures { λ r. ⌜ r ≡ (leb used (length (now (s .entry))) && (all? (λ (b : ℕ). leb b byteMost) (take used (now (s .entry))) && all? isZero (drop used (now (s .entry))))) ⌝ }
+    ensures { λ r. ⌜ r ≡ (leb used (length (now (s .entry))) && (all? (λ (b : ℕ). leb b maxByte) (take used (now (s .entry))) && all? isZero (drop used (now (s .entry))))) ⌝ }
 {
     if s.len() < used {
         return false;

@@ -7,11 +7,11 @@ use mir.Val.{WT}
 use denote.Enum.Laws.{val}
 use Rattle.definitions.specs.declared.table.Within.{Within}
 use Rattle.definitions.specs.declared.table.Within.the-variants as within
-use Rattle.definitions.specs.Limits.{wordMost}
+use Rattle.definitions.specs.Limits.{maxWord}
 use Rattle.definitions.specs.WellFormed.{withinFits}
 use Rattle.definitions.proofs.table.Within as within-type
 use Rattle.definitions.proofs.table.Within.Laws as within-laws
 
 pub reach-fits : (w : Within) → WT (val within-type.the-type within-laws.the-laws w) → withinFits w ≡ true
-reach-fits within.Free k = refl
-reach-fits (within.Of r) k = le-leb (r .number) wordMost (omega (arith, k .1 .0 .0))
+reach-fits within.Unset k = refl
+reach-fits (within.Given r) k = le-leb (r .number) maxWord (omega (arith, k .1 .0 .0))

@@ -3,14 +3,14 @@ ghost use mathlib.Core.Path.{_≡_};
 ghost use lib.Dec.{leb};
 ghost use lib.IntN.{natAbs};
 ghost use Rattle.forms.specs.Bytes.{between};
-ghost use Rattle.definitions.specs.Limits.{wordMost, addressesMost};
-ghost use Rattle.definitions.specs.Forms.{numberMost, fieldMost};
+ghost use Rattle.definitions.specs.Limits.{maxWord, maxAddresses};
+ghost use Rattle.definitions.specs.Forms.{maxNumber, maxField};
 ghost use Rattle.definitions.specs.WellFormed.{addressFits, addressUnused, distanceFits, itemFits};
 use definitions::limits::ADDRESSES;
-use definitions::limits::BYTE_MOST;
-use definitions::limits::OFFSET_MOST;
-use definitions::limits::PREFIX_MOST;
-use definitions::limits::WORD_MOST;
+use definitions::limits::MAX_BYTE;
+use definitions::limits::MAX_OFFSET;
+use definitions::limits::MAX_PREFIX;
+use definitions::limits::MAX_WORD;
 use definitions::table::Address;
 use definitions::table::Distance;
 use definitions::table::FieldTest;
@@ -22,7 +22,7 @@ use definitions::table::Pattern;
 
 // An address test has 1 to 8 addresses.
 pub fn count_fits(count: usize) -> bool
-    ensures { λ r. ⌜ r ≡ between 1 addressesMost count ⌝ }
+    ensures { λ r. ⌜ r ≡ between 1 maxAddresses count ⌝ }
 {
     if 1 <= count {
         count <= ADDRESSES
@@ -33,19 +33,19 @@ pub fn count_fits(count: usize) -> bool
 
 // The largest number of each option, and of each header field.
 pub fn number_most(field: NumberField) -> u64
-    ensures { λ r. ⌜ r ≡ numberMost field ⌝ }
+    ensures { λ r. ⌜ r ≡ maxNumber field ⌝ }
 {
     match field {
-        NumberField::IpId => WORD_MOST,
-        NumberField::SourcePort => WORD_MOST,
-        NumberField::DestinationPort => WORD_MOST,
-        NumberField::Tos => BYTE_MOST,
+        NumberField::IpId => MAX_WORD,
+        NumberField::SourcePort => MAX_WORD,
+        NumberField::DestinationPort => MAX_WORD,
+        NumberField::Tos => MAX_BYTE,
     }
 }
 
 // Whether a number test is within the limit of its field.
 pub fn number_fits(a: NumberTest) -> bool
-    ensures { λ r. ⌜ r ≡ leb (a .number) (numberMost (a .field)) ⌝ }
+    ensures { λ r. ⌜ r ≡ leb (a .number) (maxNumber (a .field)) ⌝ }
 {
     let field = a.field;
     let most = number_most(field);
@@ -54,13 +54,13 @@ pub fn number_fits(a: NumberTest) -> bool
 
 // The most that stands in a header field, which is its full mask.
 pub fn field_most(field: HeaderField) -> u64
-    ensures { λ r. ⌜ r ≡ fieldMost field ⌝ }
+    ensures { λ r. ⌜ r ≡ maxField field ⌝ }
 {
     match field {
-        HeaderField::TotalLength => WORD_MOST,
-        HeaderField::Id => WORD_MOST,
-        HeaderField::Checksum => WORD_MOST,
-        HeaderField::Ttl => BYTE_MOST,
+        HeaderField::TotalLength => MAX_WORD,
+        HeaderField::Id => MAX_WORD,
+        HeaderField::Checksum => MAX_WORD,
+        HeaderField::Ttl => MAX_BYTE,
     }
 }
 
@@ -77,14 +77,14 @@ pub fn field_fits(a: FieldTest) -> bool
     }
 }
 
-const OFFSET_LEAST: i32 = -OFFSET_MOST;
+const OFFSET_LEAST: i32 = -MAX_OFFSET;
 
 // A distance lies between -65535 and 65535.
 fn offset_fits(offset: i32) -> bool
-    ensures { λ r. ⌜ r ≡ leb (natAbs offset) wordMost ⌝ }
+    ensures { λ r. ⌜ r ≡ leb (natAbs offset) maxWord ⌝ }
 {
     if OFFSET_LEAST <= offset {
-        offset <= OFFSET_MOST
+        offset <= MAX_OFFSET
     } else {
         false
     }
@@ -94,8 +94,8 @@ fn distance_fits(distance: Distance) -> bool
     ensures { λ r. ⌜ r ≡ distanceFits distance ⌝ }
 {
     match distance {
-        Distance::Free => true,
-        Distance::By(d) => offset_fits(d.offset),
+        Distance::Unset => true,
+        Distance::Given(d) => offset_fits(d.offset),
     }
 }
 
@@ -114,7 +114,7 @@ pub fn pattern_fits(p: Pattern) -> bool
 pub fn address_fits(a: Address) -> bool
     ensures { λ r. ⌜ r ≡ addressFits a ⌝ }
 {
-    a.prefix <= PREFIX_MOST
+    a.prefix <= MAX_PREFIX
 }
 
 // An address that is not in use is zero.

@@ -8,7 +8,7 @@ use native.Mathlib.Nat.{add-zero, zero-add, le-refl}
 use lib.ListN.{length, getD, take, drop}
 use Rattle.forms.specs.Bytes.{if_then_else_}
 use Rattle.forms.proofs.Bools.{by-cases}
-use Rattle.definitions.specs.declared.packet.Last.the-variants.{Nothing}
+use Rattle.definitions.specs.declared.packet.LastMatch.the-variants.{None}
 use Rattle.definitions.specs.declared.table.Pattern.{Pattern}
 use Rattle.definitions.specs.declared.table.Slot.{Slot}
 use Rattle.definitions.specs.Items.{Kind, unused, addressed, patterned, plainTest, kindOf, patternFirst, patternsOf}
@@ -18,7 +18,7 @@ use Rattle.list_laws.proofs.Choices.{if-true, if-false}
 use Rattle.list_laws.proofs.Firsts.{first-here, first-out}
 use Rattle.table_references.specs.Counting.{onward, past, pastOpen, toCome}
 
-pub none-passed : (sls : List Slot) → toCome (record { count = 0; last = Nothing; ended = false }) sls ≡ usableRun Nothing (patternsOf sls)
+pub none-passed : (sls : List Slot) → toCome (record { count = 0; last = None; ended = false }) sls ≡ usableRun None (patternsOf sls)
 unfolding toCome
 none-passed sls = zero-add _
 

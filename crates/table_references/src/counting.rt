@@ -2,15 +2,15 @@
 ghost use mathlib.Core.Path.{_≡_};
 ghost use Prim.Native.Nat.{_<_, _≤_};
 ghost use lib.ListN.{take};
-ghost use Rattle.definitions.specs.declared.packet.Last.the-variants.{Nothing};
-ghost use Rattle.definitions.specs.Limits.{itemsMost};
+ghost use Rattle.definitions.specs.declared.packet.LastMatch.the-variants.{None};
+ghost use Rattle.definitions.specs.Limits.{maxItems};
 ghost use Rattle.definitions.specs.Items.{kindOf, patternsOf};
 ghost use Rattle.definitions.specs.References.{usableRun};
 ghost use Rattle.table_references.specs.Counting.{onward, past};
 use crate::usable::is_usable;
 use crate::usable::last_after;
 use definitions::limits::ITEMS;
-use definitions::packet::Last;
+use definitions::packet::LastMatch;
 use definitions::table::Item;
 use definitions::table::Pattern;
 use definitions::table::Slot;
@@ -18,12 +18,12 @@ use definitions::table::Slot;
 // So many patterns at the front are usable, with the last positive one among them; `ended` at the first that is not.
 pub struct Run {
     pub count: usize,
-    pub last: Last,
+    pub last: LastMatch,
     pub ended: bool,
 }
 
 fn past_pattern(run: Run, p: Pattern) -> Run
-    requires { ⌜ run .count < itemsMost ⌝ }
+    requires { ⌜ run .count < maxItems ⌝ }
     ensures { λ r. ⌜ r ≡ onward run p ⌝ }
 {
     let last = run.last;
@@ -44,7 +44,7 @@ fn past_pattern(run: Run, p: Pattern) -> Run
 
 // One item more.
 fn past_slot(run: Run, slot: Slot) -> Run
-    requires { ⌜ run .count < itemsMost ⌝ }
+    requires { ⌜ run .count < maxItems ⌝ }
     ensures { λ r. ⌜ r ≡ past (kindOf (slot .item)) run ⌝ }
 {
     if run.ended {
@@ -59,12 +59,12 @@ fn past_slot(run: Run, slot: Slot) -> Run
 
 // How many patterns among the items in use, from the first on, have usable references.
 pub fn usable_count(items: [Slot; ITEMS], count: usize) -> usize
-    requires { ⌜ count ≤ itemsMost ⌝ }
-    ensures { λ r. ⌜ r ≡ usableRun Nothing (patternsOf (take count items)) ⌝ }
+    requires { ⌜ count ≤ maxItems ⌝ }
+    ensures { λ r. ⌜ r ≡ usableRun None (patternsOf (take count items)) ⌝ }
 {
     let mut run = Run {
         count: 0,
-        last: Last::Nothing,
+        last: LastMatch::None,
         ended: false,
     };
     let mut i = 0;

@@ -4,13 +4,13 @@ ghost use lib.IntN.{pos};
 ghost use lib.Signed.{leZ};
 ghost use Rattle.definitions.specs.Starts.{startAt};
 ghost use Rattle.definitions.specs.References.{contextNumber, referenceNumber, lastAfter, lastIn, referenceUsable, reverseUsable, distanceUsable, withinUsable, referencesAlike, usable};
-use definitions::packet::Last;
+use definitions::packet::LastMatch;
 use definitions::packet::Match;
 use definitions::table::Context;
 use definitions::table::Distance;
+use definitions::table::DistanceValue;
 use definitions::table::Pattern;
 use definitions::table::Reference;
-use definitions::table::Shift;
 use definitions::table::Within;
 
 fn context_number(c: Context) -> u8
@@ -38,26 +38,26 @@ fn reference_number(r: Reference) -> u8
 }
 
 // The last positive pattern, behind `p`.
-pub fn last_after(last: Last, p: Pattern) -> Last
+pub fn last_after(last: LastMatch, p: Pattern) -> LastMatch
     ensures { λ r. ⌜ r ≡ lastAfter last p (startAt 0) ⌝ }
 {
     if p.negated {
         return last;
     }
     let context = p.context;
-    Last::Was(Match {
+    LastMatch::Some(Match {
         context,
         end: p.len,
     })
 }
 
 // The last positive pattern, if there is one, stands in the context.
-fn last_in(last: Last, c: Context) -> bool
+fn last_in(last: LastMatch, c: Context) -> bool
     ensures { λ r. ⌜ r ≡ lastIn last c ⌝ }
 {
     match last {
-        Last::Nothing => true,
-        Last::Was(m) => {
+        LastMatch::None => true,
+        LastMatch::Some(m) => {
             let context = m.context;
             let a = context_number(context);
             let b = context_number(c);
@@ -66,7 +66,7 @@ fn last_in(last: Last, c: Context) -> bool
     }
 }
 
-fn reference_usable(last: Last, c: Context, r: Reference) -> bool
+fn reference_usable(last: LastMatch, c: Context, r: Reference) -> bool
     ensures { λ t. ⌜ t ≡ referenceUsable last c r ⌝ }
 {
     match r {
@@ -82,7 +82,7 @@ fn not_negative(offset: i32) -> bool
     0 <= offset
 }
 
-fn reverse_usable(d: Shift) -> bool
+fn reverse_usable(d: DistanceValue) -> bool
     ensures { λ r. ⌜ r ≡ reverseUsable d ⌝ }
 {
     if !d.reverse {
@@ -95,12 +95,12 @@ fn reverse_usable(d: Shift) -> bool
     not_negative(d.offset)
 }
 
-fn distance_usable(last: Last, c: Context, distance: Distance) -> bool
+fn distance_usable(last: LastMatch, c: Context, distance: Distance) -> bool
     ensures { λ r. ⌜ r ≡ distanceUsable last c distance ⌝ }
 {
     match distance {
-        Distance::Free => true,
-        Distance::By(d) => {
+        Distance::Unset => true,
+        Distance::Given(d) => {
             let reference = d.reference;
             if reference_usable(last, c, reference) {
                 reverse_usable(d)
@@ -111,24 +111,24 @@ fn distance_usable(last: Last, c: Context, distance: Distance) -> bool
     }
 }
 
-fn within_usable(last: Last, c: Context, within: Within) -> bool
+fn within_usable(last: LastMatch, c: Context, within: Within) -> bool
     ensures { λ r. ⌜ r ≡ withinUsable last c within ⌝ }
 {
     match within {
-        Within::Free => true,
-        Within::Of(w) => {
+        Within::Unset => true,
+        Within::Given(w) => {
             let reference = w.reference;
             reference_usable(last, c, reference)
         }
     }
 }
 
-fn same_reference(d: Shift, within: Within) -> bool
-    ensures { λ r. ⌜ r ≡ referencesAlike (Distance.By d) within ⌝ }
+fn same_reference(d: DistanceValue, within: Within) -> bool
+    ensures { λ r. ⌜ r ≡ referencesAlike (Distance.Given d) within ⌝ }
 {
     match within {
-        Within::Free => true,
-        Within::Of(w) => {
+        Within::Unset => true,
+        Within::Given(w) => {
             let first = d.reference;
             let second = w.reference;
             let a = reference_number(first);
@@ -142,13 +142,13 @@ fn references_alike(distance: Distance, within: Within) -> bool
     ensures { λ r. ⌜ r ≡ referencesAlike distance within ⌝ }
 {
     match distance {
-        Distance::Free => true,
-        Distance::By(d) => same_reference(d, within),
+        Distance::Unset => true,
+        Distance::Given(d) => same_reference(d, within),
     }
 }
 
 // The references of `p` behind the last positive pattern.
-pub fn is_usable(last: Last, p: Pattern) -> bool
+pub fn is_usable(last: LastMatch, p: Pattern) -> bool
     ensures { λ r. ⌜ r ≡ usable last p ⌝ }
 {
     let c = p.context;

@@ -12,7 +12,7 @@ use Rattle.definitions.specs.declared.table.AddressTest.{AddressTest}
 use Rattle.definitions.specs.declared.table.Pattern.{Pattern}
 use Rattle.definitions.specs.declared.table.Item.{Item}
 use Rattle.definitions.specs.declared.table.Item.the-variants as item
-use Rattle.definitions.specs.Limits.{addressesMost}
+use Rattle.definitions.specs.Limits.{maxAddresses}
 use Rattle.definitions.specs.Items.{Kind, unused, addressed, patterned, plainTest, kindOf}
 use Rattle.definitions.specs.WellFormed.{addressCount, itemFits}
 use Rattle.definitions.proofs.table.Item as item-type
@@ -42,10 +42,10 @@ in-use P a q p (item.Size t) k = p
 in-use P a q p (item.At t) k = p
 in-use P a q p (item.Pattern t) k = q t
 
-pub few-addresses : (it : Item) → itemFits it ≡ true → addressCount (kindOf it) ≤ addressesMost
+pub few-addresses : (it : Item) → itemFits it ≡ true → addressCount (kindOf it) ≤ maxAddresses
 unfolding itemFits
 few-addresses item.Unused e = omega arith
-few-addresses (item.Address t) e = leb-true (t .count) addressesMost (both-right (leb 1 (t .count)) (leb (t .count) addressesMost) e)
+few-addresses (item.Address t) e = leb-true (t .count) maxAddresses (both-right (leb 1 (t .count)) (leb (t .count) maxAddresses) e)
 few-addresses item.SameIp e = omega arith
 few-addresses (item.Number t) e = omega arith
 few-addresses (item.Ttl t) e = omega arith

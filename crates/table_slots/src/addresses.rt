@@ -2,7 +2,7 @@
 ghost use mathlib.Core.Path.{_≡_};
 ghost use Prim.Native.Nat.{_≤_};
 ghost use lib.ListN.{take, drop};
-ghost use Rattle.definitions.specs.Limits.{addressesMost};
+ghost use Rattle.definitions.specs.Limits.{maxAddresses};
 ghost use Rattle.definitions.specs.Lists.{all?};
 ghost use Rattle.definitions.specs.WellFormed.{addressFits, addressUnused};
 use definitions::limits::ADDRESSES;
@@ -12,7 +12,7 @@ use table_limits::address_unused;
 
 // The first addresses of a slot are addresses.
 pub fn addresses_fit(list: [Address; ADDRESSES], n: usize) -> bool
-    requires { ⌜ n ≤ addressesMost ⌝ }
+    requires { ⌜ n ≤ maxAddresses ⌝ }
     ensures { λ r. ⌜ r ≡ all? addressFits (take n list) ⌝ }
 {
     let mut i = 0;

@@ -8,22 +8,22 @@ use lib.ListN.{length, take, drop}
 use lib.Dec.{eqb, leb}
 use borrow.Author.Tests.{leb-true}
 use Rattle.forms.proofs.Bools.{both-left}
-use Rattle.definitions.specs.declared.packet.Last.the-variants.{Nothing}
+use Rattle.definitions.specs.declared.packet.LastMatch.the-variants.{None}
 use Rattle.definitions.specs.declared.table.Table.{Table}
-use Rattle.definitions.specs.Limits.{byteMost, patternsMost, testsMost, itemsMost}
+use Rattle.definitions.specs.Limits.{maxByte, maxPatterns, maxTests, maxItems}
 use Rattle.definitions.specs.Lists.{all?}
 use Rattle.definitions.specs.Items.{patternsOf, slotsOf}
 use Rattle.definitions.specs.References.{usableRun}
 use Rattle.definitions.specs.WellFormed.{isZero, nameFits, slotFits, slotUnused, patternCount, itemsFit, bytesOf, bytesFit, wellFormed}
 use Rattle.table_well_formed.specs.Walking.{slotsFit, itemsWell}
 
-pub few-items : (t : Table) → itemsFit t ≡ true → t .count ≤ itemsMost
+pub few-items : (t : Table) → itemsFit t ≡ true → t .count ≤ maxItems
 unfolding itemsFit
-few-items t e = leb-true (t .count) itemsMost (both-left (leb (t .count) itemsMost) _ e)
+few-items t e = leb-true (t .count) maxItems (both-left (leb (t .count) maxItems) _ e)
 
 -- the room of the bytes
 abbrev roomFits : List ℕ → ℕ → Bool
-roomFits bytes used = leb used (length bytes) && (all? (λ (b : ℕ). leb b byteMost) (take used bytes) && all? isZero (drop used bytes))
+roomFits bytes used = leb used (length bytes) && (all? (λ (b : ℕ). leb b maxByte) (take used bytes) && all? isZero (drop used bytes))
 
 regroup : (c s u a b e g r : Bool)
     → ((c && (s && (u && (a && b)))) && ((e && r) && g)) ≡ ((c && ((s && (a && (b && (e && g)))) && u)) && r)
@@ -37,16 +37,16 @@ regroup true true true true true true g r = rw and-true (and-comm r g)
 
 pub parted : (t : Table)
     → wellFormed t
-    ≡ (nameFits (t .name) (t .len) && (leb (t .protocol) byteMost && (itemsWell (t .items) (t .count) (t .used) && roomFits (t .bytes) (t .used))))
+    ≡ (nameFits (t .name) (t .len) && (leb (t .protocol) maxByte && (itemsWell (t .items) (t .count) (t .used) && roomFits (t .bytes) (t .used))))
 unfolding wellFormed itemsFit bytesFit itemsWell slotsFit
 parted t =
-    ap (λ (x : Bool). nameFits (t .name) (t .len) && (leb (t .protocol) byteMost && x))
+    ap (λ (x : Bool). nameFits (t .name) (t .len) && (leb (t .protocol) maxByte && x))
     (regroup
-    (leb (t .count) itemsMost)
+    (leb (t .count) maxItems)
     (all? slotFits (slotsOf t))
     (all? slotUnused (drop (t .count) (t .items)))
-    (leb (patternCount t) patternsMost)
-    (leb (t .count - patternCount t) testsMost)
+    (leb (patternCount t) maxPatterns)
+    (leb (t .count - patternCount t) maxTests)
     (eqb (t .used) (bytesOf (patternsOf (slotsOf t))))
-    (eqb (usableRun Nothing (patternsOf (slotsOf t))) (patternCount t))
+    (eqb (usableRun None (patternsOf (slotsOf t))) (patternCount t))
     (roomFits (t .bytes) (t .used)))

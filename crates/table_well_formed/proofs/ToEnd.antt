@@ -10,10 +10,10 @@ use lib.ListN.{length, getD, take, drop}
 use lib.Dec.{eqb, leb, eqb·zero-suc, eqb·suc-suc}
 use borrow.Author.Tests.{leb-true, leb-false, eqb-true, eqb-false, eq-eqb, ne-eqb}
 use Rattle.forms.proofs.Bools.{by-cases, both-left, both-right}
-use Rattle.definitions.specs.declared.packet.Last.{Last}
+use Rattle.definitions.specs.declared.packet.LastMatch.{LastMatch}
 use Rattle.definitions.specs.declared.table.Pattern.{Pattern}
 use Rattle.definitions.specs.declared.table.Slot.{Slot}
-use Rattle.definitions.specs.Limits.{patternsMost, testsMost}
+use Rattle.definitions.specs.Limits.{maxPatterns, maxTests}
 use Rattle.definitions.specs.Lists.{all?}
 use Rattle.definitions.specs.Items.{Kind, unused, addressed, patterned, plainTest, kindOf, patternFirst, patternsOf}
 use Rattle.definitions.specs.Starts.{startAt}
@@ -34,7 +34,7 @@ sum-less left n m h =
     (λ f. rw f (ne-eqb left (n + m) (λ e. eqb-false (left - n) m f (omega (arith, e)))))
 
 -- one pattern more: the patterns from it on are usable where it is and those behind it are
-module _ (last : Last) (p : Pattern) (ps : List Pattern) where
+module _ (last : LastMatch) (p : Pattern) (ps : List Pattern) where
   run-on : usable last p ≡ true → eqb (usableRun last (p ∷ ps)) (length (p ∷ ps)) ≡ eqb (usableRun (lastAfter last p (startAt 0)) ps) (length ps)
   unfolding usableRun
   run-on t =
@@ -48,7 +48,7 @@ module _ (last : Last) (p : Pattern) (ps : List Pattern) where
 
 -- what the walk will end with, where the patterns ps are still to come
 counts : ℕ → ℕ → Bool → Bool → Bool
-counts count patterns spent run = leb patterns patternsMost && (leb (count - patterns) testsMost && (spent && run))
+counts count patterns spent run = leb patterns maxPatterns && (leb (count - patterns) maxTests && (spent && run))
 
 ending : ℕ → Walk → List Pattern → Bool
 ending count w ps = counts count (w .patterns + length ps) (eqb (w .left) (bytesOf ps)) (eqb (usableRun (w .last) ps) (length ps))

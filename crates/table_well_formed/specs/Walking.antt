@@ -5,10 +5,10 @@ use mathlib.Core.Bool.{Bool, true, _&&_}
 use mathlib.Core.List.{List}
 use lib.ListN.{length, take, drop}
 use lib.Dec.{eqb, leb}
-use Rattle.definitions.specs.declared.packet.Last.the-variants.{Nothing}
+use Rattle.definitions.specs.declared.packet.LastMatch.the-variants.{None}
 use Rattle.definitions.specs.declared.table.Pattern.{Pattern}
 use Rattle.definitions.specs.declared.table.Slot.{Slot}
-use Rattle.definitions.specs.Limits.{patternsMost, testsMost, itemsMost}
+use Rattle.definitions.specs.Limits.{maxPatterns, maxTests, maxItems}
 use Rattle.definitions.specs.Lists.{all?}
 use Rattle.definitions.specs.Items.{Kind, unused, addressed, patterned, plainTest, kindOf, patternsOf}
 use Rattle.definitions.specs.Starts.{startAt}
@@ -18,7 +18,7 @@ use Rattle.table_well_formed.specs.declared.walking.Walk.{Walk}
 
 -- no slot passed yet
 abbrev pub started : ℕ → Walk
-started used = record { patterns = 0; left = used; last = Nothing }
+started used = record { patterns = 0; left = used; last = None }
 
 -- a pattern may follow, and a slot may be passed
 abbrev pub mayFollow : Walk → Pattern → Bool
@@ -44,21 +44,21 @@ abbrev pub pastItem : Walk → Slot → Walk
 pastItem w sl = pastKind w (kindOf (sl .item))
 
 pub record Passable (w : Walk) (sl : Slot) : Type 0 where
-  pub few : w .patterns < itemsMost
+  pub few : w .patterns < maxItems
   pub passes : mayPass w sl ≡ true
 
 -- what the walk ends with, where so many items are in use
 abbrev pub endsWell : Walk → ℕ → Bool
-endsWell w count = leb (w .patterns) patternsMost && (leb (count - w .patterns) testsMost && eqb (w .left) 0)
+endsWell w count = leb (w .patterns) maxPatterns && (leb (count - w .patterns) maxTests && eqb (w .left) 0)
 
 -- THE TEST: the patterns, the slots in use, and all slots, where so many are in use, and so many bytes
 abbrev pub patternsFit : ℕ → ℕ → List Pattern → Bool
 patternsFit count used ps =
-    leb (length ps) patternsMost
-    && (leb (count - length ps) testsMost && (eqb used (bytesOf ps) && eqb (usableRun Nothing ps) (length ps)))
+    leb (length ps) maxPatterns
+    && (leb (count - length ps) maxTests && (eqb used (bytesOf ps) && eqb (usableRun None ps) (length ps)))
 
 unfoldable pub slotsFit : ℕ → ℕ → List Slot → Bool
 slotsFit count used sls = all? slotFits sls && patternsFit count used (patternsOf sls)
 
 unfoldable pub itemsWell : List Slot → ℕ → ℕ → Bool
-itemsWell items count used = leb count itemsMost && (slotsFit count used (take count items) && all? slotUnused (drop count items))
+itemsWell items count used = leb count maxItems && (slotsFit count used (take count items) && all? slotUnused (drop count items))

@@ -4,7 +4,7 @@ ghost use Prim.Native.Nat.{_≤_};
 ghost use Rattle.table_well_formed.specs.Walking.{started, mayFollow, mayPass, Passable, pastItem, endsWell};
 use definitions::limits::PATTERNS;
 use definitions::limits::TESTS;
-use definitions::packet::Last;
+use definitions::packet::LastMatch;
 use definitions::table::Item;
 use definitions::table::Pattern;
 use definitions::table::Slot;
@@ -16,7 +16,7 @@ use table_slots::slot_fits;
 pub struct Walk {
     pub patterns: usize,
     pub left: usize,
-    pub last: Last,
+    pub last: LastMatch,
 }
 
 // No slot passed yet.
@@ -26,7 +26,7 @@ pub fn begun(used: usize) -> Walk
     Walk {
         patterns: 0,
         left: used,
-        last: Last::Nothing,
+        last: LastMatch::None,
     }
 }
 

@@ -2,14 +2,14 @@
 ghost use mathlib.Core.List.{_++_};
 ghost use lib.ListN.{take};
 ghost use Rattle.forms.specs.Bytes.{text};
-ghost use Rattle.definitions.specs.Limits.{limits01};
-ghost use Rattle.definitions.specs.Lines.{refusedLine, houseLine, lineOf};
-ghost use Rattle.definitions.specs.Writing.{writingDue};
+ghost use Rattle.definitions.specs.Limits.{documentLimits};
+ghost use Rattle.definitions.specs.Lines.{refusedLine, canonicalLine, lineOf};
+ghost use Rattle.definitions.specs.Writing.{writingCheck};
 ghost use Rattle.write_bytes.specs.Puts.{Puts};
 use definitions::answers::ReadOutcome;
 use definitions::answers::Refusal;
 use definitions::answers::Writing;
-use definitions::limits::HOUSE_BYTES;
+use definitions::limits::CANONICAL_BYTES;
 use definitions::table::Table;
 use reader::read;
 use refusal_numbers::number_of;
@@ -29,28 +29,28 @@ fn put_refused(out: &mut [u8], at: usize, r: Refusal, place: usize) -> usize
 }
 
 // `ok`, tab, and the first `n` bytes of a house text's buffer.
-fn put_ok(out: &mut [u8], at: usize, house: [u8; HOUSE_BYTES], n: usize) -> usize
-    ensures { λ r. ⌜ Puts (now (out .entry)) at (text "ok\t" ++ take n house) (now (out .exit)) r ⌝ }
+fn put_ok(out: &mut [u8], at: usize, canonical: [u8; CANONICAL_BYTES], n: usize) -> usize
+    ensures { λ r. ⌜ Puts (now (out .entry)) at (text "ok\t" ++ take n canonical) (now (out .exit)) r ⌝ }
 {
     let a1 = put_word(out, at, b"ok\t");
-    put_front(out, a1, &house[..], n)
+    put_front(out, a1, &canonical[..], n)
 }
 
 // The house text, or the writer's refusal.
 fn put_table(out: &mut [u8], at: usize, t: Table) -> usize
-    ensures { λ n. ⌜ Puts (now (out .entry)) at (houseLine (writingDue limits01 t (limits01 .house)) t) (now (out .exit)) n ⌝ }
+    ensures { λ n. ⌜ Puts (now (out .entry)) at (canonicalLine (writingCheck documentLimits t (documentLimits .canonical)) t) (now (out .exit)) n ⌝ }
 {
-    let mut house = [0u8; HOUSE_BYTES];
-    let w = write(t, &mut house);
+    let mut canonical = [0u8; CANONICAL_BYTES];
+    let w = write(t, &mut canonical);
     match w {
-        Writing::Written(n) => put_ok(out, at, house, n),
+        Writing::Written(n) => put_ok(out, at, canonical, n),
         Writing::Refused(r) => put_refused(out, at, r, 0),
     }
 }
 
 // THE ANSWER to a text, without its number and the LF.
 pub fn answer_text(out: &mut [u8], at: usize, s: &[u8]) -> usize
-    ensures { λ n. ⌜ Puts (now (out .entry)) at (lineOf limits01 (now (s .entry))) (now (out .exit)) n ⌝ }
+    ensures { λ n. ⌜ Puts (now (out .entry)) at (lineOf documentLimits (now (s .entry))) (now (out .exit)) n ⌝ }
 {
     let reading = read(s);
     let outcome = reading.outcome;

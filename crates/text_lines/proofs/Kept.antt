@@ -4,10 +4,10 @@ use mathlib.Core.List.{List}
 use Prim.Native.Nat.{ℕ, _<_}
 use lib.ListN.{take}
 use Rattle.definitions.specs.declared.answers.Refusal.the-variants.{TextLength}
-use Rattle.definitions.specs.Limits.{limits01}
+use Rattle.definitions.specs.Limits.{documentLimits}
 use Rattle.definitions.specs.Lines.{refusedLine, lineOf}
 use Rattle.text_answers.proofs.Answers.{too-long}
 use Rattle.line_stream.proofs.Keeping.{kept-beyond}
 
-pub kept-line : (m : ℕ) (s : List ℕ) → limits01 .text < m → lineOf limits01 (take m s) ≡ lineOf limits01 s
-kept-line = kept-beyond (lineOf limits01) (limits01 .text) (refusedLine TextLength 0) too-long
+pub kept-line : (m : ℕ) (s : List ℕ) → documentLimits .text < m → lineOf documentLimits (take m s) ≡ lineOf documentLimits s
+kept-line = kept-beyond (lineOf documentLimits) (documentLimits .text) (refusedLine TextLength 0) too-long

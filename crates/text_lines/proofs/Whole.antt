@@ -4,13 +4,13 @@ use mathlib.Core.Path.{_≡_}
 use mathlib.Core.List.{List}
 use Prim.Native.Nat.{ℕ, _+_, _<_, _^_}
 use lib.ListN.{length}
-use Rattle.definitions.specs.Limits.{limits01}
+use Rattle.definitions.specs.Limits.{documentLimits}
 use Rattle.definitions.specs.Lines.{lineOf, programOutput}
 use Rattle.line_stream.specs.Runs.{Runs}
 use Rattle.line_stream.proofs.Running.{runs-output}
 use Rattle.text_lines.proofs.Kept.{kept-line}
 
-pub run-writes : {input line w : List ℕ} → limits01 .text < length line → length input + 1 < 2 ^ 64
-    → Runs (lineOf limits01) input line (record { number = 1; len = 0 }) w → w ≡ programOutput limits01 input
+pub run-writes : {input line w : List ℕ} → documentLimits .text < length line → length input + 1 < 2 ^ 64
+    → Runs (lineOf documentLimits) input line (record { number = 1; len = 0 }) w → w ≡ programOutput documentLimits input
 unfolding programOutput
-run-writes roomy few u = runs-output (lineOf limits01) (limits01 .text) kept-line roomy few u
+run-writes roomy few u = runs-output (lineOf documentLimits) (documentLimits .text) kept-line roomy few u

@@ -1,6 +1,6 @@
 // The line program's work on slices: texts one a line in, answers out, in parts of any length.
 ghost use lib.ListN.{take};
-ghost use Rattle.definitions.specs.Limits.{limits01};
+ghost use Rattle.definitions.specs.Limits.{documentLimits};
 ghost use Rattle.definitions.specs.Lines.{lineOf};
 ghost use Rattle.write_bytes.specs.Puts.{Puts};
 ghost use Rattle.line_stream.specs.Stream.{lastLine, Feeds};
@@ -15,7 +15,7 @@ use text_answers::answer_text;
 
 // Takes bytes of the input until all are taken, or an answer has no room in the output.
 pub fn feed(input: &[u8], line: &mut [u8], out: &mut [u8], begun: Begun) -> Fed
-    ensures { λ r. ⌜ Feeds (lineOf limits01) (now (input .entry)) (now (line .entry)) (now (out .entry)) (now (line .exit)) (now (out .exit)) begun r ⌝ }
+    ensures { λ r. ⌜ Feeds (lineOf documentLimits) (now (input .entry)) (now (line .entry)) (now (out .entry)) (now (line .exit)) (now (out .exit)) begun r ⌝ }
 {
     let mut t = first_line(input, line, out, begun);
     while t.waits {
@@ -28,7 +28,7 @@ pub fn feed(input: &[u8], line: &mut [u8], out: &mut [u8], begun: Begun) -> Fed
 
 // After the last byte: the answer to a line that lacks its LF. The answer is how many bytes it has, more than the buffer's if it has no room.
 pub fn finish(line: &[u8], out: &mut [u8], begun: Begun) -> usize
-    ensures { λ r. ⌜ Puts (now (out .entry)) 0 (lastLine (lineOf limits01) (begun .number) (take (begun .len) (now (line .entry)))) (now (out .exit)) r ⌝ }
+    ensures { λ r. ⌜ Puts (now (out .entry)) 0 (lastLine (lineOf documentLimits) (begun .number) (take (begun .len) (now (line .entry)))) (now (out .exit)) r ⌝ }
 {
     let t = last_line(line, out, begun);
     if t.waits {

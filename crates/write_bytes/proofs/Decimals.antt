@@ -6,7 +6,7 @@ use native.Mathlib.Omega.{arith}
 use lib.Dec.{ltb}
 use borrow.Author.Tests.{lt-ltb, le-ltb, ltb-false}
 use Rattle.forms.proofs.Bools.{by-cases}
-use Rattle.definitions.specs.House.{digitsOf, decimal}
+use Rattle.definitions.specs.Canonical.{digitsOf, decimal}
 
 -- more digits than enough are the same
 digits-enough : (k j n : ℕ) → n ≤ k → n ≤ j → digitsOf (suc k) n ≡ digitsOf (suc j) n

@@ -7,7 +7,7 @@ use lib.ListN.{length, set, getD, drop, length-set, drop-of-length-le}
 use lib.Seq.{drop-cons, set-out}
 use native.Mathlib.Omega.{arith}
 use borrow.Author.Tests.{lt-ltb}
-use Rattle.write_bytes.specs.Puts.{countedMost, counted, puts, Puts}
+use Rattle.write_bytes.specs.Puts.{maxCounted, counted, puts, Puts}
 
 -- ---- one byte
 
@@ -21,16 +21,16 @@ unfolding puts
 one-past {out = out} {at = at} {b = b} {next = next} h e =
     record { is = ap (λ (l : List ℕ). (l, next)) (sym (set-out out at b h)) ∙ ap (λ (n : ℕ). (set out at b, n)) e }
 
-pub counted-one : (at : ℕ) → at < countedMost → counted at ≡ suc at
+pub counted-one : (at : ℕ) → at < maxCounted → counted at ≡ suc at
 unfolding counted
-counted-one at h = rw (lt-ltb at countedMost h)
+counted-one at h = rw (lt-ltb at maxCounted h)
 
 -- a byte that has room and is counted
-pub one-kept : (out : List ℕ) (at b : ℕ) → at < countedMost → Puts out at (b ∷ []) (set out at b) (suc at)
+pub one-kept : (out : List ℕ) (at b : ℕ) → at < maxCounted → Puts out at (b ∷ []) (set out at b) (suc at)
 one-kept out at b h = one-put (sym (counted-one at h))
 
 -- bytes past the end are counted only
-pub all-past : (out : List ℕ) (at : ℕ) (l : List ℕ) → length out ≤ at → at + length l ≤ countedMost → Puts out at l out (at + length l)
+pub all-past : (out : List ℕ) (at : ℕ) (l : List ℕ) → length out ≤ at → at + length l ≤ maxCounted → Puts out at l out (at + length l)
 unfolding puts
 all-past out at [] h g = record { is = let e : at + 0 ≡ at = omega arith in ap (λ (n : ℕ). (out, n)) e }
 all-past out at (b ∷ l) h g =

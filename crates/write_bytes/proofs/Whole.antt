@@ -9,7 +9,7 @@ use lib.ListN.{length, set, take, drop, length-append}
 use lib.Seq.{sets, sets-eq, take-set-le, take-at, length-take-le}
 use borrow.Author.Tests.{le-leb, leb-true, leb-false, le-ltb, ltb-true, ltb-false}
 use Rattle.forms.proofs.Bools.{by-cases}
-use Rattle.write_bytes.specs.Puts.{countedMost, counted, puts, Puts}
+use Rattle.write_bytes.specs.Puts.{maxCounted, counted, puts, Puts}
 use Rattle.write_bytes.specs.Clipped.{atMost}
 use Rattle.write_bytes.proofs.Putting.{counted-one}
 
@@ -21,35 +21,35 @@ pub most-full : (n most : ℕ) → most ≤ n → atMost n most ≡ most
 unfolding atMost
 most-full n most h = by-cases (leb n most) (λ t. rw t (omega (arith, h, leb-true n most t))) (λ f. rw f)
 
-counted-full : (at : ℕ) → countedMost ≤ at → counted at ≡ at
+counted-full : (at : ℕ) → maxCounted ≤ at → counted at ≡ at
 unfolding counted
-counted-full at h = rw (le-ltb at countedMost h)
+counted-full at h = rw (le-ltb at maxCounted h)
 
 -- how many are counted
-pub puts-count : (out : List ℕ) (at : ℕ) (l : List ℕ) → at ≤ countedMost → puts out at l .1 ≡ atMost (at + length l) countedMost
+pub puts-count : (out : List ℕ) (at : ℕ) (l : List ℕ) → at ≤ maxCounted → puts out at l .1 ≡ atMost (at + length l) maxCounted
 unfolding puts
-puts-count out at [] h = let e : at + 0 ≡ at = omega arith in sym (ap (λ (n : ℕ). atMost n countedMost) e ∙ most-of at countedMost h)
+puts-count out at [] h = let e : at + 0 ≡ at = omega arith in sym (ap (λ (n : ℕ). atMost n maxCounted) e ∙ most-of at maxCounted h)
 puts-count out at (b ∷ l) h =
-    by-cases (ltb at countedMost)
+    by-cases (ltb at maxCounted)
     (λ t.
-    let g : at < countedMost = ltb-true at countedMost t in
+    let g : at < maxCounted = ltb-true at maxCounted t in
     let e : suc at + length l ≡ at + suc (length l) = omega arith in
-    ap (λ (k : ℕ). puts (set out at b) k l .1) (counted-one at g) ∙ puts-count (set out at b) (suc at) l g ∙ ap (λ (n : ℕ). atMost n countedMost) e)
+    ap (λ (k : ℕ). puts (set out at b) k l .1) (counted-one at g) ∙ puts-count (set out at b) (suc at) l g ∙ ap (λ (n : ℕ). atMost n maxCounted) e)
     (λ f.
-    let g : countedMost ≤ at = ltb-false at countedMost f in
+    let g : maxCounted ≤ at = ltb-false at maxCounted f in
     ap (λ (k : ℕ). puts (set out at b) k l .1) (counted-full at g)
     ∙ puts-count (set out at b) at l h
-    ∙ most-full (at + length l) countedMost (omega (arith, g))
-    ∙ sym (most-full (at + suc (length l)) countedMost (omega (arith, g))))
+    ∙ most-full (at + length l) maxCounted (omega (arith, g))
+    ∙ sym (most-full (at + suc (length l)) maxCounted (omega (arith, g))))
 
-puts-sets : (out : List ℕ) (at : ℕ) (l : List ℕ) → at + length l ≤ countedMost → puts out at l .0 ≡ sets out at l
+puts-sets : (out : List ℕ) (at : ℕ) (l : List ℕ) → at + length l ≤ maxCounted → puts out at l .0 ≡ sets out at l
 unfolding puts
 puts-sets out at [] h = refl
 puts-sets out at (b ∷ l) h =
     ap (λ (k : ℕ). puts (set out at b) k l .0) (counted-one at (omega (arith, h))) ∙ puts-sets (set out at b) (suc at) l (omega (arith, h))
 
 -- bytes that have room in the buffer stand there, and nothing else is touched
-pub puts-buffer : (out : List ℕ) (at : ℕ) (l : List ℕ) → at + length l ≤ length out → at + length l ≤ countedMost
+pub puts-buffer : (out : List ℕ) (at : ℕ) (l : List ℕ) → at + length l ≤ length out → at + length l ≤ maxCounted
     → puts out at l .0 ≡ (take at out ++ l) ++ drop (at + length l) out
 puts-buffer out at l h g = puts-sets out at l g ∙ sets-eq l out at h
 
@@ -57,7 +57,7 @@ puts-buffer out at l h g = puts-sets out at l g ∙ sets-eq l out at h
 
 later : (at : ℕ) → at ≤ counted at
 unfolding counted
-later at = by-cases (ltb at countedMost) (λ t. rw t (omega arith)) (λ f. rw f (le-refl at))
+later at = by-cases (ltb at maxCounted) (λ t. rw t (omega arith)) (λ f. rw f (le-refl at))
 
 front : (k : ℕ) (out : List ℕ) (at : ℕ) (l : List ℕ) → k ≤ at → take k (puts out at l .0) ≡ take k out
 unfolding puts
@@ -74,22 +74,22 @@ onward-at out at [] = le-refl at
 onward-at out at (b ∷ l) = le-trans (later at) (onward-at (set out at b) (counted at) l)
 
 -- what was counted and has room stands behind it
-pub placed-whole : (out : List ℕ) (at : ℕ) {l after : List ℕ} {n : ℕ} → Puts out at l after n → n < countedMost → n ≤ length out
+pub placed-whole : (out : List ℕ) (at : ℕ) {l after : List ℕ} {n : ℕ} → Puts out at l after n → n < maxCounted → n ≤ length out
     → take n after ≡ take at out ++ l
 placed-whole out at {l = l} {after = after} {n = n} p few room =
     let last : n ≡ puts out at l .1 = ap (λ (q : List ℕ × ℕ). q .1) (p .is) in
     let starts : at ≤ n = subst (λ (k : ℕ). at ≤ k) (sym last) (onward-at out at l) in
-    let counts : n ≡ atMost (at + length l) countedMost = last ∙ puts-count out at l (omega (arith, starts, few)) in
-    let fits : at + length l ≤ countedMost = within (at + length l) counts in
-    let is : n ≡ at + length l = counts ∙ most-of (at + length l) countedMost fits in
+    let counts : n ≡ atMost (at + length l) maxCounted = last ∙ puts-count out at l (omega (arith, starts, few)) in
+    let fits : at + length l ≤ maxCounted = within (at + length l) counts in
+    let is : n ≡ at + length l = counts ∙ most-of (at + length l) maxCounted fits in
     let before : length (take at out) ≡ at = length-take-le at out (omega (arith, starts, room)) in
     let long : length (take at out ++ l) ≡ n = length-append (take at out) l ∙ ap (λ (k : ℕ). k + length l) before ∙ sym is in
     ap (λ (q : List ℕ × ℕ). take n (q .0)) (p .is)
     ∙ ap (take n) (puts-buffer out at l (omega (arith, is, room)) fits)
     ∙ take-at (take at out ++ l) (drop (at + length l) out) n long
   where
-    within : (m : ℕ) → n ≡ atMost m countedMost → m ≤ countedMost
+    within : (m : ℕ) → n ≡ atMost m maxCounted → m ≤ maxCounted
     within m e =
-        by-cases (leb m countedMost)
-        (λ t. leb-true m countedMost t)
-        (λ f. absurd (let z : ⊥ = omega (arith, few, e ∙ most-full m countedMost (le-of-lt (leb-false m countedMost f))) in z))
+        by-cases (leb m maxCounted)
+        (λ t. leb-true m maxCounted t)
+        (λ f. absurd (let z : ⊥ = omega (arith, few, e ∙ most-full m maxCounted (le-of-lt (leb-false m maxCounted f))) in z))

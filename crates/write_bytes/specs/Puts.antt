@@ -7,12 +7,12 @@ use lib.ListN.{set}
 use Rattle.forms.specs.Bytes.{if_then_else_}
 
 -- so many bytes are counted; whoever writes takes that many for too many
-abbrev pub countedMost : ℕ
-countedMost = 4294967295
+abbrev pub maxCounted : ℕ
+maxCounted = 4294967295
 
 -- the place behind one byte more
 unfoldable pub counted : ℕ → ℕ
-counted at = if ltb at countedMost then suc at else at
+counted at = if ltb at maxCounted then suc at else at
 
 -- the buffer and the next place behind some bytes; past the buffer's end none is kept
 unfoldable pub puts : List ℕ → ℕ → List ℕ → List ℕ × ℕ

@@ -4,9 +4,9 @@ pub mod limits;
 ghost use mathlib.Core.List.{[], _∷_};
 ghost use Prim.Native.Nat.{_+_, _≤_};
 ghost use lib.ListN.{length, take};
-ghost use Rattle.definitions.specs.House.{decimal, textIf};
+ghost use Rattle.definitions.specs.Canonical.{decimal, textIf};
 ghost use mathlib.Core.Path.{_≡_};
-ghost use Rattle.write_bytes.specs.Puts.{countedMost, counted, Puts};
+ghost use Rattle.write_bytes.specs.Puts.{maxCounted, counted, Puts};
 use crate::limits::at_most;
 
 // So many bytes are counted: no sum wraps, whatever is put.
@@ -32,7 +32,7 @@ pub fn put(out: &mut [u8], at: usize, b: u8) -> usize
 
 // A word that has room: no place is looked at before it is written.
 fn put_whole(out: &mut [u8], at: usize, w: &[u8]) -> usize
-    requires { ⌜ (at + length (now w) ≤ length (now out)) × (at + length (now w) ≤ countedMost) ⌝ }
+    requires { ⌜ (at + length (now w) ≤ length (now out)) × (at + length (now w) ≤ maxCounted) ⌝ }
     ensures { λ r. ⌜ Puts (now (out .entry)) at (now (w .entry)) (now (out .exit)) r ⌝ }
 {
     let mut i = 0;

@@ -5,34 +5,34 @@ use Prim.Native.Nat.{ℕ}
 use lib.ListN.{take}
 use Rattle.forms.specs.Bytes.{text}
 use Rattle.definitions.specs.declared.table.Table.{Table}
-use Rattle.definitions.specs.Entries.{Name, Protocol}
+use Rattle.definitions.specs.OptionValues.{Name, Protocol}
 use Rattle.definitions.specs.Items.{slotsOf}
-use Rattle.definitions.specs.House.{flowEntry, slotEntries, houseEntries, entryText, entriesText, houseText}
-use Rattle.write_patterns.proofs.Entries.{entries-append}
+use Rattle.definitions.specs.Canonical.{flowOption, slotOptions, canonicalOptions, optionText, optionsText, canonicalText}
+use Rattle.write_patterns.proofs.Entries.{options-append}
 
 module _ (t : Table) where
   abbrev name : List ℕ
-  name = entryText (Name (take (t .len) (t .name)))
+  name = optionText (Name (take (t .len) (t .name)))
 
   abbrev protocol : List ℕ
-  protocol = entryText (Protocol (t .protocol))
+  protocol = optionText (Protocol (t .protocol))
 
   abbrev flow : List ℕ
-  flow = entriesText (flowEntry (t .flow))
+  flow = optionsText (flowOption (t .flow))
 
   abbrev items : List ℕ
-  items = entriesText (slotEntries (slotsOf t) (t .bytes))
+  items = optionsText (slotOptions (slotsOf t) (t .bytes))
 
   abbrev rest : List ℕ
-  rest = entriesText (flowEntry (t .flow) ++ slotEntries (slotsOf t) (t .bytes))
+  rest = optionsText (flowOption (t .flow) ++ slotOptions (slotsOf t) (t .bytes))
 
-  pub house-parts : houseText t ≡ text "F-SBID(" ++ (name ++ (protocol ++ (flow ++ (items ++ text " )"))))
-  unfolding houseText houseEntries entriesText
-  house-parts =
+  pub canonical-parts : canonicalText t ≡ text "F-SBID(" ++ (name ++ (protocol ++ (flow ++ (items ++ text " )"))))
+  unfolding canonicalText canonicalOptions optionsText
+  canonical-parts =
       ap (λ (x : List ℕ). text "F-SBID(" ++ x)
       (append-assoc name (protocol ++ rest) (text " )")
       ∙ ap (λ (x : List ℕ). name ++ x)
       (append-assoc protocol rest (text " )")
       ∙ ap (λ (x : List ℕ). protocol ++ x)
-      (ap (λ (x : List ℕ). x ++ text " )") (entries-append (flowEntry (t .flow)) (slotEntries (slotsOf t) (t .bytes)))
+      (ap (λ (x : List ℕ). x ++ text " )") (options-append (flowOption (t .flow)) (slotOptions (slotsOf t) (t .bytes)))
       ∙ append-assoc flow items (text " )"))))

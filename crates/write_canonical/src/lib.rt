@@ -1,5 +1,5 @@
 // House text of a table, put into a lent buffer: its entries between the opening and the end.
-ghost use Rattle.definitions.specs.House.{houseText};
+ghost use Rattle.definitions.specs.Canonical.{canonicalText};
 ghost use Rattle.write_bytes.specs.Puts.{Puts};
 use definitions::table::Table;
 use write_bytes::put_word;
@@ -10,8 +10,8 @@ use write_options::put_protocol;
 use write_options::put_table_items;
 
 // The house text at the front of the buffer; the answer is its length.
-pub fn put_house(out: &mut [u8], t: Table) -> usize
-    ensures { λ r. ⌜ Puts (now (out .entry)) 0 (houseText t) (now (out .exit)) r ⌝ }
+pub fn put_canonical(out: &mut [u8], t: Table) -> usize
+    ensures { λ r. ⌜ Puts (now (out .entry)) 0 (canonicalText t) (now (out .exit)) r ⌝ }
 {
     let name = t.name;
     let flow = t.flow;

@@ -4,17 +4,17 @@ use Rattle.definitions.specs.declared.table.Flow.{Flow}
 use Rattle.definitions.specs.declared.table.Flow.the-variants as flow
 use Rattle.definitions.specs.declared.table.Context.{Context}
 use Rattle.definitions.specs.declared.table.Context.the-variants as context
-use Rattle.definitions.specs.House.{flowEntry, contextEntry, modifierText, entryText, entriesText}
-use Rattle.write_keywords.specs.Keywords.{flowOption, contextOption}
+use Rattle.definitions.specs.Canonical.{flowOption, contextOption, modifierText, optionText, optionsText}
+use Rattle.write_keywords.specs.Keywords.{flowKeyword, contextKeyword}
 
-pub flow-option : (f : Flow) → entriesText (flowEntry f) ≡ flowOption f
-unfolding entriesText entryText
+pub flow-option : (f : Flow) → optionsText (flowOption f) ≡ flowKeyword f
+unfolding optionsText optionText
 flow-option flow.Any = refl
 flow-option flow.FromClient = refl
 flow-option flow.FromServer = refl
 
-pub context-option : (c : Context) → entriesText (contextEntry c) ≡ contextOption c
-unfolding entriesText entryText modifierText
+pub context-option : (c : Context) → optionsText (contextOption c) ≡ contextKeyword c
+unfolding optionsText optionText modifierText
 context-option context.Packet = refl
 context-option context.Uri = refl
 context-option context.Header = refl

@@ -7,8 +7,8 @@ use lib.ListN.{take, drop}
 use Rattle.forms.specs.Bytes.{text}
 use Rattle.definitions.specs.declared.table.Flow.{Flow}
 use Rattle.definitions.specs.declared.table.Context.{Context}
-use Rattle.definitions.specs.Entries.{Entry}
-use Rattle.definitions.specs.House.{flowEntry, contextEntry, textIf, flowText, contextText, valuedText}
+use Rattle.definitions.specs.OptionValues.{OptionValue}
+use Rattle.definitions.specs.Canonical.{flowOption, contextOption, textIf, flowText, contextText, valuedText}
 use Rattle.write_keywords.specs.declared.Keyword.{Keyword}
 
 abbrev pub keywords : List ℕ
@@ -31,12 +31,12 @@ spelled k = take (k .1 - k .0) (drop (k .0) keywords)
 abbrev pub Spells : Keyword → List ℕ → Type 0
 Spells k w = Listed k × (w ≡ spelled k)
 
-abbrev pub given : List Entry → Bool
+abbrev pub given : List OptionValue → Bool
 given [] = false
 given (e ∷ es) = true
 
-abbrev pub flowOption : Flow → List ℕ
-flowOption f = textIf (given (flowEntry f)) (valuedText (text "flow") (flowText f))
+abbrev pub flowKeyword : Flow → List ℕ
+flowKeyword f = textIf (given (flowOption f)) (valuedText (text "flow") (flowText f))
 
-abbrev pub contextOption : Context → List ℕ
-contextOption c = textIf (given (contextEntry c)) (valuedText (text "context") (contextText c))
+abbrev pub contextKeyword : Context → List ℕ
+contextKeyword c = textIf (given (contextOption c)) (valuedText (text "context") (contextText c))

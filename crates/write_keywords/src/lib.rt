@@ -1,6 +1,6 @@
 // Keywords, as house text has them; what it leaves out is empty. They stand in one table, and one function puts any of them.
-ghost use Rattle.definitions.specs.House.{sideName, numberName, orderText, fieldName, operatorText, sizeFieldText, referenceText};
-ghost use Rattle.write_keywords.specs.Keywords.{Listed, spelled, Spells, flowOption, contextOption};
+ghost use Rattle.definitions.specs.Canonical.{sideName, numberName, orderText, fieldName, operatorText, sizeFieldText, referenceText};
+ghost use Rattle.write_keywords.specs.Keywords.{Listed, spelled, Spells, flowKeyword, contextKeyword};
 ghost use Rattle.write_bytes.specs.Puts.{Puts};
 use definitions::table::Context;
 use definitions::table::Flow;
@@ -35,7 +35,7 @@ pub fn put_keyword(out: &mut [u8], at: usize, k: Keyword) -> usize
 
 // The option flow, empty where none is given.
 pub fn flow_keyword(f: Flow) -> Keyword
-    ensures { λ k. ⌜ Spells k (flowOption f) ⌝ }
+    ensures { λ k. ⌜ Spells k (flowKeyword f) ⌝ }
 {
     match f {
         Flow::Any => Keyword(0, 0),
@@ -128,7 +128,7 @@ pub fn reference_keyword(r: Reference) -> Keyword
 
 // The option context; packet is left out.
 pub fn context_keyword(c: Context) -> Keyword
-    ensures { λ k. ⌜ Spells k (contextOption c) ⌝ }
+    ensures { λ k. ⌜ Spells k (contextKeyword c) ⌝ }
 {
     match c {
         Context::Packet => Keyword(0, 0),

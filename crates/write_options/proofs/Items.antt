@@ -11,63 +11,63 @@ use Rattle.definitions.specs.declared.table.Item.{Item}
 use Rattle.definitions.specs.declared.table.Item.the-variants as item
 use Rattle.definitions.specs.declared.table.Pattern.{Pattern}
 use Rattle.definitions.specs.declared.table.Slot.{Slot}
-use Rattle.definitions.specs.Entries.{Test}
-use Rattle.definitions.specs.Items.{Kind, unused, addressed, patterned, plainTest, kindOf, behindItem}
-use Rattle.definitions.specs.House.{patternEntries, itemEntries, slotEntries, testText, entryText, entriesText}
+use Rattle.definitions.specs.OptionValues.{Test}
+use Rattle.definitions.specs.Items.{Kind, unused, addressed, patterned, plainTest, kindOf, afterItem}
+use Rattle.definitions.specs.Canonical.{patternOptions, itemOptions, slotOptions, testText, optionText, optionsText}
 use Rattle.write_bytes.specs.Clipped.{atMost}
 use Rattle.write_bytes.proofs.Clipping.{at-most-le, drop-most}
-use Rattle.write_patterns.proofs.Entries.{entries-append, entries-one}
-use Rattle.write_options.specs.Parts.{placeBehind}
+use Rattle.write_patterns.proofs.Entries.{options-append, options-one}
+use Rattle.write_options.specs.Parts.{placeAfter}
 
 module _ (sl : Slot) (b : List ℕ) where
   abbrev itemText : List ℕ
-  itemText = entriesText (itemEntries (kindOf (sl .item)) sl b)
+  itemText = optionsText (itemOptions (kindOf (sl .item)) sl b)
 
-  by-kind : (k : Kind) → kindOf (sl .item) ≡ k → itemText ≡ entriesText (itemEntries k sl b)
-  by-kind k e = ap (λ (k : Kind). entriesText (itemEntries k sl b)) e
+  by-kind : (k : Kind) → kindOf (sl .item) ≡ k → itemText ≡ optionsText (itemOptions k sl b)
+  by-kind k e = ap (λ (k : Kind). optionsText (itemOptions k sl b)) e
 
   pub unused-text : sl .item ≡ item.Unused → itemText ≡ []
-  unfolding entriesText
+  unfolding optionsText
   unused-text e = by-kind unused (ap kindOf e)
 
   pub address-text : (a : AddressTest) → sl .item ≡ item.Address a → itemText ≡ testText (item.Address a) (take (a .count) (sl .addresses))
-  unfolding entryText
+  unfolding optionText
   address-text a e =
       by-kind (addressed a) (ap kindOf e)
-      ∙ entries-one (Test (sl .item) (take (a .count) (sl .addresses)))
+      ∙ options-one (Test (sl .item) (take (a .count) (sl .addresses)))
       ∙ ap (λ (it : Item). testText it (take (a .count) (sl .addresses))) e
 
   pub plain-text : (it : Item) → kindOf it ≡ plainTest → sl .item ≡ it → itemText ≡ testText it []
-  unfolding entryText
-  plain-text it k e = by-kind plainTest (ap kindOf e ∙ k) ∙ entries-one (Test (sl .item) []) ∙ ap (λ (i : Item). testText i []) e
+  unfolding optionText
+  plain-text it k e = by-kind plainTest (ap kindOf e ∙ k) ∙ options-one (Test (sl .item) []) ∙ ap (λ (i : Item). testText i []) e
 
-  pub pattern-text : (p : Pattern) → sl .item ≡ item.Pattern p → itemText ≡ entriesText (patternEntries p b)
+  pub pattern-text : (p : Pattern) → sl .item ≡ item.Pattern p → itemText ≡ optionsText (patternOptions p b)
   pattern-text p e = by-kind (patterned p) (ap kindOf e)
 
 -- one item more of the n in use
 pub items-on : (l : List Slot) (n i : ℕ) (d : Slot) (b : List ℕ) → i < n → n ≤ length l
-    → entriesText (slotEntries (drop i (take n l)) b)
-    ≡ entriesText (itemEntries (kindOf (getD l i d .item)) (getD l i d) b)
-    ++ entriesText (slotEntries (drop (i + 1) (take n l)) (behindItem (kindOf (getD l i d .item)) b))
-unfolding slotEntries
+    → optionsText (slotOptions (drop i (take n l)) b)
+    ≡ optionsText (itemOptions (kindOf (getD l i d .item)) (getD l i d) b)
+    ++ optionsText (slotOptions (drop (i + 1) (take n l)) (afterItem (kindOf (getD l i d .item)) b))
+unfolding slotOptions
 items-on l n i d b h long =
     let k = kindOf (getD l i d .item) in
-    rw (first-here l n i d h long) (entries-append (itemEntries k (getD l i d) b) (slotEntries (drop (i + 1) (take n l)) (behindItem k b)))
+    rw (first-here l n i d h long) (options-append (itemOptions k (getD l i d) b) (slotOptions (drop (i + 1) (take n l)) (afterItem k b)))
 
-pub items-end : (l : List Slot) (n i : ℕ) (b : List ℕ) → n ≤ i → entriesText (slotEntries (drop i (take n l)) b) ≡ []
-unfolding slotEntries entriesText
+pub items-end : (l : List Slot) (n i : ℕ) (b : List ℕ) → n ≤ i → optionsText (slotOptions (drop i (take n l)) b) ≡ []
+unfolding slotOptions optionsText
 items-end l n i b h = rw (first-out l n i h)
 
 -- the pattern bytes behind an item
-pub behind-is : (k : Kind) (bytes : List ℕ) (from : ℕ) → from ≤ length bytes
-    → (behindItem k (drop from bytes) ≡ drop (placeBehind k from (length bytes)) bytes) × (placeBehind k from (length bytes) ≤ length bytes)
-behind-is unused bytes from h = (refl, h)
-behind-is (addressed a) bytes from h = (refl, h)
-behind-is (patterned p) bytes from h =
+pub after-is : (k : Kind) (bytes : List ℕ) (from : ℕ) → from ≤ length bytes
+    → (afterItem k (drop from bytes) ≡ drop (placeAfter k from (length bytes)) bytes) × (placeAfter k from (length bytes) ≤ length bytes)
+after-is unused bytes from h = (refl, h)
+after-is (addressed a) bytes from h = (refl, h)
+after-is (patterned p) bytes from h =
     let e : length (drop from bytes) ≡ length bytes - from = length-drop from bytes in (
       sym (drop-most (p .len) (drop from bytes))
           ∙ ap (λ (n : ℕ). drop (atMost (p .len) n) (drop from bytes)) e
           ∙ drop-drop (atMost (p .len) (length bytes - from)) from bytes,
       omega (arith, h, at-most-le (p .len) (length bytes - from)),
     )
-behind-is plainTest bytes from h = (refl, h)
+after-is plainTest bytes from h = (refl, h)

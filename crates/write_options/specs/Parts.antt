@@ -4,8 +4,8 @@ use Rattle.definitions.specs.Items.{Kind, unused, addressed, patterned, plainTe
 use Rattle.write_bytes.specs.Clipped.{atMost}
 
 -- the place of the pattern bytes behind those of an item, whose own stand at a place of so many bytes
-abbrev pub placeBehind : Kind → ℕ → ℕ → ℕ
-placeBehind unused from len = from
-placeBehind (addressed a) from len = from
-placeBehind (patterned p) from len = from + atMost (p .len) (len - from)
-placeBehind plainTest from len = from
+abbrev pub placeAfter : Kind → ℕ → ℕ → ℕ
+placeAfter unused from len = from
+placeAfter (addressed a) from len = from
+placeAfter (patterned p) from len = from + atMost (p .len) (len - from)
+placeAfter plainTest from len = from

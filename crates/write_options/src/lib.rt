@@ -2,10 +2,10 @@
 ghost use mathlib.Core.Path.{_≡_};
 ghost use Prim.Native.Nat.{_≤_};
 ghost use lib.ListN.{take};
-ghost use Rattle.definitions.specs.Entries.{Name, Protocol};
+ghost use Rattle.definitions.specs.OptionValues.{Name, Protocol};
 ghost use Rattle.definitions.specs.Items.{kindOf, slotsOf};
-ghost use Rattle.definitions.specs.House.{itemEntries, slotEntries, entryText, entriesText};
-ghost use Rattle.write_options.specs.Parts.{placeBehind};
+ghost use Rattle.definitions.specs.Canonical.{itemOptions, slotOptions, optionText, optionsText};
+ghost use Rattle.write_options.specs.Parts.{placeAfter};
 ghost use Rattle.write_bytes.specs.Puts.{Puts};
 use definitions::limits::ITEMS;
 use definitions::limits::NAME_BYTES;
@@ -27,7 +27,7 @@ use write_tests::put_ttl_test;
 
 // The option name: the first `len` bytes of the name, between quotes.
 pub fn put_name(out: &mut [u8], at: usize, name: [u8; NAME_BYTES], len: usize) -> usize
-    ensures { λ r. ⌜ Puts (now (out .entry)) at (entryText (Name (take len name))) (now (out .exit)) r ⌝ }
+    ensures { λ r. ⌜ Puts (now (out .entry)) at (optionText (Name (take len name))) (now (out .exit)) r ⌝ }
 {
     let a1 = put_word(out, at, b" --name \"");
     let a2 = put_front(out, a1, &name[..], len);
@@ -37,7 +37,7 @@ pub fn put_name(out: &mut [u8], at: usize, name: [u8; NAME_BYTES], len: usize) -
 
 // The option protocol, as a number.
 pub fn put_protocol(out: &mut [u8], at: usize, p: u8) -> usize
-    ensures { λ r. ⌜ Puts (now (out .entry)) at (entryText (Protocol p)) (now (out .exit)) r ⌝ }
+    ensures { λ r. ⌜ Puts (now (out .entry)) at (optionText (Protocol p)) (now (out .exit)) r ⌝ }
 {
     let a1 = put_word(out, at, b" --protocol ");
     let a2 = put_decimal(out, a1, p as u64);
@@ -46,7 +46,7 @@ pub fn put_protocol(out: &mut [u8], at: usize, p: u8) -> usize
 
 // An item's options; `b` are the pattern bytes from its own on.
 fn put_slot(out: &mut [u8], at: usize, slot: Slot, b: &[u8]) -> usize
-    ensures { λ r. ⌜ Puts (now (out .entry)) at (entriesText (itemEntries (kindOf (slot .item)) slot (now (b .entry)))) (now (out .exit)) r ⌝ }
+    ensures { λ r. ⌜ Puts (now (out .entry)) at (optionsText (itemOptions (kindOf (slot .item)) slot (now (b .entry)))) (now (out .exit)) r ⌝ }
 {
     let item = slot.item;
     let addresses = slot.addresses;
@@ -64,9 +64,9 @@ fn put_slot(out: &mut [u8], at: usize, slot: Slot, b: &[u8]) -> usize
 }
 
 // Where the next item's pattern bytes start.
-fn place_behind(slot: Slot, from: usize, len: usize) -> usize
+fn place_after(slot: Slot, from: usize, len: usize) -> usize
     requires { ⌜ from ≤ len ⌝ }
-    ensures { λ r. ⌜ r ≡ placeBehind (kindOf (slot .item)) from len ⌝ }
+    ensures { λ r. ⌜ r ≡ placeAfter (kindOf (slot .item)) from len ⌝ }
 {
     let item = slot.item;
     let Item::Pattern(p) = item else {
@@ -77,7 +77,7 @@ fn place_behind(slot: Slot, from: usize, len: usize) -> usize
 
 // The options of the first `count` items, whose pattern bytes stand one behind the other.
 fn put_items(out: &mut [u8], at: usize, items: [Slot; ITEMS], count: usize, bytes: &[u8]) -> usize
-    ensures { λ r. ⌜ Puts (now (out .entry)) at (entriesText (slotEntries (take count items) (now (bytes .entry)))) (now (out .exit)) r ⌝ }
+    ensures { λ r. ⌜ Puts (now (out .entry)) at (optionsText (slotOptions (take count items) (now (bytes .entry)))) (now (out .exit)) r ⌝ }
 {
     let n = at_most(count, ITEMS);
     let mut next = at;
@@ -86,7 +86,7 @@ fn put_items(out: &mut [u8], at: usize, items: [Slot; ITEMS], count: usize, byte
     while i < n {
         let slot = items[i];
         next = put_slot(out, next, slot, &bytes[from..]);
-        from = place_behind(slot, from, bytes.len());
+        from = place_after(slot, from, bytes.len());
         i += 1;
     }
     next
@@ -94,7 +94,7 @@ fn put_items(out: &mut [u8], at: usize, items: [Slot; ITEMS], count: usize, byte
 
 // The options of a table's items.
 pub fn put_table_items(out: &mut [u8], at: usize, t: Table) -> usize
-    ensures { λ r. ⌜ Puts (now (out .entry)) at (entriesText (slotEntries (slotsOf t) (t .bytes))) (now (out .exit)) r ⌝ }
+    ensures { λ r. ⌜ Puts (now (out .entry)) at (optionsText (slotOptions (slotsOf t) (t .bytes))) (now (out .exit)) r ⌝ }
 {
     let items = t.items;
     let bytes = t.bytes;

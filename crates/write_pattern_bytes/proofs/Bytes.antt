@@ -10,7 +10,7 @@ use Rattle.forms.specs.Bytes.{text}
 use Rattle.forms.specs.Form.{has}
 use Rattle.forms.proofs.Bools.{by-cases}
 use Rattle.definitions.specs.Forms.{plainBytes}
-use Rattle.definitions.specs.House.{textIf, hexDigit, patternText}
+use Rattle.definitions.specs.Canonical.{textIf, hexDigit, patternText}
 use Rattle.write_pattern_bytes.specs.Parts.{byteText}
 
 -- one byte more

@@ -3,7 +3,7 @@ use Prim.Native.Nat.{ℕ, _/_, _%_}
 use mathlib.Core.Bool.{Bool, not}
 use mathlib.Core.List.{List, [], _∷_, _++_}
 use Rattle.forms.specs.Bytes.{if_then_else_, text}
-use Rattle.definitions.specs.House.{textIf, hexDigit}
+use Rattle.definitions.specs.Canonical.{textIf, hexDigit}
 
 -- plain or not; `opened` tells whether a block is open before it
 unfoldable pub byteText : Bool → Bool → ℕ → List ℕ

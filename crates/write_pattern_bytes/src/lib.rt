@@ -2,7 +2,7 @@
 ghost use mathlib.Core.Path.{_≡_};
 ghost use mathlib.Core.Bool.{false};
 ghost use Prim.Native.Nat.{_<_};
-ghost use Rattle.definitions.specs.House.{hexDigit, patternText};
+ghost use Rattle.definitions.specs.Canonical.{hexDigit, patternText};
 ghost use Rattle.write_pattern_bytes.specs.Parts.{byteText};
 ghost use Rattle.write_bytes.specs.Puts.{Puts};
 use scan_bytes::bytes::is_plain;

@@ -6,33 +6,33 @@ use Prim.Native.Nat.{ℕ}
 use lib.ListN.{take}
 use Rattle.forms.specs.Bytes.{text}
 use Rattle.definitions.specs.declared.table.Pattern.{Pattern}
-use Rattle.definitions.specs.Entries as entry
-use Rattle.definitions.specs.Entries.{Entry}
-use Rattle.definitions.specs.House.{contextEntry, noCaseEntry, distanceEntry, withinEntry, patternEntries, textIf, modifierText, entryText, entriesText}
+use Rattle.definitions.specs.OptionValues as entry
+use Rattle.definitions.specs.OptionValues.{OptionValue}
+use Rattle.definitions.specs.Canonical.{contextOption, noCaseOption, distanceOption, withinOption, patternOptions, textIf, modifierText, optionText, optionsText}
 
-pub entries-append : (es fs : List Entry) → entriesText (es ++ fs) ≡ entriesText es ++ entriesText fs
-unfolding entriesText
-entries-append [] fs = refl
-entries-append (e ∷ es) fs = ap (λ (x : List ℕ). entryText e ++ x) (entries-append es fs) ∙ sym (append-assoc (entryText e) (entriesText es) (entriesText fs))
+pub options-append : (es fs : List OptionValue) → optionsText (es ++ fs) ≡ optionsText es ++ optionsText fs
+unfolding optionsText
+options-append [] fs = refl
+options-append (e ∷ es) fs = ap (λ (x : List ℕ). optionText e ++ x) (options-append es fs) ∙ sym (append-assoc (optionText e) (optionsText es) (optionsText fs))
 
-pub entries-one : (e : Entry) → entriesText (e ∷ []) ≡ entryText e
-unfolding entriesText
-entries-one e = append-nil (entryText e)
+pub options-one : (e : OptionValue) → optionsText (e ∷ []) ≡ optionText e
+unfolding optionsText
+options-one e = append-nil (optionText e)
 
-pub pattern-entries : (p : Pattern) (b : List ℕ) → entriesText (patternEntries p b)
-    ≡ entryText (entry.Pattern (p .negated) (take (p .len) b))
-    ++ (entriesText (contextEntry (p .context))
-    ++ (entriesText (noCaseEntry (p .nocase)) ++ (entriesText (distanceEntry (p .distance)) ++ entriesText (withinEntry (p .within)))))
-unfolding entriesText
-pattern-entries p b =
-    ap (λ (x : List ℕ). entryText (entry.Pattern (p .negated) (take (p .len) b)) ++ x)
-    (entries-append (contextEntry (p .context)) (noCaseEntry (p .nocase) ++ (distanceEntry (p .distance) ++ withinEntry (p .within)))
-    ∙ ap (λ (x : List ℕ). entriesText (contextEntry (p .context)) ++ x)
-    (entries-append (noCaseEntry (p .nocase)) (distanceEntry (p .distance) ++ withinEntry (p .within))
-    ∙ ap (λ (x : List ℕ). entriesText (noCaseEntry (p .nocase)) ++ x)
-    (entries-append (distanceEntry (p .distance)) (withinEntry (p .within)))))
+pub pattern-options : (p : Pattern) (b : List ℕ) → optionsText (patternOptions p b)
+    ≡ optionText (entry.Pattern (p .negated) (take (p .len) b))
+    ++ (optionsText (contextOption (p .context))
+    ++ (optionsText (noCaseOption (p .nocase)) ++ (optionsText (distanceOption (p .distance)) ++ optionsText (withinOption (p .within)))))
+unfolding optionsText
+pattern-options p b =
+    ap (λ (x : List ℕ). optionText (entry.Pattern (p .negated) (take (p .len) b)) ++ x)
+    (options-append (contextOption (p .context)) (noCaseOption (p .nocase) ++ (distanceOption (p .distance) ++ withinOption (p .within)))
+    ∙ ap (λ (x : List ℕ). optionsText (contextOption (p .context)) ++ x)
+    (options-append (noCaseOption (p .nocase)) (distanceOption (p .distance) ++ withinOption (p .within))
+    ∙ ap (λ (x : List ℕ). optionsText (noCaseOption (p .nocase)) ++ x)
+    (options-append (distanceOption (p .distance)) (withinOption (p .within)))))
 
-pub no-case-text : (nocase : Bool) → entriesText (noCaseEntry nocase) ≡ textIf nocase (text " --no_case;")
-unfolding entriesText entryText modifierText
+pub no-case-text : (nocase : Bool) → optionsText (noCaseOption nocase) ≡ textIf nocase (text " --no_case;")
+unfolding optionsText optionText modifierText
 no-case-text true = refl
 no-case-text false = refl

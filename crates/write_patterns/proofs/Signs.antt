@@ -12,7 +12,7 @@ use mir.Syntax.{w32, w64}
 use mir.Val.{Fits, SFits, toZ, ofZ}
 use mir.ValLaws.{toZ-ofZ}
 use Rattle.forms.specs.Bytes.{text}
-use Rattle.definitions.specs.House.{decimal, decimalℤ, textIf}
+use Rattle.definitions.specs.Canonical.{decimal, decimalℤ, textIf}
 
 abbrev Turns : ℤ → ℤ → Type 0
 Turns z t = SFits w64 t × T (nonNeg t) × (natAbs t ≡ natAbs z)
@@ -31,14 +31,14 @@ stays (pos n) t = tt
 stays (negsuc n) t = absurd (true≢false t)
 
 module _ (z : ℤ) (h : SFits w32 z) where
-  wide : SFits w64 z
-  wide = record { sfits = omega (arith, h .sfits) }
+  bigEndian : SFits w64 z
+  bigEndian = record { sfits = omega (arith, h .sfits) }
 
   pub cast-fits : SFits w64 (toZ w32 (ofZ w32 z))
-  cast-fits = rw (toZ-ofZ w32 z h) wide
+  cast-fits = rw (toZ-ofZ w32 z h) bigEndian
 
   pub widened : W z ≡ z
-  widened = rw (toZ-ofZ w32 z h) (toZ-ofZ w64 z wide)
+  widened = rw (toZ-ofZ w32 z h) (toZ-ofZ w64 z bigEndian)
 
   turned : ltZ (W z) (pos 0) ≡ true → Turns z (pos 0 -ℤ z)
   turned t = turns z (h .sfits) (subst (λ (x : ℤ). ltZ x (pos 0) ≡ true) widened t)

@@ -1,14 +1,14 @@
 // House text of a pattern and its modifiers.
 ghost use mathlib.Core.Path.{_≡_};
 ghost use lib.IntN.{natAbs};
-ghost use Rattle.definitions.specs.Entries as entry;
-ghost use Rattle.definitions.specs.House.{decimalℤ, distanceEntry, withinEntry, patternEntries, modifierText, entryText, entriesText};
+ghost use Rattle.definitions.specs.OptionValues as entry;
+ghost use Rattle.definitions.specs.Canonical.{decimalℤ, distanceOption, withinOption, patternOptions, modifierText, optionText, optionsText};
 ghost use Rattle.write_bytes.specs.Puts.{Puts};
 use definitions::table::Distance;
+use definitions::table::DistanceValue;
 use definitions::table::Pattern;
-use definitions::table::Reach;
-use definitions::table::Shift;
 use definitions::table::Within;
+use definitions::table::WithinValue;
 use write_bytes::limits::at_most;
 use write_bytes::put;
 use write_bytes::put_decimal;
@@ -23,11 +23,11 @@ use write_pattern_bytes::put_bytes;
 fn magnitude(z: i32) -> u64
     ensures { λ r. ⌜ r ≡ natAbs z ⌝ }
 {
-    let wide = z as i64;
-    if wide < 0 {
-        (-wide) as u64
+    let bigEndian = z as i64;
+    if bigEndian < 0 {
+        (-bigEndian) as u64
     } else {
-        wide as u64
+        bigEndian as u64
     }
 }
 
@@ -41,7 +41,7 @@ fn put_signed(out: &mut [u8], at: usize, z: i32) -> usize
 }
 
 // The option distance.
-fn put_shift(out: &mut [u8], at: usize, d: Shift) -> usize
+fn put_shift(out: &mut [u8], at: usize, d: DistanceValue) -> usize
     ensures { λ r. ⌜ Puts (now (out .entry)) at (modifierText (entry.Distance d)) (now (out .exit)) r ⌝ }
 {
     let reference = d.reference;
@@ -53,7 +53,7 @@ fn put_shift(out: &mut [u8], at: usize, d: Shift) -> usize
 }
 
 // The option within.
-fn put_reach(out: &mut [u8], at: usize, w: Reach) -> usize
+fn put_reach(out: &mut [u8], at: usize, w: WithinValue) -> usize
     ensures { λ r. ⌜ Puts (now (out .entry)) at (modifierText (entry.Within w)) (now (out .exit)) r ⌝ }
 {
     let reference = w.reference;
@@ -65,27 +65,27 @@ fn put_reach(out: &mut [u8], at: usize, w: Reach) -> usize
 
 // The option distance, if given.
 fn put_distance(out: &mut [u8], at: usize, d: Distance) -> usize
-    ensures { λ r. ⌜ Puts (now (out .entry)) at (entriesText (distanceEntry d)) (now (out .exit)) r ⌝ }
+    ensures { λ r. ⌜ Puts (now (out .entry)) at (optionsText (distanceOption d)) (now (out .exit)) r ⌝ }
 {
     match d {
-        Distance::Free => at,
-        Distance::By(shift) => put_shift(out, at, shift),
+        Distance::Unset => at,
+        Distance::Given(shift) => put_shift(out, at, shift),
     }
 }
 
 // The option within, if given.
 fn put_within(out: &mut [u8], at: usize, w: Within) -> usize
-    ensures { λ r. ⌜ Puts (now (out .entry)) at (entriesText (withinEntry w)) (now (out .exit)) r ⌝ }
+    ensures { λ r. ⌜ Puts (now (out .entry)) at (optionsText (withinOption w)) (now (out .exit)) r ⌝ }
 {
     match w {
-        Within::Free => at,
-        Within::Of(reach) => put_reach(out, at, reach),
+        Within::Unset => at,
+        Within::Given(reach) => put_reach(out, at, reach),
     }
 }
 
 // The option pattern, negated or not, its bytes between quotes.
 fn put_quoted(out: &mut [u8], at: usize, negated: bool, b: &[u8]) -> usize
-    ensures { λ r. ⌜ Puts (now (out .entry)) at (entryText (entry.Pattern negated (now (b .entry)))) (now (out .exit)) r ⌝ }
+    ensures { λ r. ⌜ Puts (now (out .entry)) at (optionText (entry.Pattern negated (now (b .entry)))) (now (out .exit)) r ⌝ }
 {
     let a1 = put_word(out, at, b" --pattern ");
     let a2 = put_if(out, a1, negated, b"!");
@@ -97,7 +97,7 @@ fn put_quoted(out: &mut [u8], at: usize, negated: bool, b: &[u8]) -> usize
 
 // A pattern, whose bytes stand at the front of `b`, and behind it context, no_case, distance and within.
 pub fn put_pattern(out: &mut [u8], at: usize, p: Pattern, b: &[u8]) -> usize
-    ensures { λ r. ⌜ Puts (now (out .entry)) at (entriesText (patternEntries p (now (b .entry)))) (now (out .exit)) r ⌝ }
+    ensures { λ r. ⌜ Puts (now (out .entry)) at (optionsText (patternOptions p (now (b .entry)))) (now (out .exit)) r ⌝ }
 {
     let context = p.context;
     let distance = p.distance;

@@ -12,7 +12,7 @@ use borrow.Author.Tests.{lt-ltb, le-ltb}
 use Rattle.forms.specs.Bytes.{text}
 use Rattle.list_laws.proofs.Firsts.{first-here, first-out}
 use Rattle.definitions.specs.declared.table.Address.{Address}
-use Rattle.definitions.specs.House.{textIf, addressText, addressesText, bracketed}
+use Rattle.definitions.specs.Canonical.{textIf, addressText, addressesText, bracketed}
 
 -- addresses from the one at place i of a list on: a comma before each but the first
 unfoldable pub listFrom : ℕ → List Address → List ℕ

@@ -1,8 +1,8 @@
 // Lists of addresses, in brackets only for two or more.
 ghost use Prim.Native.Nat.{_≤_};
 ghost use lib.ListN.{take};
-ghost use Rattle.definitions.specs.Limits.{addressesMost};
-ghost use Rattle.definitions.specs.House.{addressesText, bracketed};
+ghost use Rattle.definitions.specs.Limits.{maxAddresses};
+ghost use Rattle.definitions.specs.Canonical.{addressesText, bracketed};
 ghost use Rattle.write_bytes.specs.Puts.{Puts};
 use definitions::limits::ADDRESSES;
 use definitions::table::Address;
@@ -13,7 +13,7 @@ use write_values::put_address;
 
 // The first `n` addresses, a comma between two.
 fn put_list(out: &mut [u8], at: usize, list: [Address; ADDRESSES], n: usize) -> usize
-    requires { ⌜ n ≤ addressesMost ⌝ }
+    requires { ⌜ n ≤ maxAddresses ⌝ }
     ensures { λ r. ⌜ Puts (now (out .entry)) at (addressesText (take n list)) (now (out .exit)) r ⌝ }
 {
     let mut next = at;

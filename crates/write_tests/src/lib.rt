@@ -4,7 +4,7 @@ mod addresses;
 ghost use mathlib.Core.List.{[]};
 ghost use lib.ListN.{take};
 ghost use Rattle.definitions.specs.declared.table.Item.the-variants as item;
-ghost use Rattle.definitions.specs.House.{testText};
+ghost use Rattle.definitions.specs.Canonical.{testText};
 ghost use Rattle.write_bytes.specs.Puts.{Puts};
 use crate::addresses::put_bracketed;
 use definitions::limits::ADDRESSES;

@@ -5,9 +5,9 @@ use mathlib.Core.List.{List, _++_}
 use lib.Dec.{eqb}
 use Rattle.forms.specs.Bytes.{text}
 use Rattle.definitions.specs.declared.table.FieldTest.{FieldTest}
-use Rattle.definitions.specs.Forms.{fieldMost}
-use Rattle.definitions.specs.House.{decimal, textIf}
+use Rattle.definitions.specs.Forms.{maxField}
+use Rattle.definitions.specs.Canonical.{decimal, textIf}
 
 -- the mask of a field test; a full one is left out
 abbrev pub maskText : FieldTest → List ℕ
-maskText f = textIf (not (eqb (f .mask) (fieldMost (f .field)))) (text "& " ++ (decimal (f .mask) ++ text " "))
+maskText f = textIf (not (eqb (f .mask) (maxField (f .field)))) (text "& " ++ (decimal (f .mask) ++ text " "))

@@ -1,8 +1,8 @@
 // Values of tests as house text has them: an address and a mask. What it leaves out is empty.
-ghost use Rattle.definitions.specs.House.{octets, addressText};
+ghost use Rattle.definitions.specs.Canonical.{octets, addressText};
 ghost use Rattle.write_values.specs.Parts.{maskText};
 ghost use Rattle.write_bytes.specs.Puts.{Puts};
-use definitions::limits::PREFIX_MOST;
+use definitions::limits::MAX_PREFIX;
 use definitions::table::Address;
 use definitions::table::FieldTest;
 use table_limits::field_most;
@@ -28,7 +28,7 @@ pub fn put_address(out: &mut [u8], at: usize, a: Address) -> usize
     ensures { λ r. ⌜ Puts (now (out .entry)) at (addressText a) (now (out .exit)) r ⌝ }
 {
     let a1 = put_octets(out, at, a.number);
-    if a.prefix == PREFIX_MOST {
+    if a.prefix == MAX_PREFIX {
         return a1;
     }
     let a2 = put(out, a1, b'/');

@@ -19,7 +19,7 @@ use Rattle.definitions.specs.declared.answers.Writing.{Writing}
 use Rattle.definitions.specs.declared.answers.Writing.the-variants.{Written}
 use Rattle.definitions.specs.declared.table.Slot.{Slot}
 use Rattle.definitions.specs.declared.table.Table.{Table}
-use Rattle.definitions.specs.Limits.{addressesMost, limits01}
+use Rattle.definitions.specs.Limits.{maxAddresses, documentLimits}
 use Rattle.definitions.specs.Lists.{all?}
 use Rattle.definitions.specs.Reading.{acceptedReading, read}
 use Rattle.definitions.specs.WellFormed.{Shaped}
@@ -40,22 +40,22 @@ held-whole [] us h = all-none wholeSlot
 held-whole (sl ∷ sls) [] h = absurd h
 held-whole (sl ∷ sls) (u ∷ us) h =
     all-more wholeSlot sl sls
-    (eq-eqb (length (sl .addresses)) addressesMost (sym (length-map (sl .addresses) _) ∙ h .0 .1 .1 .1 .0 .1 .0 .1))
+    (eq-eqb (length (sl .addresses)) maxAddresses (sym (length-map (sl .addresses) _) ∙ h .0 .1 .1 .1 .0 .1 .0 .1))
     (held-whole sls us (h .1))
 
 -- a value of the type has the type's shape
-pub typed-shaped : (t : Table) (vs : List Val) → Is table-type.the-row t vs → Shaped (limits01 .room) t
+pub typed-shaped : (t : Table) (vs : List Val) → Is table-type.the-row t vs → Shaped (documentLimits .room) t
 typed-shaped t vs is =
     let fields = is .1 .1 in
     record {
       named = sym (length-map (t .name) _) ∙ fields .0 .1 .0 .1;
       roomy = sym (length-map (t .bytes) _) ∙ fields .1 .1 .1 .1 .0 .1 .0 .1;
       slotted = sym (length-map (t .items) _) ∙ fields .1 .1 .1 .1 .1 .1 .0 .1 .0 .1;
-      addressed = λ sl m. eqb-true (length (sl .addresses)) addressesMost (all-each wholeSlot m (held-whole (t .items) _ (fields .1 .1 .1 .1 .1 .1 .0 .1 .1)));
+      addressed = λ sl m. eqb-true (length (sl .addresses)) maxAddresses (all-each wholeSlot m (held-whole (t .items) _ (fields .1 .1 .1 .1 .1 .1 .0 .1 .1)));
     }
 
 -- `good` is what the check knows of the arguments of a call, `post` the contract of `write` at its answer r, and s what the arguments are at its exit
 module _ (κs : Lfts 1) (t : Table) (out : RefT (List ℕ)) (r : Writing) (s : AtExit (endedOf 1 write-kinds.ps write-kinds.r) κs)
     (good : GoodsP κs write-kinds.ps (t, (out, tt))) (post : write.Post κs (t, (out, tt)) r s) where
-  pub write-reads : (n : ℕ) → r ≡ Written n → read limits01 (take n (now (s .1 .0))) ≡ acceptedReading t
-  write-reads n e = rw (post .1) (written-reads limits01 t (now out) n (typed-shaped t _ (good .0)) (omega arith) (sym (post .0) ∙ e))
+  pub write-reads : (n : ℕ) → r ≡ Written n → read documentLimits (take n (now (s .1 .0))) ≡ acceptedReading t
+  write-reads n e = rw (post .1) (written-reads documentLimits t (now out) n (typed-shaped t _ (good .0)) (omega arith) (sym (post .0) ∙ e))

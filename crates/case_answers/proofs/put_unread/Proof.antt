@@ -2,7 +2,7 @@ use mathlib.Core.Path.{refl, sym, ap}
 use mathlib.Core.List.{_++_}
 use Prim.Native.Nat.{ℕ}
 use Rattle.forms.specs.Bytes.{text}
-use Rattle.definitions.specs.House.{decimal}
+use Rattle.definitions.specs.Canonical.{decimal}
 use Rattle.write_bytes.proofs.Putting.{then, told, same-length as same}
 use Rattle.case_answers.proofs.put_unread.Statement.{statement}
 use Rattle.case_answers.proofs.put_unread.Tie as tie

@@ -1,7 +1,7 @@
 -- The brackets, then the starts between them.
 use mathlib.Core.Path.{sym, _∙_}
 use borrow.Author.Tests.{not-true, not-false}
-use Rattle.case_columns.proofs.Asks.{not-enclosed, enclosed}
+use Rattle.case_columns.proofs.Queries.{not-enclosed, enclosed}
 use borrow.Author.Needs.{needs}
 use Rattle.case_columns.proofs.parse_next.Statement.{statement}
 use Rattle.case_columns.proofs.parse_next.Tie as tie
@@ -9,11 +9,11 @@ use Rattle.case_columns.proofs.parse_next.Tie as tie
 is-enclosed-requires : tie.Need-is-enclosed-requires
 is-enclosed-requires c κs = search needs
 
-plain-ask-requires : tie.Need-plain-ask-requires
-plain-ask-requires c κs = search needs
+plain-query-requires : tie.Need-plain-query-requires
+plain-query-requires c κs = search needs
 
 returns : tie.Need-returns
-returns c = not-enclosed _ (sym (c .before .before .is-enclosed .ensures) ∙ not-true _ (c .before .if1 .taken)) _ (c .plain-ask .ensures)
+returns c = not-enclosed _ (sym (c .before .before .is-enclosed .ensures) ∙ not-true _ (c .before .if1 .taken)) _ (c .plain-query .ensures)
 
 part-after-requires : tie.Need-part-after-requires
 part-after-requires c κs = search needs
@@ -35,7 +35,7 @@ parse-next-spec =
     tie.close
     (tie.spec
     is-enclosed-requires
-    plain-ask-requires
+    plain-query-requires
     returns
     part-after-requires
     part-before-requires

@@ -16,11 +16,11 @@ Inv-loop s starts₀ count₀ at₀ starts count at = (held : List Start) × Sta
 abbrev μ-loop : tie.MeasureT-loop
 μ-loop s starts₀ count₀ at₀ starts count at = length s + 1 - at
 
-plain-ask-requires : tie.Need-plain-ask-requires Inv-loop μ-loop
-plain-ask-requires c κs = tt
+plain-query-requires : tie.Need-plain-query-requires Inv-loop μ-loop
+plain-query-requires c κs = tt
 
 returns : tie.Need-returns Inv-loop μ-loop
-returns c = no-starts _ (c .before .if1 .taken) _ (c .plain-ask .ensures)
+returns c = no-starts _ (c .before .if1 .taken) _ (c .plain-query .ensures)
 
 loop-holds : tie.Need-loop-holds Inv-loop μ-loop
 loop-holds c = ([], starting _ (c .if1 .left))
@@ -46,23 +46,23 @@ enum-known-n c = search needs
 enum-told : tie.Need-enum-told Inv-loop μ-loop
 enum-told c = search needs
 
-plain-ask-requires-2 : tie.Need-plain-ask-requires-2 Inv-loop μ-loop
-plain-ask-requires-2 c κs = tt
+plain-query-requires-2 : tie.Need-plain-query-requires-2 Inv-loop μ-loop
+plain-query-requires-2 c κs = tt
 
 returns-2 : tie.Need-returns-2 Inv-loop μ-loop
 returns-2 c =
     let number = c .before .before .before in
     let test = number .before .before .before in
-    starting-halt _ _ _ _ _ (test .before .loop .inv .1) (test .loop-test .taken) _ (number .before .part-before .ensures) _ (number .parse-decimal .ensures) (c .before .enum-told .given .1) _ (c .plain-ask2 .ensures)
+    starting-halt _ _ _ _ _ (test .before .loop .inv .1) (test .loop-test .taken) _ (number .before .part-before .ensures) _ (number .parse-decimal .ensures) (c .before .enum-told .given .1) _ (c .plain-query2 .ensures)
 
-plain-ask-requires-3 : tie.Need-plain-ask-requires-3 Inv-loop μ-loop
-plain-ask-requires-3 c κs = tt
+plain-query-requires-3 : tie.Need-plain-query-requires-3 Inv-loop μ-loop
+plain-query-requires-3 c κs = tt
 
 returns-3 : tie.Need-returns-3 Inv-loop μ-loop
 returns-3 c =
     let number = c .before .before .before .before .before in
     let test = number .before .before .before in
-    starting-full _ _ _ _ _ (test .before .loop .inv .1) (test .loop-test .taken) _ (number .before .part-before .ensures) _ (number .parse-decimal .ensures) (c .before .if2 .taken) _ (c .plain-ask3 .ensures)
+    starting-full _ _ _ _ _ (test .before .loop .inv .1) (test .loop-test .taken) _ (number .before .part-before .ensures) _ (number .parse-decimal .ensures) (c .before .if2 .taken) _ (c .plain-query3 .ensures)
 
 start-of-requires : tie.Need-start-of-requires Inv-loop μ-loop
 start-of-requires c κs = tt
@@ -108,7 +108,7 @@ parse-starts-spec =
     (tie.spec
     Inv-loop
     μ-loop
-    plain-ask-requires
+    plain-query-requires
     returns
     loop-holds
     sub-part-before
@@ -118,9 +118,9 @@ parse-starts-spec =
     parse-decimal-requires
     enum-known-n
     enum-told
-    plain-ask-requires-2
+    plain-query-requires-2
     returns-2
-    plain-ask-requires-3
+    plain-query-requires-3
     returns-3
     start-of-requires
     mul-starts

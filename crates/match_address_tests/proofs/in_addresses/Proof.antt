@@ -4,17 +4,17 @@ use Prim.Native.Nat.{_-_, _≤_, _<_}
 use native.Mathlib.Omega.{arith}
 use lib.ListN.{length, take, drop}
 use borrow.Author.Needs.{needs}
-use Rattle.definitions.specs.Limits.{addressesMost}
+use Rattle.definitions.specs.Limits.{maxAddresses}
 use Rattle.definitions.specs.Tests.{inAddresses}
 use Rattle.match_address_tests.proofs.Among.{among-none, among-out, among-more, among-found}
 use Rattle.match_address_tests.proofs.in_addresses.Statement.{statement}
 use Rattle.match_address_tests.proofs.in_addresses.Tie as tie
 
 abbrev Inv-loop : tie.InvT-loop
-Inv-loop x count addresses i₀ i = (i ≤ addressesMost) × (inAddresses x (take count addresses) ≡ inAddresses x (drop i (take count addresses)))
+Inv-loop x count addresses i₀ i = (i ≤ maxAddresses) × (inAddresses x (take count addresses) ≡ inAddresses x (drop i (take count addresses)))
 
 abbrev μ-loop : tie.MeasureT-loop
-μ-loop x count addresses i₀ i = addressesMost - i
+μ-loop x count addresses i₀ i = maxAddresses - i
 
 loop-holds : tie.Need-loop-holds Inv-loop μ-loop
 loop-holds c = (omega arith, refl)

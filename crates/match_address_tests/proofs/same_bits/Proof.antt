@@ -3,8 +3,8 @@ use borrow.Author.Needs.{needs}
 use Rattle.match_address_tests.proofs.same_bits.Statement.{statement}
 use Rattle.match_address_tests.proofs.same_bits.Tie as tie
 
-bits-behind-requires : tie.Need-bits-behind-requires
-bits-behind-requires c κs = tt
+bits-after-requires : tie.Need-bits-after-requires
+bits-after-requires c κs = tt
 
 shr-result : tie.Need-shr-result
 shr-result c = search needs
@@ -13,7 +13,7 @@ shr-result-2 : tie.Need-shr-result-2
 shr-result-2 c = search needs
 
 returns : tie.Need-returns
-returns c = simp (c .bits-behind .ensures)
+returns c = simp (c .bits-after .ensures)
 
 pub same-bits-spec : {M : Type 1} → statement M
-same-bits-spec = tie.close (tie.spec bits-behind-requires shr-result shr-result-2 returns)
+same-bits-spec = tie.close (tie.spec bits-after-requires shr-result shr-result-2 returns)

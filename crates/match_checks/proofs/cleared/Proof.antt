@@ -11,12 +11,12 @@ well-formed-requires c κs = tt
 returns : tie.Need-returns
 returns c = rw (sym (c .before .well-formed .ensures) ∙ not-true _ (c .if1 .taken))
 
-packet-facts-requires : tie.Need-packet-facts-requires
-packet-facts-requires c κs = tt
+packet-header-requires : tie.Need-packet-header-requires
+packet-header-requires c κs = tt
 
 returns-2 : tie.Need-returns-2
 unfolding packetAnswer
-returns-2 c = rw (sym (c .before .before .well-formed .ensures) ∙ not-false _ (c .before .if1 .left)) (c .packet-facts .ensures)
+returns-2 c = rw (sym (c .before .before .well-formed .ensures) ∙ not-false _ (c .before .if1 .left)) (c .packet-header .ensures)
 
 pub cleared-spec : {M : Type 1} → statement M
-cleared-spec = tie.close (tie.spec well-formed-requires returns packet-facts-requires returns-2)
+cleared-spec = tie.close (tie.spec well-formed-requires returns packet-header-requires returns-2)

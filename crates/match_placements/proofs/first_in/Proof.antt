@@ -1,16 +1,16 @@
 -- Refusal 35 where the test of the fields says so; else the search has the first of the list.
 use lib.ListN.{replicate}
-use Rattle.definitions.specs.Limits.{patternsMost}
+use Rattle.definitions.specs.Limits.{maxPatterns}
 use Rattle.definitions.specs.Starts.{startAt}
 use Rattle.match_placements.proofs.Answering.{first-refused, first-found}
 use Rattle.match_placements.proofs.first_in.Statement.{statement}
 use Rattle.match_placements.proofs.first_in.Tie as tie
 
-fields-due-requires : tie.Need-fields-due-requires
-fields-due-requires c κs = tt
+fields-check-requires : tie.Need-fields-check-requires
+fields-check-requires c κs = tt
 
-enum-known-due : tie.Need-enum-known-due
-enum-known-due c = c .match .keys1
+enum-known-check : tie.Need-enum-known-check
+enum-known-check c = c .match .keys1
 
 refused-requires : tie.Need-refused-requires
 refused-requires c κs = tt
@@ -19,7 +19,7 @@ returns : tie.Need-returns
 returns c =
     let w = c .before .before .before .before in
     let x = w .before .before .before .args in
-    first-refused (x .t) (x .facts) (x .payload .now) (x .decoded .now) (x .dir) (x .m) (w .fields-due .ensures) (c .before .before .due .given .1)
+    first-refused (x .t) (x .header) (x .payload .now) (x .decoded .now) (x .dir) (x .m) (w .fields-check .ensures) (c .before .before .check .given .1)
     (c .refused .ensures)
 
 enum-told : tie.Need-enum-told
@@ -35,15 +35,15 @@ returns-2 : tie.Need-returns-2
 returns-2 c =
     let w = c .before .before .before .before in
     let x = w .before .before .before .args in
-    first-found (x .t) (x .facts) (x .payload .now) (x .decoded .now) (x .dir) (x .m) (w .fields-due .ensures) (c .before .before .enum-told .given .1)
-    (replicate patternsMost (startAt 0)) (c .before .find .ensures) (c .answered .ensures)
+    first-found (x .t) (x .header) (x .payload .now) (x .decoded .now) (x .dir) (x .m) (w .fields-check .ensures) (c .before .before .enum-told .given .1)
+    (replicate maxPatterns (startAt 0)) (c .before .find .ensures) (c .answered .ensures)
 
 pub first-in-spec : {M : Type 1} → statement M
 first-in-spec =
     tie.close
     (tie.spec
-    fields-due-requires
-    enum-known-due
+    fields-check-requires
+    enum-known-check
     refused-requires
     returns
     enum-told

@@ -6,11 +6,11 @@ use Rattle.match_placements.proofs.Answering.{next-refused, next-found,
 use Rattle.match_placements.proofs.next_in.Statement.{statement}
 use Rattle.match_placements.proofs.next_in.Tie as tie
 
-fields-due-requires : tie.Need-fields-due-requires
-fields-due-requires c κs = tt
+fields-check-requires : tie.Need-fields-check-requires
+fields-check-requires c κs = tt
 
-enum-known-due : tie.Need-enum-known-due
-enum-known-due c = c .match .keys1
+enum-known-check : tie.Need-enum-known-check
+enum-known-check c = c .match .keys1
 
 refused-requires : tie.Need-refused-requires
 refused-requires c κs = tt
@@ -19,7 +19,7 @@ returns : tie.Need-returns
 returns c =
     let w = c .before .before .before .before in
     let x = w .before .before .before .args in
-    next-refused (x .t) (x .facts) (x .payload .now) (x .decoded .now) (x .dir) (x .m) (w .fields-due .ensures) (c .before .before .due .given .1)
+    next-refused (x .t) (x .header) (x .payload .now) (x .decoded .now) (x .dir) (x .m) (w .fields-check .ensures) (c .before .before .check .given .1)
     (c .refused .ensures) (x .held)
 
 enum-told : tie.Need-enum-told
@@ -37,7 +37,7 @@ returns-2 c =
     let n = c .before .before .before in
     let w = n .before .before .before .before in
     let x = w .before .before .before .args in
-    next-uncounted (x .t) (x .facts) (x .payload .now) (x .decoded .now) (x .dir) (x .m) (w .fields-due .ensures) (n .before .before .enum-told .given .1)
+    next-uncounted (x .t) (x .header) (x .payload .now) (x .decoded .now) (x .dir) (x .m) (w .fields-check .ensures) (n .before .before .enum-told .given .1)
     (x .held) (n .positive-count .ensures (x .t .bytes)) (c .before .if1 .taken) (c .refused2 .ensures)
 
 find-requires : tie.Need-find-requires
@@ -52,15 +52,15 @@ returns-3 c =
     let n = c .before .before .before .before .before in
     let w = n .before .before .before .before in
     let x = w .before .before .before .args in
-    next-found (x .t) (x .facts) (x .payload .now) (x .decoded .now) (x .dir) (x .m) (w .fields-due .ensures) (n .before .before .enum-told .given .1)
+    next-found (x .t) (x .header) (x .payload .now) (x .decoded .now) (x .dir) (x .m) (w .fields-check .ensures) (n .before .before .enum-told .given .1)
     (x .held) (n .positive-count .ensures (x .t .bytes)) (c .before .before .before .if1 .left) (c .before .find .ensures) (c .answered .ensures)
 
 pub next-in-spec : {M : Type 1} → statement M
 next-in-spec =
     tie.close
     (tie.spec
-    fields-due-requires
-    enum-known-due
+    fields-check-requires
+    enum-known-check
     refused-requires
     returns
     enum-told

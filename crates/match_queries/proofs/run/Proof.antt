@@ -9,21 +9,21 @@ use Rattle.match_queries.proofs.run.Statement.{statement}
 use Rattle.match_queries.proofs.run.Tie as tie
 
 abbrev Inv-loop : tie.InvT-loop
-Inv-loop t p decoded dir m asks out₀ h₀ i₀ out h i =
-    (length out ≡ length out₀) × (i ≤ length asks) × (written t p decoded dir m h₀ asks out₀ ≡ pending t p decoded dir m asks out h i)
+Inv-loop t p decoded dir m queries out₀ h₀ i₀ out h i =
+    (length out ≡ length out₀) × (i ≤ length queries) × (written t p decoded dir m h₀ queries out₀ ≡ pending t p decoded dir m queries out h i)
 
 abbrev μ-loop : tie.MeasureT-loop
-μ-loop t p decoded dir m asks out₀ h₀ i₀ out h i = length asks - i
+μ-loop t p decoded dir m queries out₀ h₀ i₀ out h i = length queries - i
 
 returns : tie.Need-returns Inv-loop μ-loop
 returns c =
     let x = c .before .before .before .before .before .args in
-    no-room (x .t) (x .p .now) (x .decoded .now) (x .dir) (x .m) (x .held) (x .asks .now) (x .out .now) (omega arith)
+    no-room (x .t) (x .p .now) (x .decoded .now) (x .dir) (x .m) (x .held) (x .queries .now) (x .out .now) (omega arith)
 
 loop-holds : tie.Need-loop-holds Inv-loop μ-loop
 loop-holds c =
     let x = c .before .before .before .before .before .args in
-    (refl, omega arith, run-start (x .t) (x .p .now) (x .decoded .now) (x .dir) (x .m) (x .held) (x .asks .now) (x .out .now) (omega arith))
+    (refl, omega arith, run-start (x .t) (x .p .now) (x .decoded .now) (x .dir) (x .m) (x .held) (x .queries .now) (x .out .now) (omega arith))
 
 shared-slice-read-answer-to : tie.Need-shared-slice-read-answer-to Inv-loop μ-loop
 shared-slice-read-answer-to c = omega arith
@@ -51,7 +51,7 @@ loop-again c =
     let r = c .before .before .before .before .before .answer-to in (
       put .kept .0 ∙ l .inv .0,
       omega arith,
-      l .inv .2 ∙ run-step (x .t) (x .p .now) (x .decoded .now) (x .dir) (x .m) (x .asks .now) (l .out) (put .last .0) (l .h) (l .i) (r .result) (c .before .before .before .before .before .before .before .loop-test .taken) (omega arith) (r .ensures) (put .ensures) (put .kept .0),
+      l .inv .2 ∙ run-step (x .t) (x .p .now) (x .decoded .now) (x .dir) (x .m) (x .queries .now) (l .out) (put .last .0) (l .h) (l .i) (r .result) (c .before .before .before .before .before .before .before .loop-test .taken) (omega arith) (r .ensures) (put .ensures) (put .kept .0),
     )
 
 same-length : tie.Need-same-length Inv-loop μ-loop
@@ -61,7 +61,7 @@ returns-2 : tie.Need-returns-2 Inv-loop μ-loop
 returns-2 c =
     let x = c .before .before .before .before .before .before .before .args in
     let l = c .before .loop in
-    run-done (x .t) (x .p .now) (x .decoded .now) (x .dir) (x .m) (x .held) (x .asks .now) (x .out .now) (l .out) (l .h) (l .i) (omega arith) (omega arith) (l .inv .2)
+    run-done (x .t) (x .p .now) (x .decoded .now) (x .dir) (x .m) (x .held) (x .queries .now) (x .out .now) (l .out) (l .h) (l .i) (omega arith) (omega arith) (l .inv .2)
 
 pub run-spec : {M : Type 1} → statement M
 run-spec =

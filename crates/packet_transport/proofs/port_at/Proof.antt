@@ -1,7 +1,7 @@
 -- Each return rewrites with the test of the protocol; behind the header is so many bytes later in the datagram.
 use native.Mathlib.Omega.{arith}
 use Rattle.definitions.specs.Packet.{headerLength}
-use Rattle.packet_header.proofs.Widths.{wide-drop}
+use Rattle.packet_header.proofs.Widths.{be-drop}
 use mathlib.Core.Path.{sym, _∙_}
 use borrow.Author.Needs.{needs}
 use Rattle.packet_transport.proofs.port_at.Statement.{statement}
@@ -16,17 +16,17 @@ has-ports-requires c κs = tt
 header-length-requires : tie.Need-header-length-requires
 header-length-requires c κs = tt
 
-add-wide16 : tie.Need-add-wide16
-add-wide16 c = search needs
+add-be16 : tie.Need-add-be16
+add-be16 c = search needs
 
-wide16-requires : tie.Need-wide16-requires
-wide16-requires c κs = omega arith
+be16-requires : tie.Need-be16-requires
+be16-requires c κs = omega arith
 
 returns : tie.Need-returns
 returns c =
     let a = c .before .before .before .before .before .before .args in
     let ports = rw (c .before .before .before .before .protocol-of .ensures) at (sym (c .before .before .before .has-ports .ensures) ∙ c .before .before .if1 .taken) in
-    rw (ports, c .wide16 .ensures, c .before .header-length .ensures .0, wide-drop 2 (headerLength (a .d .now)) (a .d .now) (a .at))
+    rw (ports, c .be16 .ensures, c .before .header-length .ensures .0, be-drop 2 (headerLength (a .d .now)) (a .d .now) (a .at))
 
 returns-2 : tie.Need-returns-2
 returns-2 c = rw (rw (c .before .before .protocol-of .ensures) at (sym (c .before .has-ports .ensures) ∙ c .if1 .left))
@@ -38,7 +38,7 @@ port-at-spec =
     protocol-of-requires
     has-ports-requires
     header-length-requires
-    add-wide16
-    wide16-requires
+    add-be16
+    be16-requires
     returns
     returns-2)

@@ -3,8 +3,8 @@ use borrow.Author.Needs.{needs}
 use Rattle.packet_transport.proofs.tcp_short.Statement.{statement}
 use Rattle.packet_transport.proofs.tcp_short.Tie as tie
 
-left-behind-requires : tie.Need-left-behind-requires
-left-behind-requires c κs = tt
+left-after-requires : tie.Need-left-after-requires
+left-after-requires c κs = tt
 
 tcp-words-requires : tie.Need-tcp-words-requires
 tcp-words-requires c κs = tt
@@ -16,8 +16,8 @@ mul-length : tie.Need-mul-length
 mul-length c = search needs
 
 returns : tie.Need-returns
-returns c = rw (c .before .left-behind .ensures, c .tcp-words .ensures .0)
+returns c = rw (c .before .left-after .ensures, c .tcp-words .ensures .0)
 
 pub tcp-short-spec : {M : Type 1} → statement M
 tcp-short-spec =
-    tie.close (tie.spec left-behind-requires tcp-words-requires cast-length mul-length returns)
+    tie.close (tie.spec left-after-requires tcp-words-requires cast-length mul-length returns)

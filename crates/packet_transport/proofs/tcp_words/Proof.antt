@@ -1,6 +1,6 @@
 -- Behind the header is so many bytes later in the datagram.
 use Rattle.definitions.specs.Packet.{headerLength}
-use Rattle.packet_header.proofs.Widths.{wide-drop}
+use Rattle.packet_header.proofs.Widths.{be-drop}
 use native.Mathlib.Omega.{arith}
 use borrow.Author.Needs.{needs}
 use Rattle.packet_transport.proofs.tcp_words.Statement.{statement}
@@ -9,16 +9,16 @@ use Rattle.packet_transport.proofs.tcp_words.Tie as tie
 header-length-requires : tie.Need-header-length-requires
 header-length-requires c κs = tt
 
-add-wide8 : tie.Need-add-wide8
-add-wide8 c = search needs
+add-be8 : tie.Need-add-be8
+add-be8 c = search needs
 
-wide8-requires : tie.Need-wide8-requires
-wide8-requires c κs = omega arith
+be8-requires : tie.Need-be8-requires
+be8-requires c κs = omega arith
 
 returns : tie.Need-returns
 returns c =
     let d = c .before .before .before .args .d .now in
-    (rw (c .wide8 .ensures, c .before .header-length .ensures .0, wide-drop 1 (headerLength d) d 12), omega (arith, c .wide8 .ok))
+    (rw (c .be8 .ensures, c .before .header-length .ensures .0, be-drop 1 (headerLength d) d 12), omega (arith, c .be8 .ok))
 
 pub tcp-words-spec : {M : Type 1} → statement M
-tcp-words-spec = tie.close (tie.spec header-length-requires add-wide8 wide8-requires returns)
+tcp-words-spec = tie.close (tie.spec header-length-requires add-be8 be8-requires returns)

@@ -14,15 +14,15 @@ tcp-short-requires c κs = tt
 returns : tie.Need-returns
 returns c = rw (eq-eqb _ 6 (sym (c .before .before .protocol-of .ensures) ∙ c .before .if1 .taken)) (c .tcp-short .ensures)
 
-left-behind-requires : tie.Need-left-behind-requires
-left-behind-requires c κs = tt
+left-after-requires : tie.Need-left-after-requires
+left-after-requires c κs = tt
 
 returns-2 : tie.Need-returns-2
 returns-2 c =
     let same = c .before .before .protocol-of .ensures in
-    rw (ne-eqb (protocolOf (c .before .before .before .before .args .d .now)) 6 (λ e. c .before .if1 .left (same ∙ e)), same, c .left-behind .ensures)
+    rw (ne-eqb (protocolOf (c .before .before .before .before .args .d .now)) 6 (λ e. c .before .if1 .left (same ∙ e)), same, c .left-after .ensures)
 
 pub transport-short-spec : {M : Type 1} → statement M
 transport-short-spec =
     tie.close
-    (tie.spec protocol-of-requires tcp-short-requires returns left-behind-requires returns-2)
+    (tie.spec protocol-of-requires tcp-short-requires returns left-after-requires returns-2)

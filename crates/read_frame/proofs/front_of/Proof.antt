@@ -6,7 +6,7 @@ use borrow.Author.Tests.{not-true, not-false}
 use lib.ListN.{length}
 use Rattle.forms.specs.Bytes.{run}
 use Rattle.definitions.specs.declared.answers.Refusal.the-variants.{TextByte}
-use Rattle.definitions.specs.Limits.{limits01}
+use Rattle.definitions.specs.Limits.{documentLimits}
 use Rattle.definitions.specs.Options.{printable}
 use Rattle.definitions.specs.Reading.{refusedReading}
 use Rattle.read_frame.proofs.Opening.{read-empty, read-long, read-byte, read-unopened, read-opened, opened-long}
@@ -29,7 +29,7 @@ returns-3 c =
     let e = c .before .printable-run .ensures in
     let h = c .if3 .taken in
     read-byte s (bounded .before .if1 .left) (bounded .if2 .left) (omega (arith, e, h))
-    ∙ ap (λ (n : ℕ). refusedReading (limits01 .room) TextByte n) (sym e)
+    ∙ ap (λ (n : ℕ). refusedReading (documentLimits .room) TextByte n) (sym e)
 
 is-opened-requires : tie.Need-is-opened-requires
 is-opened-requires c κs = tt

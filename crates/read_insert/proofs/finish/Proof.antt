@@ -1,7 +1,7 @@
--- What the code judges of the state is the judgement of any options that make it (`judged-right`).
+-- What the code judges of the state is the judgement of any options that make it (`checked-right`).
 use mathlib.Core.Path.{_∙_}
 use Rattle.read_insert.proofs.OneMore.{sound}
-use Rattle.read_insert.proofs.Right.{judged-right}
+use Rattle.read_insert.proofs.Right.{checked-right}
 use Rattle.read_insert.proofs.finish.Statement.{statement}
 use Rattle.read_insert.proofs.finish.Tie as tie
 
@@ -11,7 +11,7 @@ judge-requires c κs = let h = c .before .pre .holds in (sound h, h .named .shor
 returns : tie.Need-returns
 returns c =
     let x = c .before .before .args in
-    λ said h. c .judge .ensures ∙ judged-right (x .s .now) (x .st) (x .bytes) (x .items) said h
+    λ located h. c .judge .ensures ∙ checked-right (x .s .now) (x .st) (x .bytes) (x .items) located h
 
 pub finish-spec : {M : Type 1} → statement M
 finish-spec = tie.close (tie.spec judge-requires returns)

@@ -3,7 +3,7 @@ use mathlib.Core.Path.{refl}
 use Rattle.read_state.specs.State.{stateFrom, lastPlace}
 use Rattle.definitions.specs.Lists.{any?, keep}
 use Rattle.definitions.specs.Tables.{nameIn, protocolIn, flowIn, bytesIn, slotsIn}
-use Rattle.definitions.specs.Standing.{latest}
+use Rattle.definitions.specs.Occurrences.{latest}
 use Rattle.read_state.proofs.fresh.Statement.{statement}
 use Rattle.read_state.proofs.fresh.Tie as tie
 

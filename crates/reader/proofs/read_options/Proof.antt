@@ -8,19 +8,19 @@ use borrow.Author.Needs.{needs}
 use lib.ListN.{length, drop, replicate, set}
 use lib.Seq.{set-out}
 use Rattle.definitions.specs.declared.table.Slot.{Slot}
-use Rattle.definitions.specs.Limits.{limits01, itemsMost}
-use Rattle.definitions.specs.Reading.{Said, options, finished}
+use Rattle.definitions.specs.Limits.{documentLimits, maxItems}
+use Rattle.definitions.specs.Reading.{Located, options, finished}
 use Rattle.read_state.specs.State.{Holds}
 use Rattle.read_insert.proofs.OneMore.{sound, bytes-full, items-full}
-use Rattle.reader.proofs.Steps.{fresh-holds}
+use Rattle.reader.proofs.OptionSteps.{fresh-holds}
 use Rattle.reader.proofs.Looping.{goes-space, goes-told, loop-out}
 use Rattle.reader.proofs.read_options.Statement.{statement}
 use Rattle.reader.proofs.read_options.Tie as tie
 
 abbrev Inv-loop : tie.InvT-loop
 Inv-loop s bytes₀ items₀ st₀ at₀ bytes items st at =
-    (said : List Said) × Holds s said st bytes items × (st .used ≤ at) × (at ≤ length s)
-    × (options s (drop 7 s) 0 7 [] ≡ options s (drop at s) 0 at said)
+    (located : List Located) × Holds s located st bytes items × (st .used ≤ at) × (at ≤ length s)
+    × (options s (drop 7 s) 0 7 [] ≡ options s (drop at s) 0 at located)
 
 abbrev μ-loop : tie.MeasureT-loop
 μ-loop s bytes₀ items₀ st₀ at₀ bytes items st at = length s - at
@@ -36,8 +36,8 @@ loop-holds c =
     let start = c .before .before .before in
     let none = c .before .no-slot in
     let f =
-    fresh-holds (start .args .s .now) (c .fresh .result) (replicate (limits01 .room) 0) (replicate itemsMost (none .result)) (c .fresh .ensures) refl
-    (ap (replicate itemsMost) (none .ensures)) in
+    fresh-holds (start .args .s .now) (c .fresh .result) (replicate (documentLimits .room) 0) (replicate maxItems (none .result)) (c .fresh .ensures) refl
+    (ap (replicate maxItems) (none .ensures)) in
     ([], f .0, (let z = f .1 in omega arith), start .pre .0, refl)
 
 shared-slice-read-b : tie.Need-shared-slice-read-b Inv-loop μ-loop
@@ -62,30 +62,30 @@ mul-last c = let h = sound (c .before .before .before .loop .inv .1) .last in om
 array-copy-out-last : tie.Need-array-copy-out-last Inv-loop μ-loop
 array-copy-out-last c = sound (c .before .before .before .loop .inv .1) .last
 
-slice-aggregate-turn-at : tie.Need-slice-aggregate-turn-at Inv-loop μ-loop
-slice-aggregate-turn-at c =
+slice-aggregate-step-at : tie.Need-slice-aggregate-step-at Inv-loop μ-loop
+slice-aggregate-step-at c =
     let i = c .before .before .before .before .before .loop .inv in
     let a = i .2 in
     let b = i .3 in
     let t = c .before .before .before .before .before .before .before .before .before .pre .1 in
     sym (bytes-full (i .1) (omega arith))
 
-turn-at-requires : tie.Need-turn-at-requires Inv-loop μ-loop
-turn-at-requires c κs =
+step-at-requires : tie.Need-step-at-requires Inv-loop μ-loop
+step-at-requires c κs =
     let l = c .before .before .before .before .before .loop in
     record {
-      said = l .inv .0;
+      located = l .inv .0;
       items = l .items;
       holds = l .inv .1;
       latest = refl;
-      behind = l .inv .2;
+      after = l .inv .2;
       inside = c .before .before .before .before .loop-test .taken;
       solid = c .before .before .if1 .left;
       short = c .before .before .before .before .before .before .before .before .before .pre .1;
     }
 
-enum-known-turn : tie.Need-enum-known-turn Inv-loop μ-loop
-enum-known-turn c = search needs
+enum-known-step : tie.Need-enum-known-step Inv-loop μ-loop
+enum-known-step c = search needs
 
 mul-items : tie.Need-mul-items Inv-loop μ-loop
 mul-items c = let h = c .before .if2 .taken in omega arith
@@ -98,8 +98,8 @@ loop-less-2 c =
     let x = c .before .before .before .before .before .before .before .before .before .before .before .before .before .before .before .before .args in
     let l = c .before .before .before .before .before .before .before .before .before .before .before .before .loop in
     let i = l .inv in
-    let t = c .before .before .before .before .before .before .turn-at in
-    let told = c .before .before .before .turn .given .1 in
+    let t = c .before .before .before .before .before .before .step-at in
+    let told = c .before .before .before .step .given .1 in
     let g = goes-told (x .s .now) (l .bytes) (l .st) _ (l .at) (t .last .1 .0) (t .result) (t .ensures) _ told (i .0) (l .items) (i .1) refl (i .2) in
     let a = g .4 in
     let b = g .5 in
@@ -110,8 +110,8 @@ loop-again-2 c =
     let x = c .before .before .before .before .before .before .before .before .before .before .before .before .before .before .before .before .args in
     let l = c .before .before .before .before .before .before .before .before .before .before .before .before .loop in
     let i = l .inv in
-    let t = c .before .before .before .before .before .before .turn-at in
-    let told = c .before .before .before .turn .given .1 in
+    let t = c .before .before .before .before .before .before .step-at in
+    let told = c .before .before .before .step .given .1 in
     let g = goes-told (x .s .now) (l .bytes) (l .st) _ (l .at) (t .last .1 .0) (t .result) (t .ensures) _ told (i .0) (l .items) (i .1) refl (i .2) in
     let put : c .before .if2 .items ≡ set (l .items) (t .result .place) (t .result .slot) =
     ⊎-elim (λ w. w .2) (λ w. w .1 ∙ sym (set-out (l .items) _ _ (omega (arith, w .0 .left, items-full (i .1))))) (c .before .if2 .came) in
@@ -125,23 +125,23 @@ finish-requires c κs =
     let x = c .before .before .before .before .before .before .before .before .before .before .before .before .before .args in
     let l = c .before .before .before .before .before .before .before .before .before .loop in
     let i = l .inv in
-    let t = c .before .before .before .turn-at in
+    let t = c .before .before .before .step-at in
     let told = c .enum-told .given .1 in
     let g = goes-told (x .s .now) (l .bytes) (l .st) _ (l .at) (t .last .1 .0) (t .result) (t .ensures) _ told (i .0) (l .items) (i .1) refl (i .2) in
-    record { said = i .0; holds = rw (g .1) (i .1) }
+    record { located = i .0; holds = rw (g .1) (i .1) }
 
 returns : tie.Need-returns Inv-loop μ-loop
 returns c =
     let x = c .before .before .before .before .before .before .before .before .before .before .before .before .before .before .args in
     let l = c .before .before .before .before .before .before .before .before .before .before .loop in
     let i = l .inv in
-    let t = c .before .before .before .before .turn-at in
+    let t = c .before .before .before .before .step-at in
     let told = c .before .enum-told .given .1 in
     let g = goes-told (x .s .now) (l .bytes) (l .st) _ (l .at) (t .last .1 .0) (t .result) (t .ensures) _ told (i .0) (l .items) (i .1) refl (i .2) in
-    c .finish .ensures (i .0) (rw (g .1) (i .1)) ∙ sym (ap (finished (limits01 .room) (x .s .now)) (i .4 ∙ g .0))
+    c .finish .ensures (i .0) (rw (g .1) (i .1)) ∙ sym (ap (finished (documentLimits .room) (x .s .now)) (i .4 ∙ g .0))
 
-enum-known-turn-2 : tie.Need-enum-known-turn-2 Inv-loop μ-loop
-enum-known-turn-2 c = search needs
+enum-known-step-2 : tie.Need-enum-known-step-2 Inv-loop μ-loop
+enum-known-step-2 c = search needs
 
 refused-requires : tie.Need-refused-requires Inv-loop μ-loop
 refused-requires c κs = tt
@@ -151,10 +151,10 @@ returns-2 c =
     let x = c .before .before .before .before .before .before .before .before .before .before .before .before .before .before .before .args in
     let l = c .before .before .before .before .before .before .before .before .before .before .before .loop in
     let i = l .inv in
-    let t = c .before .before .before .before .before .turn-at in
-    let told = c .before .before .turn2 .given .1 in
+    let t = c .before .before .before .before .before .step-at in
+    let told = c .before .before .step2 .given .1 in
     let g = goes-told (x .s .now) (l .bytes) (l .st) _ (l .at) (t .last .1 .0) (t .result) (t .ensures) _ told (i .0) (l .items) (i .1) refl (i .2) in
-    c .refused .ensures ∙ sym (ap (finished (limits01 .room) (x .s .now)) (i .4 ∙ g))
+    c .refused .ensures ∙ sym (ap (finished (documentLimits .room) (x .s .now)) (i .4 ∙ g))
 
 refused-requires-2 : tie.Need-refused-requires-2 Inv-loop μ-loop
 refused-requires-2 c κs = tt
@@ -164,7 +164,7 @@ returns-3 c =
     let x = c .before .before .before .before .before .before .args in
     let l = c .before .before .loop in
     let i = l .inv in
-    c .refused2 .ensures ∙ sym (ap (finished (limits01 .room) (x .s .now)) (i .4 ∙ loop-out (x .s .now) (l .at) (i .0) (c .before .loop-test .left)))
+    c .refused2 .ensures ∙ sym (ap (finished (documentLimits .room) (x .s .now)) (i .4 ∙ loop-out (x .s .now) (l .at) (i .0) (c .before .loop-test .left)))
 
 pub read-options-spec : {M : Type 1} → statement M
 read-options-spec =
@@ -181,9 +181,9 @@ read-options-spec =
     loop-again
     mul-last
     array-copy-out-last
-    slice-aggregate-turn-at
-    turn-at-requires
-    enum-known-turn
+    slice-aggregate-step-at
+    step-at-requires
+    enum-known-step
     mul-items
     array-set-from-items
     loop-less-2
@@ -191,7 +191,7 @@ read-options-spec =
     enum-told
     finish-requires
     returns
-    enum-known-turn-2
+    enum-known-step-2
     refused-requires
     returns-2
     refused-requires-2

@@ -5,8 +5,8 @@ use mathlib.Core.Logic.{⊎-elim}
 use native.Mathlib.Omega.{arith}
 use lib.ListN.{length}
 use borrow.Author.Tests.{not-true, not-false}
-use Rattle.definitions.specs.Limits.{itemsMost, patternsMost}
-use Rattle.definitions.specs.Placements.{wanted}
+use Rattle.definitions.specs.Limits.{maxItems, maxPatterns}
+use Rattle.definitions.specs.Placements.{constraints}
 use Rattle.match_windows.specs.Spans.{Measured}
 use Rattle.match_items.proofs.Placing.{measured}
 use Rattle.search_state.specs.Inputs.{itemsLeft}
@@ -104,16 +104,16 @@ try-starts-claims t = (
 -- In the answers below `s` is the place where a turn begins, `m` the one where the item's kind is known, `a` the function's entry.
 
 abbrev from-item-Inv-loop : from-item-lts.InvT-loop
-from-item-Inv-loop k bytes payload decoded last chosen on-bound q count facts map i₀ from₀ i from = Gone q k bytes payload decoded last chosen on-bound i from
+from-item-Inv-loop k bytes payload decoded last chosen on-bound q count header map i₀ from₀ i from = Gone q k bytes payload decoded last chosen on-bound i from
 
 abbrev from-item-μ-loop : from-item-lts.MeasureT-loop
-from-item-μ-loop k bytes payload decoded last chosen on-bound q count facts map i₀ from₀ i from = count - i
+from-item-μ-loop k bytes payload decoded last chosen on-bound q count header map i₀ from₀ i from = count - i
 
 from-item-loop-holds : (t : ℕ) → from-item-lts.Need-loop-holds (from-item-claims t) (from-item-at t) from-item.Post from-item-Inv-loop from-item-μ-loop
 from-item-loop-holds t c =
     let a = c .before .before .before .before .before in
     let q = a .args .t1 in
-    let long : length (q .items) ≡ itemsMost = length-mapped _ (q .items) itemsMost (a .good .0 .1 .1 .0 .1 .0 .1) in
+    let long : length (q .items) ≡ maxItems = length-mapped _ (q .items) maxItems (a .good .0 .1 .1 .0 .1 .0 .1) in
     gone-none (a .pre .1 .0) (omega (arith, a .pre .1 .0, long)) (a .pre .1 .1)
 
 from-item-mul-slot : (t : ℕ) → from-item-lts.Need-mul-slot (from-item-claims t) (from-item-at t) from-item.Post from-item-Inv-loop from-item-μ-loop
@@ -222,7 +222,7 @@ from-item-returns-3 : (t : ℕ) → from-item-lts.Need-returns-3 (from-item-clai
 from-item-returns-3 t c =
     let m = c .before .before .before .before .before .before .before in
     let s = m .before .before .before in
-    let holds = c .before .before .negated-holds .ensures (s .before .before .before .before .before .before .before .args .t1 .facts) in
+    let holds = c .before .before .negated-holds .ensures (s .before .before .before .before .before .before .before .args .t1 .header) in
     let negated = not-false _ (c .before .before .before .if2 .left) in
     stop-nowhere (s .before .loop .inv) (s .loop-test .taken) (m .item .given .1) negated holds (c .before .if3 .taken)
     (c .no-match2 .result) (c .no-match2 .ensures)
@@ -239,7 +239,7 @@ from-item-loop-again-2 : (t : ℕ) → from-item-lts.Need-loop-again-2 (from-ite
 from-item-loop-again-2 t c =
     let m = c .before .before .before .before .before .before in
     let s = m .before .before .before in
-    let holds = c .before .negated-holds .ensures (s .before .before .before .before .before .before .before .args .t1 .facts) in
+    let holds = c .before .negated-holds .ensures (s .before .before .before .before .before .before .before .args .t1 .header) in
     let negated = not-false _ (c .before .before .if2 .left) in
     gone-nowhere (s .before .loop .inv) (s .loop-test .taken) (m .item .given .1) negated holds (c .if3 .left)
 
@@ -279,9 +279,9 @@ try-starts-no-match-requires t c κs = tt
 try-starts-returns : (t : ℕ) → try-starts-lts.Need-returns (try-starts-claims t) (try-starts-at t) try-starts.Post try-starts-Inv-loop try-starts-μ-loop
 try-starts-returns t c =
     let x = c .before .before .before .before .before .before .before .before .args in
-    let ws = wanted (itemsLeft (x .input) (x .k + 1)) (x .rest .now) in
+    let ws = constraints (itemsLeft (x .input) (x .k + 1)) (x .rest .now) in
     let there = c .before .before .is-present in
-    try-absent (x .input .facts) (x .payload .now) (x .decoded .now) (x .input .map) (x .p) (x .own .now) (x .last) ws (x .chosen) (x .on-bound) _
+    try-absent (x .input .header) (x .payload .now) (x .decoded .now) (x .input .map) (x .p) (x .own .now) (x .last) ws (x .chosen) (x .on-bound) _
     (there .result) (there .ensures) (c .before .if1 .taken) (c .no-match .result) (c .no-match .ensures)
 
 try-starts-field-of-requires : (t : ℕ)
@@ -309,7 +309,7 @@ try-starts-loop-holds t c =
     let p = w .before .before in
     let a = p .before .before .before .before .before .before .before in
     let bound = a .args .input .bound in
-    let long : length bound ≡ patternsMost = length-mapped _ bound patternsMost (a .good .0 .1 .1 .1 .1 .1 .1 .0 .1 .0 .1) in
+    let long : length bound ≡ maxPatterns = length-mapped _ bound maxPatterns (a .good .0 .1 .1 .1 .1 .1 .1 .0 .1 .0 .1) in
     let small = field-sizes t (w .before) .field in
     tried-none (a .pre .1 .0, a .pre .1 .1) (a .pre .1 .2) small (omega (arith, a .pre .1 .2 .room, long)) (w .window .ensures)
     (w .before .field-of .ensures .0) (p .before .is-present .ensures) (p .if1 .left)

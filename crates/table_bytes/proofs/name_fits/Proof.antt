@@ -3,7 +3,7 @@ use mathlib.Core.Path.{sym, _∙_}
 use native.Mathlib.Omega.{arith}
 use borrow.Author.Tests.{le-leb, lt-leb, not-true, not-false}
 use borrow.Author.Needs.{needs}
-use Rattle.definitions.specs.Limits.{nameMost}
+use Rattle.definitions.specs.Limits.{maxName}
 use Rattle.definitions.specs.WellFormed.{nameFits}
 use Rattle.table_bytes.proofs.name_fits.Statement.{statement}
 use Rattle.table_bytes.proofs.name_fits.Tie as tie
@@ -14,7 +14,7 @@ returns c = rw (lt-leb 1 (c .before .args .len) (c .if1 .taken))
 
 returns-2 : tie.Need-returns-2
 unfolding nameFits
-returns-2 c = rw (le-leb 1 (c .before .before .args .len) (c .before .if1 .left), lt-leb (c .before .before .args .len) nameMost (c .if2 .taken))
+returns-2 c = rw (le-leb 1 (c .before .before .args .len) (c .before .if1 .left), lt-leb (c .before .before .args .len) maxName (c .if2 .taken))
 
 slice-aggregate-all : tie.Need-slice-aggregate-all
 slice-aggregate-all c = omega arith
@@ -26,7 +26,7 @@ returns-3 : tie.Need-returns-3
 unfolding nameFits
 returns-3 c =
     let len = c .before .before .before .before .before .args .len in
-    rw (le-leb 1 len (c .before .before .before .before .if1 .left), le-leb len nameMost (c .before .before .before .if2 .left), sym (c .before .quotable-to .ensures) ∙ not-true _ (c .if3 .taken))
+    rw (le-leb 1 len (c .before .before .before .before .if1 .left), le-leb len maxName (c .before .before .before .if2 .left), sym (c .before .quotable-to .ensures) ∙ not-true _ (c .if3 .taken))
 
 zero-from-requires : tie.Need-zero-from-requires
 zero-from-requires c κs = tt
@@ -35,7 +35,7 @@ returns-4 : tie.Need-returns-4
 unfolding nameFits
 returns-4 c =
     let len = c .before .before .before .before .before .before .args .len in
-    rw (le-leb 1 len (c .before .before .before .before .before .if1 .left), le-leb len nameMost (c .before .before .before .before .if2 .left), sym (c .before .before .quotable-to .ensures) ∙ not-false _ (c .before .if3 .left)) (c .zero-from .ensures)
+    rw (le-leb 1 len (c .before .before .before .before .before .if1 .left), le-leb len maxName (c .before .before .before .before .if2 .left), sym (c .before .before .quotable-to .ensures) ∙ not-false _ (c .before .if3 .left)) (c .zero-from .ensures)
 
 pub name-fits-spec : {M : Type 1} → statement M
 name-fits-spec =

@@ -5,7 +5,7 @@ use Prim.Native.Nat.{ℕ, _-_, _≤_, _<_}
 use native.Mathlib.Omega.{arith}
 use lib.ListN.{length, drop}
 use borrow.Author.Tests.{le-leb, lt-leb, not-true, not-false}
-use Rattle.definitions.specs.Limits.{itemsMost}
+use Rattle.definitions.specs.Limits.{maxItems}
 use Rattle.definitions.specs.Lists.{all?}
 use Rattle.definitions.specs.WellFormed.{slotUnused}
 use Rattle.list_laws.proofs.Every.{rest-on, rest-not, rest-out}
@@ -24,11 +24,11 @@ abbrev Inv-loop2 : tie.InvT-loop2
 Inv-loop2 count used items w i₀ i = all? slotUnused (drop count items) ≡ all? slotUnused (drop i items)
 
 abbrev μ-loop2 : tie.MeasureT-loop2
-μ-loop2 count used items w i₀ i = itemsMost - i
+μ-loop2 count used items w i₀ i = maxItems - i
 
 returns : tie.Need-returns Inv-loop μ-loop Inv-loop2 μ-loop2
 unfolding itemsWell
-returns c = rw (lt-leb (c .before .args .count) itemsMost (c .if1 .taken))
+returns c = rw (lt-leb (c .before .args .count) maxItems (c .if1 .taken))
 
 begun-requires : tie.Need-begun-requires Inv-loop μ-loop Inv-loop2 μ-loop2
 begun-requires c κs = tt
@@ -53,7 +53,7 @@ returns-2 c =
     let few = c .before .before .before .before .before .before .if1 .left in
     let long : args .count ≤ length (args .t1) = omega arith in
     let fails = sym (c .before .may-pass .ensures) ∙ not-true _ (c .if2 .taken) in
-    rw (le-leb (args .count) itemsMost few, walked-not _ _ _ _ _ (loop .inv) _ (c .before .before .before .loop-test .taken) long fails)
+    rw (le-leb (args .count) maxItems few, walked-not _ _ _ _ _ (loop .inv) _ (c .before .before .before .loop-test .taken) long fails)
 
 past-item-requires : tie.Need-past-item-requires Inv-loop μ-loop Inv-loop2 μ-loop2
 past-item-requires c κs = record {
@@ -93,12 +93,12 @@ slot-unused-requires c κs = tt
 returns-3 : tie.Need-returns-3 Inv-loop μ-loop Inv-loop2 μ-loop2
 unfolding itemsWell
 returns-3 c =
-    let behind = c .before .before .before .before .before in
-    let args = behind .before .before .before .before .args in
+    let after = c .before .before .before .before .before in
+    let args = after .before .before .before .before .args in
     let loop = c .before .before .before .before .loop2 in
     let inside : loop .i < length (args .t1) = omega arith in
     let fails = sym (c .before .slot-unused .ensures) ∙ not-true _ (c .if3 .taken) in
-    let few = le-leb (args .count) itemsMost (behind .before .before .before .if1 .left) in
+    let few = le-leb (args .count) maxItems (after .before .before .before .if1 .left) in
     rw (few, rest-not slotUnused _ _ _ (loop .inv) _ inside fails, and-false)
 
 add-i-2 : tie.Need-add-i-2 Inv-loop μ-loop Inv-loop2 μ-loop2
@@ -120,12 +120,12 @@ ends-well-requires c κs = omega arith
 returns-4 : tie.Need-returns-4 Inv-loop μ-loop Inv-loop2 μ-loop2
 unfolding itemsWell
 returns-4 c =
-    let behind = c .before .before .before in
-    let args = behind .before .before .before .before .args in
+    let after = c .before .before .before in
+    let args = after .before .before .before .before .args in
     let loop = c .before .before .loop2 in
     let out : length (args .t1) ≤ loop .i = omega arith in
-    let few = le-leb (args .count) itemsMost (behind .before .before .before .if1 .left) in
-    let ends = walked-out _ _ _ _ _ (behind .before .loop .inv) (behind .loop-test .left) in
+    let few = le-leb (args .count) maxItems (after .before .before .before .if1 .left) in
+    let ends = walked-out _ _ _ _ _ (after .before .loop .inv) (after .loop-test .left) in
     rw (few, rest-out slotUnused _ _ _ (loop .inv) out, and-true, ends) (c .ends-well .ensures)
 
 pub items-fit-spec : {M : Type 1} → statement M

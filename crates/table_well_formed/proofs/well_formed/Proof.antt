@@ -4,7 +4,7 @@ use mathlib.Core.Path.{sym, _∙_}
 use native.Mathlib.Omega.{arith}
 use borrow.Author.Tests.{le-leb, not-true, not-false}
 use borrow.Author.Needs.{needs}
-use Rattle.definitions.specs.Limits.{byteMost}
+use Rattle.definitions.specs.Limits.{maxByte}
 use Rattle.table_well_formed.proofs.Forming.{parted}
 use Rattle.table_well_formed.proofs.well_formed.Statement.{statement}
 use Rattle.table_well_formed.proofs.well_formed.Tie as tie
@@ -22,7 +22,7 @@ returns-2 : tie.Need-returns-2
 returns-2 c =
     let named = c .before .before .before in
     let name = sym (named .before .name-fits .ensures) ∙ not-false _ (named .if1 .left) in
-    let protocol = le-leb (named .before .before .before .args .t .protocol) byteMost (omega arith) in
+    let protocol = le-leb (named .before .before .before .args .t .protocol) maxByte (omega arith) in
     rw (parted, name, protocol, sym (c .before .items-fit .ensures) ∙ not-true _ (c .if2 .taken))
 
 slice-aggregate-all : tie.Need-slice-aggregate-all
@@ -36,7 +36,7 @@ returns-3 c =
     let walked = c .before .before .before in
     let named = walked .before .before .before in
     let name = sym (named .before .name-fits .ensures) ∙ not-false _ (named .if1 .left) in
-    let protocol = le-leb (named .before .before .before .args .t .protocol) byteMost (omega arith) in
+    let protocol = le-leb (named .before .before .before .args .t .protocol) maxByte (omega arith) in
     let items = sym (walked .before .items-fit .ensures) ∙ not-false _ (walked .if2 .left) in
     rw (parted, name, protocol, items) (c .room-fits .ensures)
 

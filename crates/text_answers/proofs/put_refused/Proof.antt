@@ -1,5 +1,5 @@
 use mathlib.Core.Path.{sym, ap}
-use Rattle.definitions.specs.House.{decimal}
+use Rattle.definitions.specs.Canonical.{decimal}
 use Rattle.write_bytes.proofs.Putting.{then, told}
 use borrow.Author.Needs.{needs}
 use Rattle.text_answers.proofs.put_refused.Statement.{statement}

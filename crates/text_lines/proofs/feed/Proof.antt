@@ -1,5 +1,5 @@
 -- The loop is line_stream's, the answer a text's.
-use Rattle.definitions.specs.Limits.{limits01}
+use Rattle.definitions.specs.Limits.{documentLimits}
 use Rattle.definitions.specs.Lines.{lineOf}
 use Rattle.line_stream.specs.Steps.{turnsLeft}
 use Rattle.line_stream.proofs.Loop as loop
@@ -7,7 +7,7 @@ use Rattle.text_lines.proofs.feed.Statement.{statement}
 use Rattle.text_lines.proofs.feed.Tie as tie
 
 abbrev Inv-loop : tie.InvT-loop
-Inv-loop input line₀ out₀ t₀ line out t = loop.Loop (lineOf limits01) input line₀ out₀ t₀ line out t
+Inv-loop input line₀ out₀ t₀ line out t = loop.Loop (lineOf documentLimits) input line₀ out₀ t₀ line out t
 
 abbrev μ-loop : tie.MeasureT-loop
 μ-loop input line₀ out₀ t₀ line out t = turnsLeft input t

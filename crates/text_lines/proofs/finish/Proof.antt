@@ -1,6 +1,6 @@
 -- The last line is answered as any other, or there is none.
 use borrow.Author.Needs.{needs}
-use Rattle.definitions.specs.Limits.{limits01}
+use Rattle.definitions.specs.Limits.{documentLimits}
 use Rattle.definitions.specs.Lines.{lineOf}
 use Rattle.line_stream.proofs.Finish.{one-waits, none-waits}
 use Rattle.text_lines.proofs.finish.Statement.{statement}
@@ -28,13 +28,13 @@ returns c =
     let kept = answered .before in
     let test = kept .before .before in
     let answer = answered .answer-text .ensures in
-    one-waits (lineOf limits01) (test .before .before .before .last-line .ensures) (test .if1 .taken) (kept .kept .ensures) answer (ended .end-line .ensures)
+    one-waits (lineOf documentLimits) (test .before .before .before .last-line .ensures) (test .if1 .taken) (kept .kept .ensures) answer (ended .end-line .ensures)
 
 same-length-2 : tie.Need-same-length-2
 same-length-2 c = search needs
 
 returns-2 : tie.Need-returns-2
-returns-2 c = none-waits (lineOf limits01) (c .before .before .before .last-line .ensures) (c .if1 .left)
+returns-2 c = none-waits (lineOf documentLimits) (c .before .before .before .last-line .ensures) (c .if1 .left)
 
 pub finish-spec : {M : Type 1} → statement M
 finish-spec =

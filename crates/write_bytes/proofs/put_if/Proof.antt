@@ -1,5 +1,5 @@
 use mathlib.Core.Path.{ap}
-use Rattle.definitions.specs.House.{textIf}
+use Rattle.definitions.specs.Canonical.{textIf}
 use Rattle.write_bytes.proofs.Putting.{none-put, told, same-length as same}
 use Rattle.write_bytes.proofs.put_if.Statement.{statement}
 use Rattle.write_bytes.proofs.put_if.Tie as tie

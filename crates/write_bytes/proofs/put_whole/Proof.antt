@@ -3,7 +3,7 @@ use mathlib.Core.Path.{_≡_, refl, sym, ap, _∙_}
 use Prim.Native.Nat.{ℕ, suc, _+_, _-_, _≤_, _<_}
 use native.Mathlib.Omega.{arith}
 use lib.ListN.{length, drop, getD, set, length-set}
-use Rattle.write_bytes.specs.Puts.{countedMost, puts}
+use Rattle.write_bytes.specs.Puts.{maxCounted, puts}
 use Rattle.write_bytes.proofs.Putting.{one-kept, put-on, put-all, same-length as same}
 use Rattle.write_bytes.proofs.put_whole.Statement.{statement}
 use Rattle.write_bytes.proofs.put_whole.Tie as tie
@@ -38,7 +38,7 @@ loop-again : tie.Need-loop-again Inv-loop μ-loop
 loop-again c =
     let x = c .before .before .before .args in
     let l = c .before .before .loop in
-    let here : x .at + l .i < countedMost = omega arith in
+    let here : x .at + l .i < maxCounted = omega arith in
     let e : suc (x .at + l .i) ≡ x .at + (l .i + 1) = omega arith in
     let b : ℕ = getD (x .w .now) (l .i) 0 in (
       omega arith,

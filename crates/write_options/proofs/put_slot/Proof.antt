@@ -1,6 +1,6 @@
 use mathlib.Core.Path.{refl}
 use Rattle.definitions.specs.declared.table.Item.the-variants as item
-use Rattle.definitions.specs.House.{testText}
+use Rattle.definitions.specs.Canonical.{testText}
 use Rattle.write_options.proofs.Items.{unused-text, address-text, plain-text, pattern-text}
 use Rattle.write_bytes.proofs.Putting.{none-put, told, same-length as same}
 use borrow.Author.Needs.{needs}

@@ -5,7 +5,7 @@ use mathlib.Core.List.{List, _++_}
 use Prim.Native.Nat.{ℕ, _+_, _-_, _≤_}
 use native.Mathlib.Omega.{arith}
 use lib.ListN.{length, drop, getD}
-use Rattle.definitions.specs.House.{patternText}
+use Rattle.definitions.specs.Canonical.{patternText}
 use Rattle.write_bytes.specs.Puts.{puts}
 use Rattle.write_bytes.proofs.Putting.{onward, same-length as same}
 use Rattle.write_pattern_bytes.specs.Parts.{byteText}

@@ -1,7 +1,7 @@
 use mathlib.Core.Path.{ap, _∙_}
 use mathlib.Core.List.{append-nil}
-use Rattle.definitions.specs.Entries as entry
-use Rattle.definitions.specs.House.{distanceEntry, modifierText, entryText, entriesText}
+use Rattle.definitions.specs.OptionValues as entry
+use Rattle.definitions.specs.Canonical.{distanceOption, modifierText, optionText, optionsText}
 use Rattle.write_bytes.proofs.Putting.{none-put, told, same-length as same}
 use borrow.Author.Needs.{needs}
 use Rattle.write_patterns.proofs.put_distance.Statement.{statement}
@@ -17,15 +17,15 @@ put-shift-requires : tie.Need-put-shift-requires
 put-shift-requires c κs = tt
 
 returns : tie.Need-returns
-unfolding entriesText
-returns c = told (ap (λ x. entriesText (distanceEntry x)) (c .enum-told .given .1)) none-put
+unfolding optionsText
+returns c = told (ap (λ x. optionsText (distanceOption x)) (c .enum-told .given .1)) none-put
 
 returns-2 : tie.Need-returns-2
-unfolding entriesText entryText
+unfolding optionsText optionText
 returns-2 c =
     let c2 = c .before .before in
     let c5 = c2 .before .before .before in
-    told (ap (λ x. entriesText (distanceEntry x)) (c5 .d .given .1) ∙ append-nil (modifierText (entry.Distance (c5 .d .given .0 .0)))) (c2 .put-shift .ensures)
+    told (ap (λ x. optionsText (distanceOption x)) (c5 .d .given .1) ∙ append-nil (modifierText (entry.Distance (c5 .d .given .0 .0)))) (c2 .put-shift .ensures)
 
 same-length : tie.Need-same-length
 same-length c = same (returns-2 c)

@@ -1,12 +1,12 @@
 use mathlib.Core.Path.{refl, ap, _∙_}
 use native.Mathlib.Omega.{arith}
 use lib.ListN.{length}
-use Rattle.definitions.specs.Entries as entry
-use Rattle.definitions.specs.House.{entryText}
+use Rattle.definitions.specs.OptionValues as entry
+use Rattle.definitions.specs.Canonical.{optionText}
 use Rattle.write_bytes.proofs.Clipping.{at-most-le, part-most}
 use Rattle.write_bytes.proofs.Putting.{then, told, same-length as same}
 use Rattle.write_keywords.proofs.Options.{context-option}
-use Rattle.write_patterns.proofs.Entries.{pattern-entries, no-case-text}
+use Rattle.write_patterns.proofs.Entries.{pattern-options, no-case-text}
 use borrow.Author.Needs.{needs}
 use Rattle.write_patterns.proofs.put_pattern.Statement.{statement}
 use Rattle.write_patterns.proofs.put_pattern.Tie as tie
@@ -58,9 +58,9 @@ returns c =
     let c26 = c23 .before .before .before in
     let p = c26 .args .p in
     let b = c26 .args .b .now in
-    let quoted = ap (λ l. entryText (entry.Pattern (p .negated) l)) (part-most (p .len) b refl (c23 .at-most .ensures)) in
+    let quoted = ap (λ l. optionText (entry.Pattern (p .negated) l)) (part-most (p .len) b refl (c23 .at-most .ensures)) in
     let context = context-option (p .context) ∙ c16 .context-keyword .ensures .1 in
-    told (pattern-entries p b)
+    told (pattern-options p b)
     (then (told quoted (c20 .put-quoted .ensures))
     (then (told context (c15 .put-keyword .ensures))
     (then (told (no-case-text (p .nocase)) (c10 .put-if .ensures)) (then (c6 .put-distance .ensures) (c2 .put-within .ensures)))))

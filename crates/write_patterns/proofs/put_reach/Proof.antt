@@ -1,4 +1,4 @@
-use Rattle.definitions.specs.House.{modifierText}
+use Rattle.definitions.specs.Canonical.{modifierText}
 use Rattle.write_bytes.proofs.Putting.{then, told, same-length as same}
 use borrow.Author.Needs.{needs}
 use Rattle.write_patterns.proofs.put_reach.Statement.{statement}

@@ -1,7 +1,7 @@
 use mathlib.Core.Path.{_≡_, sym, ap}
 use mir.Syntax.{w32}
 use mir.Val.{toZ, ofZ}
-use Rattle.definitions.specs.House.{decimalℤ, modifierText}
+use Rattle.definitions.specs.Canonical.{decimalℤ, modifierText}
 use Rattle.write_bytes.proofs.Putting.{then, told, same-length as same}
 use borrow.Author.Needs.{needs}
 use Rattle.write_patterns.proofs.put_shift.Statement.{statement}

@@ -1,7 +1,7 @@
 use mathlib.Core.Path.{refl, _≡_, sym, ap}
 use mir.Syntax.{w32}
 use mir.Val.{toZ, ofZ}
-use Rattle.definitions.specs.House.{decimal}
+use Rattle.definitions.specs.Canonical.{decimal}
 use Rattle.write_patterns.proofs.Signs.{kept-text}
 use Rattle.write_bytes.proofs.Putting.{then, told, same-length as same}
 use borrow.Author.Needs.{needs}

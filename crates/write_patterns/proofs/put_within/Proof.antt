@@ -1,7 +1,7 @@
 use mathlib.Core.Path.{ap, _∙_}
 use mathlib.Core.List.{append-nil}
-use Rattle.definitions.specs.Entries as entry
-use Rattle.definitions.specs.House.{withinEntry, modifierText, entryText, entriesText}
+use Rattle.definitions.specs.OptionValues as entry
+use Rattle.definitions.specs.Canonical.{withinOption, modifierText, optionText, optionsText}
 use Rattle.write_bytes.proofs.Putting.{none-put, told, same-length as same}
 use borrow.Author.Needs.{needs}
 use Rattle.write_patterns.proofs.put_within.Statement.{statement}
@@ -17,15 +17,15 @@ put-reach-requires : tie.Need-put-reach-requires
 put-reach-requires c κs = tt
 
 returns : tie.Need-returns
-unfolding entriesText
-returns c = told (ap (λ x. entriesText (withinEntry x)) (c .enum-told .given .1)) none-put
+unfolding optionsText
+returns c = told (ap (λ x. optionsText (withinOption x)) (c .enum-told .given .1)) none-put
 
 returns-2 : tie.Need-returns-2
-unfolding entriesText entryText
+unfolding optionsText optionText
 returns-2 c =
     let c2 = c .before .before in
     let c5 = c2 .before .before .before in
-    told (ap (λ x. entriesText (withinEntry x)) (c5 .w .given .1) ∙ append-nil (modifierText (entry.Within (c5 .w .given .0 .0)))) (c2 .put-reach .ensures)
+    told (ap (λ x. optionsText (withinOption x)) (c5 .w .given .1) ∙ append-nil (modifierText (entry.Within (c5 .w .given .0 .0)))) (c2 .put-reach .ensures)
 
 same-length : tie.Need-same-length
 same-length c = same (returns-2 c)

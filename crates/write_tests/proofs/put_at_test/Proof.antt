@@ -1,5 +1,5 @@
 use mathlib.Core.Path.{refl}
-use Rattle.definitions.specs.House.{testText}
+use Rattle.definitions.specs.Canonical.{testText}
 use Rattle.write_bytes.proofs.Putting.{then, same-length as same}
 use borrow.Author.Needs.{needs}
 use Rattle.write_tests.proofs.put_at_test.Statement.{statement}

@@ -1,4 +1,4 @@
-use Rattle.definitions.specs.House.{fieldText, testText}
+use Rattle.definitions.specs.Canonical.{fieldText, testText}
 use Rattle.write_bytes.proofs.Putting.{then, told, same-length as same}
 use borrow.Author.Needs.{needs}
 use Rattle.write_tests.proofs.put_field_test.Statement.{statement}

@@ -1,4 +1,4 @@
-use Rattle.definitions.specs.House.{testText}
+use Rattle.definitions.specs.Canonical.{testText}
 use Rattle.write_bytes.proofs.Putting.{then, told, same-length as same}
 use borrow.Author.Needs.{needs}
 use Rattle.write_tests.proofs.put_ttl_test.Statement.{statement}

@@ -15,20 +15,20 @@ returns c =
     let x = c .before .before .before .args in
     ill-formed (x .t) (x .out .now) (sym (c .before .well-formed .ensures) ∙ not-true _ (c .if1 .taken))
 
-put-house-requires : tie.Need-put-house-requires
-put-house-requires c κs = tt
+put-canonical-requires : tie.Need-put-canonical-requires
+put-canonical-requires c κs = tt
 
 returns-2 : tie.Need-returns-2
 returns-2 c =
     let x = c .before .before .before .before .before .before .args in
-    let put = c .before .put-house in
+    let put = c .before .put-canonical in
     let formed = sym (c .before .before .before .before .well-formed .ensures) ∙ not-false _ (c .before .before .before .if1 .left) in
     too-long (x .t) (x .out .now) formed (put .result) (measures (x .t) (put .ensures)) (c .if2 .taken)
 
 returns-3 : tie.Need-returns-3
 returns-3 c =
     let x = c .before .before .before .before .before .before .before .args in
-    let put = c .before .before .put-house in
+    let put = c .before .before .put-canonical in
     let formed = sym (c .before .before .before .before .before .well-formed .ensures) ∙ not-false _ (c .before .before .before .before .if1 .left) in
     too-short (x .t) (x .out .now) formed (put .result) (measures (x .t) (put .ensures)) (c .before .if2 .left) (c .if3 .taken)
 
@@ -39,14 +39,14 @@ returns-4 : tie.Need-returns-4
 returns-4 c =
     let c6 = c .before .before .before .before .before .before in
     let c7 = c6 .before in
-    let put = c7 .before .put-house in
-    let lent = c7 .before .before .put-house-arg .given .0 .1 in
+    let put = c7 .before .put-canonical in
+    let buffer = c7 .before .before .put-canonical-arg .given .0 .1 in
     let c10 = c7 .before .before .before in
     let x = c10 .before .before .before .args in
     let formed = sym (c10 .before .well-formed .ensures) ∙ not-false _ (c10 .if1 .left) in
     let short = c7 .if2 .left in
     written (x .t) (x .out .now) formed (put .result) (measures (x .t) (put .ensures)) short (c6 .if3 .left)
-    (told (taken-back (x .t) (put .ensures) short lent) (c .before .before .put-front .ensures))
+    (told (taken-back (x .t) (put .ensures) short buffer) (c .before .before .put-front .ensures))
 
 same-length : tie.Need-same-length
 same-length c = search needs
@@ -57,7 +57,7 @@ write-measured-spec =
     (tie.spec
     well-formed-requires
     returns
-    put-house-requires
+    put-canonical-requires
     returns-2
     returns-3
     put-front-requires

@@ -2,7 +2,7 @@ use mathlib.Core.Path.{_≡_, refl, sym, ap, _∙_}
 use Rattle.write_bytes.proofs.Putting.{then, told, same-length as same}
 use mathlib.Core.List.{_++_}
 use Rattle.forms.specs.Bytes.{text}
-use Rattle.definitions.specs.House.{decimal}
+use Rattle.definitions.specs.Canonical.{decimal}
 use borrow.Author.Needs.{needs}
 use Rattle.case_lists.proofs.answers.put_refused.Statement.{statement}
 use Rattle.case_lists.proofs.answers.put_refused.Tie as tie

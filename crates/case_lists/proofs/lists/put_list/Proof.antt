@@ -1,6 +1,6 @@
 -- A refusal is the first due of 20 and 30 to 34; else what is still due and the list go by facts and payload.
 use Rattle.write_bytes.proofs.Putting.{told, same-length as same}
-use Rattle.match_placements.proofs.Cleared.{refused-due, seen-cleared, searchable, due-here, list-here}
+use Rattle.match_placements.proofs.Cleared.{refused-check, seen-cleared, searchable, check-here, list-here}
 use Rattle.case_lists.proofs.lists.put_list.Statement.{statement}
 use Rattle.case_lists.proofs.lists.put_list.Tie as tie
 
@@ -32,8 +32,8 @@ returns c =
     let k = c .before .before .before .before .before in
     let a = k .before .before in
     let x = a .before .before .before .before .args in
-    let due = refused-due (x .t) (x .p .now) (x .decoded .now) (a .cleared .ensures) (k .seen .given .1) (x .dir) (x .m) in
-    told (rw due) (c .before .before .put-refused .ensures)
+    let check = refused-check (x .t) (x .p .now) (x .decoded .now) (a .cleared .ensures) (k .seen .given .1) (x .dir) (x .m) in
+    told (rw check) (c .before .before .put-refused .ensures)
 
 returns-2 : tie.Need-returns-2
 returns-2 c =
@@ -41,7 +41,7 @@ returns-2 c =
     let a = s .before .before .before .before in
     let x = a .before .before .before .before .args in
     let ok = seen-cleared (x .t) (x .p .now) (x .decoded .now) (a .cleared .ensures) (s .before .before .seen2 .given .1) (s .payload-of .ensures .0) in
-    told (rw (due-here ok (x .dir) (x .m), list-here ok (x .dir) (x .m))) (c .before .before .put-seen .ensures)
+    told (rw (check-here ok (x .dir) (x .m), list-here ok (x .dir) (x .m))) (c .before .before .put-seen .ensures)
 
 same-length : tie.Need-same-length
 same-length c = same (returns c)

@@ -1,5 +1,5 @@
 -- The answer to "first" is written where it is no placement; else the placement, and those after it.
-use Rattle.definitions.specs.Fields.{fieldsDue}
+use Rattle.definitions.specs.Fields.{fieldsCheck}
 use Rattle.write_bytes.proofs.Putting.{then, told, same-length as same}
 use Rattle.match_placements.specs.Listing.{listIn, firstIn}
 use Rattle.case_lists.proofs.Rest.{list-ordered}
@@ -20,8 +20,8 @@ returns : tie.Need-returns
 unfolding firstIn
 returns c =
     let x = c .before .before .before .before .before .before .before .before .before .args in
-    let w = fieldsDue (x .payload .now) (x .decoded .now) (x .m) in
-    let l = listIn (x .t) (x .facts) (x .payload .now) (x .decoded .now) (x .dir) (x .m) in
+    let w = fieldsCheck (x .payload .now) (x .decoded .now) (x .m) in
+    let l = listIn (x .t) (x .header) (x .payload .now) (x .decoded .now) (x .dir) (x .m) in
     let a = c .before .before .before .before .before .first-in in
     told (first-not w l (a .result) (a .ensures) (c .before .before .before .before .match .keys2)) (c .before .before .put-answer .ensures)
 
@@ -37,8 +37,8 @@ returns-2 c =
     let p = c .before .before .before .before .before .before .before in
     let a = p .before .before .before .before .before in
     let x = a .before .before .before .before .args in
-    let w = fieldsDue (x .payload .now) (x .decoded .now) (x .m) in
-    let v = list-ordered (x .t) (x .facts) (x .payload .now) (x .decoded .now) (x .dir) (x .m) in
+    let w = fieldsCheck (x .payload .now) (x .decoded .now) (x .m) in
+    let v = list-ordered (x .t) (x .header) (x .payload .now) (x .decoded .now) (x .dir) (x .m) in
     told (first-one _ v w (a .first-in .result) (a .first-in .ensures) (p .before .before .before .enum-told .given .1))
     (then (p .put-placement .ensures) (c .before .before .put-after .ensures))
 

@@ -3,7 +3,7 @@ use native.Mathlib.Omega.{arith}
 use Rattle.write_bytes.proofs.Putting.{then, told, none-put, same-length as same}
 use Prim.Native.Nat.{_≤_, _<_}
 use lib.ListN.{length}
-use Rattle.definitions.specs.Limits.{patternsMost}
+use Rattle.definitions.specs.Limits.{maxPatterns}
 use Rattle.write_bytes.proofs.Clipping.{at-most-le, taken-most}
 use Rattle.case_lists.specs.AnswerTexts.{startsText}
 use Rattle.case_lists.proofs.Listing.{starts-none, starts-first}
@@ -16,7 +16,7 @@ at-most-requires c κs = tt
 returns : tie.Need-returns
 returns c =
     let a = c .before .before .before in
-    let long : length (a .args .t3) ≡ patternsMost = omega arith in
+    let long : length (a .args .t3) ≡ maxPatterns = omega arith in
     told (ap startsText (taken-most (a .args .count) (a .args .t3) long (c .before .at-most .ensures)) ∙ starts-none _ _ (c .if1 .taken)) none-put
 
 array-copy-out-put-start : tie.Need-array-copy-out-put-start
@@ -28,7 +28,7 @@ put-start-requires c κs = tt
 put-starts-after-requires : tie.Need-put-starts-after-requires
 put-starts-after-requires c κs =
     let n = c .before .before .before .before .before .before .before in
-    omega (arith, n .at-most .ensures, at-most-le (n .before .before .args .count) patternsMost)
+    omega (arith, n .at-most .ensures, at-most-le (n .before .before .args .count) maxPatterns)
 
 returns-2 : tie.Need-returns-2
 returns-2 c =
@@ -36,9 +36,9 @@ returns-2 c =
     let n = p .before .before .before .before in
     let x = n .before .before .args in
     let most = n .at-most .result in
-    let long : length (x .t3) ≡ patternsMost = omega arith in
+    let long : length (x .t3) ≡ maxPatterns = omega arith in
     let some : 0 < most = omega (arith, p .before .before .before .if1 .left) in
-    let room : most ≤ length (x .t3) = omega (arith, long, n .at-most .ensures, at-most-le (x .count) patternsMost) in
+    let room : most ≤ length (x .t3) = omega (arith, long, n .at-most .ensures, at-most-le (x .count) maxPatterns) in
     told (ap startsText (taken-most (x .count) (x .t3) long (n .at-most .ensures)) ∙ starts-first (x .t3) most some room)
     (then (p .put-start .ensures) (c .before .before .put-starts-after .ensures))
 

@@ -2,7 +2,7 @@
 use mathlib.Core.Path.{_≡_, refl}
 use Prim.Native.Nat.{ℕ}
 use Rattle.definitions.specs.Items.{Kind}
-use Rattle.definitions.specs.Placements.{wantedBy, positiveIn}
+use Rattle.definitions.specs.Placements.{constraintBy, positiveIn}
 use Rattle.definitions.proofs.OtherItems.{other-kind}
 use Rattle.match_placements.proofs.positives.positive_in.Statement.{statement}
 use Rattle.match_placements.proofs.positives.positive_in.Tie as tie
@@ -14,7 +14,7 @@ returns : tie.Need-returns
 returns c =
     λ b.
     let sl = c .before .args .slot in
-    other-kind (λ (k : Kind). _≡_ {A = ℕ} 0 (positiveIn (wantedBy k (sl .item) (sl .addresses) b))) refl (λ a. refl) refl (sl .item) (c .match .keys2)
+    other-kind (λ (k : Kind). _≡_ {A = ℕ} 0 (positiveIn (constraintBy k (sl .item) (sl .addresses) b))) refl (λ a. refl) refl (sl .item) (c .match .keys2)
 
 returns-2 : tie.Need-returns-2
 returns-2 c = λ b. rw (c .before .before .item .given .1, c .if1 .taken)

@@ -5,7 +5,7 @@ use mathlib.Core.List.{List, _∷_, _++_, map}
 use Prim.Native.Nat.{ℕ, _+_}
 use lib.ListN.{length, take, drop, length-set, length-map}
 use borrow.Author.Needs.{needs}
-use Rattle.definitions.specs.Limits.{patternsMost}
+use Rattle.definitions.specs.Limits.{maxPatterns}
 use Rattle.definitions.specs.Starts.{startNumber}
 use Rattle.definitions.specs.Refusals.{foundNumber}
 use Rattle.match_queries.specs.Runs.{numbersOfOne}
@@ -62,7 +62,7 @@ returns c =
     let h = x .a .placement in
     let starts = map startNumber (h .starts) in
     let g = a .good .1 .1 .0 in
-    let long : length (h .starts) ≡ patternsMost = sym (length-map (h .starts) _) ∙ g .1 .1 .1 .0 .1 .1 .1 .0 .1 .0 .1 in
+    let long : length (h .starts) ≡ maxPatterns = sym (length-map (h .starts) _) ∙ g .1 .1 .1 .0 .1 .1 .1 .0 .1 .0 .1 in
     let n : 3 + length starts ≡ numbersOfOne = omega (arith, length-map (h .starts) startNumber, long) in
     let written : ℕ → ℕ → List ℕ = λ u v. take (x .at) (x .out .now) ++ (u ∷ v ∷ h .count ∷ starts) ++ drop (x .at + numbersOfOne) (x .out .now) in
     p .put-starts .ensures

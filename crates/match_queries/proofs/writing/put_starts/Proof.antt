@@ -5,7 +5,7 @@ use Prim.Native.Nat.{_+_, _-_, _≤_}
 use native.Mathlib.Omega.{arith}
 use lib.ListN.{length, drop, length-set, length-map}
 use lib.Seq.{sets}
-use Rattle.definitions.specs.Limits.{patternsMost}
+use Rattle.definitions.specs.Limits.{maxPatterns}
 use Rattle.definitions.specs.Starts.{startNumber}
 use Rattle.match_queries.proofs.Storing.{stores-none, stores-start, stores-all}
 use Rattle.match_queries.proofs.writing.put_starts.Statement.{statement}
@@ -13,11 +13,11 @@ use Rattle.match_queries.proofs.writing.put_starts.Tie as tie
 
 abbrev Inv-loop : tie.InvT-loop
 Inv-loop out₀ at starts j₀ out j =
-    (length out ≡ length out₀) × (j ≤ patternsMost)
+    (length out ≡ length out₀) × (j ≤ maxPatterns)
     × (sets out₀ at (map startNumber starts) ≡ sets out (at + j) (drop j (map startNumber starts)))
 
 abbrev μ-loop : tie.MeasureT-loop
-μ-loop out₀ at starts j₀ out j = patternsMost - j
+μ-loop out₀ at starts j₀ out j = maxPatterns - j
 
 loop-holds : tie.Need-loop-holds Inv-loop μ-loop
 loop-holds c = (refl, omega arith, stores-none (c .before .args .out .now) (c .before .args .at) (map startNumber (c .before .args .t3)))
@@ -50,7 +50,7 @@ loop-again : tie.Need-loop-again Inv-loop μ-loop
 loop-again c =
     let x = c .before .before .before .before .before .args in
     let l = c .before .before .before .loop in
-    let n : length (x .t3) ≡ patternsMost = omega arith in
+    let n : length (x .t3) ≡ maxPatterns = omega arith in
     let stored = stores-start (l .out) (x .at) (x .t3) (l .j) (c .start-number .result) (omega arith) (c .start-number .ensures) in
     (length-set (l .out) _ _ ∙ l .inv .0, omega arith, l .inv .2 ∙ stored)
 
@@ -61,7 +61,7 @@ returns : tie.Need-returns Inv-loop μ-loop
 returns c =
     let x = c .before .before .before .args in
     let l = c .before .loop in
-    let n : length (x .t3) ≡ patternsMost = omega arith in
+    let n : length (x .t3) ≡ maxPatterns = omega arith in
     sym (l .inv .2 ∙ stores-all (l .out) (x .at) (map startNumber (x .t3)) (l .j) (omega (arith, n, length-map (x .t3) startNumber)))
 
 pub put-starts-spec : {M : Type 1} → statement M

@@ -1,7 +1,7 @@
 -- Scanning goes from piece to piece to the end of the option, and no bytes are stored.
 use mathlib.Core.Path.{refl}
 use mathlib.Core.List.{[]}
-use Rattle.read_value.specs.Values.{roomOf, entryOf}
+use Rattle.read_value.specs.Values.{patternBytesOf, optionValueOf}
 use Rattle.scan_cursors.proofs.Readings.{made-reads, pair-reads}
 use Rattle.read_options.proofs.Closing.{valued-reads}
 use Rattle.read_stored.proofs.Rooms.{appended-none}
@@ -23,7 +23,7 @@ then-closing-requires : tie.Need-then-closing-requires
 then-closing-requires c κs = search needs
 
 returns : tie.Need-returns
-unfolding entryOf
+unfolding optionValueOf
 returns c =
     let k = c .before in
     let l = k .before in
@@ -39,7 +39,7 @@ returns c =
       b = [];
       reads = rw (q .1 .counted) r;
       kept = q .1 .kept;
-      stored = appended-none (roomOf bytes _);
+      stored = appended-none (patternBytesOf bytes _);
       apart = λ n e. (q .1 .counted, refl);
       grown = λ n e. grown-none refl h r n e;
     }

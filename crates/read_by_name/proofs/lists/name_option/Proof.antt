@@ -1,10 +1,10 @@
 -- Scanning goes from piece to piece to the end of the option, and no bytes are stored.
 use mathlib.Core.Path.{refl}
 use mathlib.Core.List.{[]}
-use Rattle.read_value.specs.Values.{roomOf, entryOf}
+use Rattle.read_value.specs.Values.{patternBytesOf, optionValueOf}
 use Rattle.read_value.specs.declared.Value.the-variants.{Name}
 use Rattle.definitions.specs.Forms.{nameForm}
-use Rattle.scan_cursors.specs.declared.Cursor.the-variants.{Going}
+use Rattle.scan_cursors.specs.declared.Cursor.the-variants.{Parsed}
 use Rattle.scan_cursors.specs.Reads.{Reads}
 use Rattle.scan_cursors.proofs.Readings.{made-reads}
 use Rattle.scan_cursors.proofs.Onward.{came-going}
@@ -28,14 +28,14 @@ then-closing-requires : tie.Need-then-closing-requires
 then-closing-requires c κs = search needs
 
 returns : tie.Need-returns
-unfolding entryOf
+unfolding optionValueOf
 returns c =
     let n = c .before in
     let g = n .before in
     let f = g .before .before .before in
-    let v = entryOf (f .args .s .now) (Name (n .then-name .result .from) (n .then-name .result .len)) [] [] in
+    let v = optionValueOf (f .args .s .now) (Name (n .then-name .result .from) (n .then-name .result .len)) [] [] in
     let q = n .then-name .ensures in
-    let r : Reads nameForm (f .args .s .now) (Going (f .args .at)) v (c .then-closing .result) =
+    let r : Reads nameForm (f .args .s .now) (Parsed (f .args .at)) v (c .then-closing .result) =
     valued-reads (f .pre) (g .gap-at .ensures) (made-reads _ (q .read)) (c .then-closing .ensures) in
     λ bytes.
     record {
@@ -43,7 +43,7 @@ returns c =
       b = [];
       reads = r;
       kept = g .before .no-addresses .ensures;
-      stored = appended-none (roomOf bytes _);
+      stored = appended-none (patternBytesOf bytes _);
       apart = λ k e. let m = came-going (c .then-closing .ensures .1) e in (q .low (m .0) (m .1), q .high (m .0) (m .1), q .inside, refl, refl);
       grown = λ k e. grown-none refl (f .pre) r k e;
     }

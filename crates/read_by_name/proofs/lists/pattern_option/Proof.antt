@@ -1,10 +1,10 @@
 -- Scanning goes from piece to piece to the end of the option; the bytes stored are the pattern's, and no more of them than the text has bytes.
 use mathlib.Core.Path.{refl}
 use mathlib.Core.List.{[]}
-use Rattle.read_value.specs.Values.{entryOf}
+use Rattle.read_value.specs.Values.{optionValueOf}
 use Rattle.scan_cursors.proofs.Readings.{made-reads, pair-reads}
 use Rattle.read_options.proofs.Closing.{valued-reads}
-use Rattle.read_stored.proofs.Rooms.{ready-on, stored-behind, stored-before}
+use Rattle.read_stored.proofs.Rooms.{ready-on, stored-after, stored-before}
 use borrow.Author.Needs.{needs}
 use Rattle.read_by_name.proofs.lists.pattern_option.Statement.{statement}
 use Rattle.read_by_name.proofs.lists.pattern_option.Tie as tie
@@ -23,7 +23,7 @@ then-pattern-requires c κs =
     let m = c .before in
     let g = m .before in
     let p = g .before .before .before .before .pre in
-    ready-on refl (ready-on refl (record { inside = p .0; short = p .1; behind = p .2; full = p .3 }) (g .gap-at .ensures .1))
+    ready-on refl (ready-on refl (record { inside = p .0; short = p .1; after = p .2; full = p .3 }) (g .gap-at .ensures .1))
     (m .then-optional-literal .ensures)
 
 then-closing-requires : tie.Need-then-closing-requires
@@ -33,7 +33,7 @@ same-length : tie.Need-same-length
 same-length c = search needs
 
 returns : tie.Need-returns
-unfolding entryOf
+unfolding optionValueOf
 returns c =
     let p = c .before .before .before in
     let m = p .before .before in
@@ -43,7 +43,7 @@ returns c =
     let gap = g .gap-at .ensures in
     let mark = m .then-optional-literal .ensures in
     let end = c .then-closing .ensures in
-    let all = stored-behind refl h (gap .1) (stored-behind refl (gap .1 .inside) mark (stored-before refl (mark .inside) (q .1 .stored) (end .1))) in
+    let all = stored-after refl h (gap .1) (stored-after refl (gap .1 .inside) mark (stored-before refl (mark .inside) (q .1 .stored) (end .1))) in
     let v = made-reads _ (pair-reads (gap .1 .inside) mark (q .1 .stored .read)) in
     record {
       al = [];

@@ -1,4 +1,4 @@
-use Rattle.read_value.specs.Values.{entryOf}
+use Rattle.read_value.specs.Values.{optionValueOf}
 use Rattle.scan_cursors.proofs.Readings.{made-reads}
 use Rattle.read_options.proofs.Closing.{valued-reads}
 use borrow.Author.Needs.{needs}
@@ -15,7 +15,7 @@ then-closing-requires : tie.Need-then-closing-requires
 then-closing-requires c κs = search needs
 
 returns : tie.Need-returns
-unfolding entryOf
+unfolding optionValueOf
 returns c =
     let f = c .before in
     let g = f .before in

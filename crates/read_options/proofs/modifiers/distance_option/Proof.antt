@@ -1,5 +1,5 @@
 use Rattle.read_options.proofs.Negation.{signed-kept}
-use Rattle.read_value.specs.Values.{entryOf}
+use Rattle.read_value.specs.Values.{optionValueOf}
 use Rattle.scan_cursors.proofs.Readings.{made-reads, pair-reads}
 use Rattle.read_options.proofs.Closing.{valued-reads}
 use borrow.Author.Needs.{needs}
@@ -25,7 +25,7 @@ signed-of-requires : tie.Need-signed-of-requires
 signed-of-requires c κs = search needs
 
 returns : tie.Need-returns
-unfolding entryOf
+unfolding optionValueOf
 returns c =
     let k = c .before in
     let r = k .before in

@@ -1,4 +1,4 @@
-use Rattle.read_value.specs.Values.{entryOf}
+use Rattle.read_value.specs.Values.{optionValueOf}
 use Rattle.scan_cursors.proofs.Readings.{made-reads, pair-reads}
 use Rattle.read_options.proofs.Closing.{valued-reads}
 use borrow.Author.Needs.{needs}
@@ -21,7 +21,7 @@ cast-number : tie.Need-cast-number
 cast-number c = search needs
 
 returns : tie.Need-returns
-unfolding entryOf
+unfolding optionValueOf
 returns c =
     let k = c .before in
     let m = k .before in

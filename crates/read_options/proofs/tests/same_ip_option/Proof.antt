@@ -1,4 +1,4 @@
-use Rattle.read_value.specs.Values.{entryOf}
+use Rattle.read_value.specs.Values.{optionValueOf}
 use Rattle.read_options.proofs.Closing.{bare-reads}
 use borrow.Author.Needs.{needs}
 use Rattle.read_options.proofs.tests.same_ip_option.Statement.{statement}
@@ -8,7 +8,7 @@ closing-at-requires : tie.Need-closing-at-requires
 closing-at-requires c κs = search needs
 
 returns : tie.Need-returns
-unfolding entryOf
+unfolding optionValueOf
 returns c = (bare-reads _ (c .before .before .pre) (c .closing-at .ensures), tt)
 
 pub same-ip-option-spec : {M : Type 1} → statement M

@@ -4,14 +4,14 @@ use borrow.Author.Needs.{needs}
 use Prim.Native.Nat.{_-_}
 use lib.ListN.{length}
 use borrow.Author.Tests.{not-true, not-false}
-use Rattle.read_value.specs.Values.{roomOf}
+use Rattle.read_value.specs.Values.{patternBytesOf}
 use Rattle.read_stored.proofs.Rooms.{stores-same, Writes, writes-start}
 use Rattle.read_stored.proofs.Bytes.{pairWriting, pairs-halt, pair-end, pair-room, pairs-less, pairs-on, pairs-last}
 use Rattle.read_stored.proofs.pattern_blocks.pairs_at.Statement.{statement}
 use Rattle.read_stored.proofs.pattern_blocks.pairs_at.Tie as tie
 
 abbrev Inv-loop : tie.InvT-loop
-Inv-loop s at bytes₀ used here₀ to₀ bytes here to = Writes pairWriting s at (roomOf bytes₀ used) here (roomOf bytes to)
+Inv-loop s at bytes₀ used here₀ to₀ bytes here to = Writes pairWriting s at (patternBytesOf bytes₀ used) here (patternBytesOf bytes to)
 
 abbrev μ-loop : tie.MeasureT-loop
 μ-loop s at bytes₀ used here₀ to₀ bytes here to = length s - here

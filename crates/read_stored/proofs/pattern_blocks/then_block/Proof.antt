@@ -1,6 +1,6 @@
 -- The bar and spaces before the pairs and the bar behind them store nothing.
 use mathlib.Core.Path.{refl}
-use Rattle.read_stored.proofs.Rooms.{ready-on, stored-behind, stored-before}
+use Rattle.read_stored.proofs.Rooms.{ready-on, stored-after, stored-before}
 use borrow.Author.Needs.{needs}
 use Rattle.read_stored.proofs.pattern_blocks.then_block.Statement.{statement}
 use Rattle.read_stored.proofs.pattern_blocks.then_block.Tie as tie
@@ -32,7 +32,7 @@ returns c =
     let gap = g .then-spaces .ensures .1 in
     let q = p .then-pairs .ensures in
     let pairs = stored-before refl (gap .inside) (q .1) (c .then-literal2 .ensures) in
-    (q .0, stored-behind refl (l .before .before .before .pre .inside) bar (stored-behind refl (bar .inside) gap pairs))
+    (q .0, stored-after refl (l .before .before .before .pre .inside) bar (stored-after refl (bar .inside) gap pairs))
 
 pub then-block-spec : {M : Type 1} → statement M
 then-block-spec =

@@ -1,8 +1,8 @@
 -- The quotes around the bytes store nothing, and the bytes are as many as are in use more than before.
 use mathlib.Core.Path.{refl, ap}
 use native.Mathlib.Omega.{arith}
-use Rattle.read_value.specs.Values.{Room}
-use Rattle.read_stored.proofs.Rooms.{ready-on, stored-behind, stored-before}
+use Rattle.read_value.specs.Values.{PatternBytes}
+use Rattle.read_stored.proofs.Rooms.{ready-on, stored-after, stored-before}
 use borrow.Author.Needs.{needs}
 use Rattle.read_stored.proofs.patterns.then_pattern.Statement.{statement}
 use Rattle.read_stored.proofs.patterns.then_pattern.Tie as tie
@@ -21,7 +21,7 @@ then-literal-requires-2 c κs = search needs
 sub-t12 : tie.Need-sub-t12
 sub-t12 c =
     let q = c .before .before .before .then-bytes .ensures in
-    omega (arith, ap (λ (m : Room). m .used) (q .1 .kept))
+    omega (arith, ap (λ (m : PatternBytes). m .used) (q .1 .kept))
 
 same-length : tie.Need-same-length
 same-length c = search needs
@@ -35,8 +35,8 @@ returns c =
     let bytes = stored-before refl (quote .inside) (q .1) (c .then-literal2 .ensures) in (
       q .0,
       record {
-        stored = stored-behind refl (l .before .before .before .pre .inside) quote bytes;
-        counted = omega (arith, ap (λ (m : Room). m .used) (q .1 .kept));
+        stored = stored-after refl (l .before .before .before .pre .inside) quote bytes;
+        counted = omega (arith, ap (λ (m : PatternBytes). m .used) (q .1 .kept));
       },
     )
 

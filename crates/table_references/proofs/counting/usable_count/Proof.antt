@@ -4,7 +4,7 @@ use Prim.Native.Nat.{_+_, _-_, _≤_}
 use native.Mathlib.Omega.{arith}
 use borrow.Author.Needs.{needs}
 use lib.ListN.{length, take, drop}
-use Rattle.definitions.specs.declared.packet.Last.the-variants.{Nothing}
+use Rattle.definitions.specs.declared.packet.LastMatch.the-variants.{None}
 use Rattle.definitions.specs.References.{usableRun}
 use Rattle.definitions.specs.Items.{patternsOf}
 use Rattle.table_references.specs.Counting.{toCome}
@@ -13,7 +13,7 @@ use Rattle.table_references.proofs.counting.usable_count.Statement.{sta
 use Rattle.table_references.proofs.counting.usable_count.Tie as tie
 
 abbrev Inv-loop : tie.InvT-loop
-Inv-loop count items run₀ i₀ run i = (i ≤ count) × (run .count ≤ i) × (toCome run (drop i (take count items)) ≡ usableRun Nothing (patternsOf (take count items)))
+Inv-loop count items run₀ i₀ run i = (i ≤ count) × (run .count ≤ i) × (toCome run (drop i (take count items)) ≡ usableRun None (patternsOf (take count items)))
 
 abbrev μ-loop : tie.MeasureT-loop
 μ-loop count items run₀ i₀ run i = count - i

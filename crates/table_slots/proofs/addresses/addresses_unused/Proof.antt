@@ -5,7 +5,7 @@ use native.Mathlib.Omega.{arith}
 use lib.ListN.{length, drop}
 use borrow.Author.Tests.{not-true, not-false}
 use borrow.Author.Needs.{needs}
-use Rattle.definitions.specs.Limits.{addressesMost}
+use Rattle.definitions.specs.Limits.{maxAddresses}
 use Rattle.definitions.specs.Lists.{all?}
 use Rattle.definitions.specs.WellFormed.{addressUnused}
 use Rattle.list_laws.proofs.Every.{rest-on, rest-not, rest-out}
@@ -16,7 +16,7 @@ abbrev Inv-loop : tie.InvT-loop
 Inv-loop from list i₀ i = all? addressUnused (drop from list) ≡ all? addressUnused (drop i list)
 
 abbrev μ-loop : tie.MeasureT-loop
-μ-loop from list i₀ i = addressesMost - i
+μ-loop from list i₀ i = maxAddresses - i
 
 loop-holds : tie.Need-loop-holds Inv-loop μ-loop
 loop-holds c = refl

@@ -3,7 +3,7 @@ use Prim.Native.Nat.{_≤_}
 use native.Mathlib.Omega.{arith}
 use borrow.Author.Tests.{le-leb}
 use borrow.Author.Needs.{needs}
-use Rattle.definitions.specs.Limits.{byteMost, wordMost}
+use Rattle.definitions.specs.Limits.{maxByte, maxWord}
 use Rattle.definitions.specs.WellFormed.{itemFits}
 use Rattle.table_slots.proofs.items.item_fits.Statement.{statement}
 use Rattle.table_slots.proofs.items.item_fits.Tie as tie
@@ -68,8 +68,8 @@ unfolding itemFits
 returns-5 c =
     let t = c .enum-told3 .given .0 .0 in
     let g = rw (c .enum-told3 .given .1) at (c .before .before .good .0 .1 .1) in
-    let small : t .number ≤ byteMost = omega (arith, g) in
-    rw (c .enum-told3 .given .1, le-leb (t .number) byteMost small)
+    let small : t .number ≤ maxByte = omega (arith, g) in
+    rw (c .enum-told3 .given .1, le-leb (t .number) maxByte small)
 
 returns-6 : tie.Need-returns-6
 unfolding itemFits
@@ -80,16 +80,16 @@ unfolding itemFits
 returns-7 c =
     let t = c .enum-told4 .given .0 .0 in
     let g = rw (c .enum-told4 .given .1) at (c .before .before .good .0 .1 .1) in
-    let small : t .number ≤ wordMost = omega (arith, g) in
-    rw (c .enum-told4 .given .1, le-leb (t .number) wordMost small)
+    let small : t .number ≤ maxWord = omega (arith, g) in
+    rw (c .enum-told4 .given .1, le-leb (t .number) maxWord small)
 
 returns-8 : tie.Need-returns-8
 unfolding itemFits
 returns-8 c =
     let t = c .enum-told5 .given .0 .0 in
     let g = rw (c .enum-told5 .given .1) at (c .before .before .good .0 .1 .1) in
-    let small : t .number ≤ wordMost = omega (arith, g) in
-    rw (c .enum-told5 .given .1, le-leb (t .number) wordMost small)
+    let small : t .number ≤ maxWord = omega (arith, g) in
+    rw (c .enum-told5 .given .1, le-leb (t .number) maxWord small)
 
 returns-9 : tie.Need-returns-9
 unfolding itemFits

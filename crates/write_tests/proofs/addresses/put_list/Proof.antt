@@ -5,7 +5,7 @@ use Prim.Native.Nat.{_+_, _-_, _≤_}
 use native.Mathlib.Omega.{arith}
 use lib.ListN.{length, take, drop, getD}
 use Rattle.definitions.specs.declared.table.Address.{Address}
-use Rattle.definitions.specs.House.{addressText, addressesText}
+use Rattle.definitions.specs.Canonical.{addressText, addressesText}
 use Rattle.write_bytes.specs.Puts.{puts}
 use Rattle.write_bytes.proofs.Putting.{onward, same-length as same}
 use Rattle.write_tests.proofs.AddressLists.{listFrom, list-is, list-on, list-end}

@@ -1,0 +1,28 @@
+-- The model of a list of asks. Section "Meaning", its last paragraph.
+use mathlib.Core.List.{List, [], _∷_, map}
+use Prim.Native.Nat.{ℕ}
+use Rattle.definitions.specs.declared.table.Table.{Table}
+use Rattle.definitions.specs.declared.packet.Direction.{Direction}
+use Rattle.definitions.specs.declared.packet.FieldMap.{FieldMap}
+use Rattle.definitions.specs.declared.packet.Placement.{Placement}
+use Rattle.definitions.specs.declared.answers.Answer.{Answer}
+use Rattle.definitions.specs.declared.answers.Query.{Query}
+use Rattle.definitions.specs.declared.answers.Query.the-variants.{First, Next}
+use Rattle.definitions.specs.Starts.{startNumber}
+use Rattle.definitions.specs.Refusals.{foundNumber, foundOne}
+use Rattle.definitions.specs.Answers.{firstAnswer, nextAnswer}
+
+-- an answer's refusal number, found or none, count, starts and unused room, as numbers
+abbrev pub answerNumbers : Answer → List ℕ
+answerNumbers a = foundNumber (a .found) ∷ foundOne (a .found) ∷ a .placement .count ∷ map startNumber (a .placement .starts)
+
+module _ (t : Table) (p decoded : List ℕ) (dir : Direction) (m : FieldMap) where
+  -- the model holds the placement h, at the start any numbers
+  abbrev pub answerTo : Placement → Query → Answer
+  answerTo h First = firstAnswer t p decoded dir m
+  answerTo h Next = nextAnswer t p decoded dir m h
+
+  -- then it holds the answer's placement
+  unfoldable pub answers : Placement → List Query → List Answer
+  answers h [] = []
+  answers h (a ∷ rest) = answerTo h a ∷ answers (answerTo h a .placement) rest
