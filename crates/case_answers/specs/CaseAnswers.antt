@@ -17,7 +17,7 @@ use Rattle.definitions.specs.Canonical.{decimal}
 use Rattle.definitions.specs.Answers.{inputCheck, placementsOf, firstAnswer, nextAnswer}
 use Rattle.case_columns.specs.Queries.{Query, all, first, next}
 use Rattle.case_lists.specs.AnswerTexts.{listText, checkText, answerText}
-use Rattle.case_answers.specs.CaseLines.{isCase, Case, caseOf}
+use Rattle.case_answers.specs.CaseLines.{isCase, CaseLine, caseOf}
 
 -- a text's refusal with its place
 abbrev pub unreadText : Refusal → ℕ → List ℕ
@@ -37,7 +37,7 @@ module _ (p decoded : List ℕ) (dir : Direction) (m : FieldMap) where
   abbrev pub readingText : Reading → Query → List ℕ
   readingText r a = outcomeText (r .outcome) (r .table) a
 
-abbrev pub formedText : Case → List ℕ
+abbrev pub formedText : CaseLine → List ℕ
 formedText c = readingText (c .packet) (c .decoded) (c .direction) (c .fields) (read documentLimits (c .source)) (c .query)
 
 unfoldable pub caseAnswer : List ℕ → List ℕ

@@ -28,7 +28,7 @@ isCase l =
     leb (length l) maxLine && (contains 9 (afterParts 9 4 l)
     && (isDirection (column 0 l) && (isHex (column 1 l) && (isMap (column 2 l) && (isHex (column 3 l) && isQuery (column 4 l))))))
 
-pub record Case : Type 0 where
+pub record CaseLine : Type 0 where
   pub direction : Direction
   pub packet : List ℕ
   pub fields : FieldMap
@@ -36,7 +36,7 @@ pub record Case : Type 0 where
   pub query : Query
   pub source : List ℕ
 
-unfoldable pub caseOf : List ℕ → Case
+unfoldable pub caseOf : List ℕ → CaseLine
 caseOf l =
     record {
       direction = directionOf (column 0 l);

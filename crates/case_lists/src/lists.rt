@@ -18,7 +18,7 @@ use definitions::packet::FieldMap;
 use definitions::packet::PacketHeader;
 use definitions::packet::Start;
 use definitions::table::Table;
-use match_checks::cleared;
+use match_checks::check_input;
 use match_placements::first_in;
 use packet::payload_of;
 use search::find;
@@ -101,7 +101,7 @@ pub fn put_list<'a>(
 ) -> usize
     ensures { λ r. ⌜ Puts (now (out .entry)) at (checkText (inputCheck t (now (p .entry)) (now (decoded .entry)) dir m) (listText (placementsOf t (now (p .entry)) (now (decoded .entry)) dir m))) (now (out .exit)) r ⌝ }
 {
-    let seen = cleared(t, p, decoded);
+    let seen = check_input(t, p, decoded);
     match seen {
         PacketAnswer::Refused(r) => put_refused(out, at, r),
         PacketAnswer::Seen(header) => {

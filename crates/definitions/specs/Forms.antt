@@ -182,12 +182,12 @@ block = preceded (literal 124) (preceded spaces (terminated (some (terminated he
 abbrev pub plainBytes : Class
 plainBytes = (32, 33) ∷ (35, 57) ∷ (60, 91) ∷ (93, 123) ∷ (125, 126) ∷ []
 
-abbrev pub joined : List (List ℕ) → List ℕ
-joined [] = []
-joined (x ∷ xs) = x ++ joined xs
+abbrev pub concatenated : List (List ℕ) → List ℕ
+concatenated [] = []
+concatenated (x ∷ xs) = x ++ concatenated xs
 
 abbrev pub patternBytes : Form (List ℕ)
-patternBytes = fmap joined (some (or (fmap (λ (b : ℕ). b ∷ []) (byte plainBytes)) block))
+patternBytes = fmap concatenated (some (or (fmap (λ (b : ℕ). b ∷ []) (byte plainBytes)) block))
 
 -- pattern: optional `!`, then at least one byte in `"`
 abbrev pub patternForm : Form OptionValue

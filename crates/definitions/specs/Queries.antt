@@ -18,11 +18,11 @@ answerNumbers a = foundNumber (a .found) ∷ foundOne (a .found) ∷ a .placemen
 
 module _ (t : Table) (p decoded : List ℕ) (dir : Direction) (m : FieldMap) where
   -- the model holds the placement h, at the start any numbers
-  abbrev pub answerTo : Placement → Query → Answer
-  answerTo h First = firstAnswer t p decoded dir m
-  answerTo h Next = nextAnswer t p decoded dir m h
+  abbrev pub queryAnswer : Placement → Query → Answer
+  queryAnswer h First = firstAnswer t p decoded dir m
+  queryAnswer h Next = nextAnswer t p decoded dir m h
 
   -- then it holds the answer's placement
   unfoldable pub answers : Placement → List Query → List Answer
   answers h [] = []
-  answers h (a ∷ rest) = answerTo h a ∷ answers (answerTo h a .placement) rest
+  answers h (a ∷ rest) = queryAnswer h a ∷ answers (queryAnswer h a .placement) rest

@@ -23,5 +23,5 @@ chosen payload decoded Decoded = decoded
 abbrev pub ownBuffer : {A : Type 0} → A → A → Context → A
 ownBuffer payload decoded c = chosen payload decoded (bufferNamed c)
 
-abbrev pub placeOf : List ℕ → FieldMap → Context → Place
-placeOf payload m c = record { buffer = bufferNamed c; span = spanOf payload m c }
+abbrev pub fieldPlace : List ℕ → FieldMap → Context → Place
+fieldPlace payload m c = record { buffer = bufferNamed c; span = spanOf payload m c }

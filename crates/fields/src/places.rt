@@ -5,7 +5,7 @@ ghost use Prim.Native.Nat.{ℕ};
 ghost use lib.ListN.{length};
 ghost use Rattle.definitions.specs.Fields.{passes, shown};
 ghost use Rattle.field_parts.specs.Parts.{PartOf};
-ghost use Rattle.fields.specs.Places.{chosen, placeOf};
+ghost use Rattle.fields.specs.Places.{chosen, fieldPlace};
 use definitions::packet::FieldMap;
 use definitions::packet::FieldSpan;
 use definitions::packet::Span;
@@ -33,7 +33,7 @@ fn lies_in(buffer: Buffer, span: FieldSpan) -> Place
 
 // The place of a context's field beside a payload of so many bytes.
 pub fn place_of(len: usize, m: FieldMap, c: Context) -> Place
-    ensures { λ r. ⌜ ((payload : List ℕ) → length payload ≡ len → r ≡ placeOf payload m c) ⌝ }
+    ensures { λ r. ⌜ ((payload : List ℕ) → length payload ≡ len → r ≡ fieldPlace payload m c) ⌝ }
 {
     let uri = m.uri;
     let header = m.header;

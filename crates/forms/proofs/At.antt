@@ -11,7 +11,7 @@ use Rattle.forms.proofs.Bools.{by-cases}
 use Rattle.forms.specs.Form.{Class, has, Form, pure, byte, pair, alt, many, fmap, bound}
 use Rattle.forms.specs.Scan.{Scan, Got, Stop, onGot, nullable, firstSet, begins, scan, onward, over}
 use Rattle.forms.specs.Pieces.{preceded, terminated}
-use Rattle.forms.specs.Place.{Read, Parsed, OutOfRange, Failed, within, placed, readAt, mapped, farther, both-read, bounded}
+use Rattle.forms.specs.Place.{Read, Parsed, OutOfRange, Failed, within, placed, readAt, mapRead, farther, both-read, bounded}
 use Rattle.forms.proofs.Sound.{sound-loose}
 use Rattle.forms.proofs.Places.{star-unroll, star-over}
 
@@ -47,12 +47,12 @@ pub pair-at : {A B : Type 0} (f : Form A) (g : Form B) (s : List ℕ) (i : ℕ) 
 unfolding readAt scan over
 pair-at {A} {B} f g s i h = join-two (λ (x : A) (y : B). (x, y)) f g s i h (scan f (drop i s)) refl
 
-map-one : {A B : Type 0} (h : A → B) (s : List ℕ) (o : List (List ℕ)) (r : Scan A) → placed s o (onGot r (λ a t. Got (h a) t)) ≡ mapped h (placed s o r)
+map-one : {A B : Type 0} (h : A → B) (s : List ℕ) (o : List (List ℕ)) (r : Scan A) → placed s o (onGot r (λ a t. Got (h a) t)) ≡ mapRead h (placed s o r)
 map-one h s [] (Got a r) = refl
 map-one h s (x ∷ o) (Got a r) = refl
 map-one h s o (Stop r) = refl
 
-pub made-at : {A B : Type 0} (h : A → B) (f : Form A) (s : List ℕ) (i : ℕ) → readAt (fmap h f) s i ≡ mapped h (readAt f s i)
+pub made-at : {A B : Type 0} (h : A → B) (f : Form A) (s : List ℕ) (i : ℕ) → readAt (fmap h f) s i ≡ mapRead h (readAt f s i)
 unfolding readAt scan over
 made-at h f s i = map-one h s (over f (drop i s)) (scan f (drop i s))
 
@@ -84,16 +84,16 @@ pub byte-end : (c : Class) (s : List ℕ) → readAt (byte c) s (length s) ≡ F
 unfolding readAt scan over
 byte-end c s = rw (drop-of-length-le s {i = length s} (omega arith)) (let e : length s - 0 ≡ length s = omega arith in ap Failed e)
 
-pub mapped-both : {A B C : Type 0} (h : A × B → C) (r : Read A) (k : ℕ → Read B) → mapped h (both-read (λ (x : A) (y : B). (x, y)) r k) ≡ both-read (λ (x : A) (y : B). h (x, y)) r k
+pub mapped-both : {A B C : Type 0} (h : A × B → C) (r : Read A) (k : ℕ → Read B) → mapRead h (both-read (λ (x : A) (y : B). (x, y)) r k) ≡ both-read (λ (x : A) (y : B). h (x, y)) r k
 mapped-both {A} {B} {C} h (Parsed a n) k = by (k n)
   where
-    by : (r : Read B) → mapped h (mapped (λ (y : B). (a, y)) r) ≡ mapped (λ (y : B). h (a, y)) r
+    by : (r : Read B) → mapRead h (mapRead (λ (y : B). (a, y)) r) ≡ mapRead (λ (y : B). h (a, y)) r
     by (Parsed b m) = refl
     by (OutOfRange p m) = refl
     by (Failed p) = refl
 mapped-both {A} {B} {C} h (OutOfRange p n) k = by (k n)
   where
-    by : (r : Read B) → mapped h (farther {B = A × B} p r) ≡ farther p r
+    by : (r : Read B) → mapRead h (farther {B = A × B} p r) ≡ farther p r
     by (Parsed b m) = refl
     by (OutOfRange q m) = refl
     by (Failed q) = refl
@@ -101,10 +101,10 @@ mapped-both h (Failed p) k = refl
 
 module _ {A B : Type 0} (f : Form A) (g : Form B) (s : List ℕ) (i : ℕ) (h : i ≤ length s) where
   pub skip-at : readAt (preceded f g) s i ≡ both-read (λ (x : A) (y : B). y) (readAt f s i) (λ n. readAt g s n)
-  skip-at = made-at (λ (p : A × B). p .1) (pair f g) s i ∙ ap (mapped (λ (p : A × B). p .1)) (pair-at f g s i h) ∙ mapped-both (λ (p : A × B). p .1) (readAt f s i) (λ n. readAt g s n)
+  skip-at = made-at (λ (p : A × B). p .1) (pair f g) s i ∙ ap (mapRead (λ (p : A × B). p .1)) (pair-at f g s i h) ∙ mapped-both (λ (p : A × B). p .1) (readAt f s i) (λ n. readAt g s n)
 
   pub before-at : readAt (terminated f g) s i ≡ both-read (λ (x : A) (y : B). x) (readAt f s i) (λ n. readAt g s n)
-  before-at = made-at (λ (p : A × B). p .0) (pair f g) s i ∙ ap (mapped (λ (p : A × B). p .0)) (pair-at f g s i h) ∙ mapped-both (λ (p : A × B). p .0) (readAt f s i) (λ n. readAt g s n)
+  before-at = made-at (λ (p : A × B). p .0) (pair f g) s i ∙ ap (mapRead (λ (p : A × B). p .0)) (pair-at f g s i h) ∙ mapped-both (λ (p : A × B). p .0) (readAt f s i) (λ n. readAt g s n)
 
 -- one more, or none
 pub star-at : {A : Type 0} (f : Form A) → not (nullable f) ≡ true → (s : List ℕ) (i : ℕ) → i ≤ length s → readAt (many f) s i ≡ (if begins (firstSet f) (drop i s) then (both-read (λ (x : A) (xs : List A). x ∷ xs) (readAt f s i) (λ n. readAt (many f) s n)) else (Parsed [] i))

@@ -27,10 +27,10 @@ readAt f s at = placed s (over f (drop at s)) (scan f (drop at s))
 
 -- ---- how readings go together
 
-abbrev pub mapped : {A B : Type 0} → (A → B) → Read A → Read B
-mapped h (Parsed a n) = Parsed (h a) n
-mapped h (OutOfRange p n) = OutOfRange p n
-mapped h (Failed p) = Failed p
+abbrev pub mapRead : {A B : Type 0} → (A → B) → Read A → Read B
+mapRead h (Parsed a n) = Parsed (h a) n
+mapRead h (OutOfRange p n) = OutOfRange p n
+mapRead h (Failed p) = Failed p
 
 abbrev pub farther : {A B : Type 0} → ℕ → Read A → Read B
 farther p (Parsed a n) = OutOfRange p n
@@ -39,7 +39,7 @@ farther p (Failed q) = Failed q
 
 -- the one, and from behind it the other
 abbrev pub both-read : {A B C : Type 0} → (A → B → C) → Read A → (ℕ → Read B) → Read C
-both-read h (Parsed a n) k = mapped (h a) (k n)
+both-read h (Parsed a n) k = mapRead (h a) (k n)
 both-read h (OutOfRange p n) k = farther p (k n)
 both-read h (Failed p) k = Failed p
 

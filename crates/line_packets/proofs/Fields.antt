@@ -20,7 +20,7 @@ use Rattle.line_packets.specs.declared.field_maps.SpanResult.{SpanResult
 use Rattle.line_packets.specs.declared.field_maps.SpanResult.the-variants as span
 use Rattle.line_packets.specs.declared.field_maps.MapResult.{MapResult}
 use Rattle.line_packets.specs.declared.field_maps.MapResult.the-variants.{Parsed, Failed}
-use Rattle.line_packets.specs.FieldMaps.{fieldNamed, noFields, withField, isSpan, spanOf, isField, insertField, areFields, mapFrom, isMap, mapOf}
+use Rattle.line_packets.specs.FieldMaps.{fieldNamed, noFields, withField, isSpan, lineSpan, isField, insertField, areFields, mapFrom, isMap, mapOf}
 use Rattle.line_packets.specs.FieldMaps.{parsedSpan, parsedField, parsedFields, parsedMap}
 use Rattle.line_packets.proofs.Spans.{failed-span, parsed-span, span-value}
 
@@ -58,8 +58,8 @@ module _ (m : FieldMap) (e x : List ℕ) (xe : x ≡ partBefore 58 e) (field : C
     pub one-field : (v : Span) → a ≡ span.Parsed v → (after : FieldMap) → after ≡ withField m field (At v) → Parsed after ≡ parsedField m e
     unfolding parsedField insertField
     one-field v t after ae =
-        let value : v ≡ spanOf (partAfter 58 e) = span-value y v (sym p ∙ t) ∙ ap spanOf ye in
-        let whole : after ≡ withField m (fieldNamed (partBefore 58 e)) (At (spanOf (partAfter 58 e))) =
+        let value : v ≡ lineSpan (partAfter 58 e) = span-value y v (sym p ∙ t) ∙ ap lineSpan ye in
+        let whole : after ≡ withField m (fieldNamed (partBefore 58 e)) (At (lineSpan (partAfter 58 e))) =
         ae ∙ ap (λ (c : Context). withField m c (At v)) named ∙ ap (λ (w : Span). withField m (fieldNamed (partBefore 58 e)) (At w)) value in
         rw (now-span ∙ parsed-span y v (sym p ∙ t)) (ap Parsed whole)
 

@@ -13,7 +13,7 @@ use Rattle.line_numbers.specs.declared.decimals.NumberResult.the-variants as nu
 use Rattle.line_numbers.specs.Decimals.{isNumber, parsedNumber}
 use Rattle.line_numbers.proofs.Results.{failed-number, parsed-number, number-value}
 use Rattle.line_packets.specs.declared.field_maps.SpanResult.the-variants.{Parsed, Failed}
-use Rattle.line_packets.specs.FieldMaps.{maxSpan, isSpan, spanOf, parsedSpan}
+use Rattle.line_packets.specs.FieldMaps.{maxSpan, isSpan, lineSpan, parsedSpan}
 
 -- digits of a length stand after a `+`
 span-is : (s : List ℕ) → isSpan s ≡ (isNumber maxSpan (partBefore 43 s) && isNumber maxSpan (partAfter 43 s))
@@ -38,7 +38,7 @@ module _ (s x : List ℕ) (xe : x ≡ partBefore 43 s) (a : NumberResult) (p : a
     no-length f = rw (now-length ∙ failed-number maxSpan y (sym q ∙ f))
 
     pub one-span : (w : ℕ) → b ≡ number.Parsed w → Parsed (record { start = v; len = w }) ≡ parsedSpan s
-    unfolding parsedSpan spanOf
+    unfolding parsedSpan lineSpan
     one-span w u =
         rw (now-length ∙ parsed-number maxSpan y w (sym q ∙ u), number-value maxSpan x v (sym p ∙ t), number-value maxSpan y w (sym q ∙ u), xe, ye)
 
@@ -53,13 +53,13 @@ same v w e = cc
 module _ (s : List ℕ) where
   pub failed-span : parsedSpan s ≡ Failed → isSpan s ≡ false
   unfolding parsedSpan
-  failed-span e = failed-test Parsed Failed apart (isSpan s) (spanOf s) e
+  failed-span e = failed-test Parsed Failed apart (isSpan s) (lineSpan s) e
 
   module _ (v : Span) (e : parsedSpan s ≡ Parsed v) where
     pub parsed-span : isSpan s ≡ true
     unfolding parsedSpan
-    parsed-span = parsed-test Parsed Failed apart (isSpan s) (spanOf s) v e
+    parsed-span = parsed-test Parsed Failed apart (isSpan s) (lineSpan s) v e
 
-    pub span-value : v ≡ spanOf s
+    pub span-value : v ≡ lineSpan s
     unfolding parsedSpan
-    span-value = sym (parsed-value Parsed Failed apart same (isSpan s) (spanOf s) v e)
+    span-value = sym (parsed-value Parsed Failed apart same (isSpan s) (lineSpan s) v e)

@@ -56,22 +56,22 @@ lengthIn s = partAfter 43 s
 unfoldable pub isSpan : List ℕ → Bool
 isSpan s = contains 43 s && (isNumber maxSpan (startIn s) && isNumber maxSpan (lengthIn s))
 
-unfoldable pub spanOf : List ℕ → Span
-spanOf s = record { start = valueOf 10 0 (startIn s); len = valueOf 10 0 (lengthIn s) }
+unfoldable pub lineSpan : List ℕ → Span
+lineSpan s = record { start = valueOf 10 0 (startIn s); len = valueOf 10 0 (lengthIn s) }
 
 -- a field: name, `:`, span
-abbrev pub nameIn : List ℕ → List ℕ
-nameIn e = partBefore 58 e
+abbrev pub fieldNameIn : List ℕ → List ℕ
+fieldNameIn e = partBefore 58 e
 
 abbrev pub spanIn : List ℕ → List ℕ
 spanIn e = partAfter 58 e
 
 -- a field after those that made the map m: it is none of these. The payload is always present
 unfoldable pub isField : FieldMap → List ℕ → Bool
-isField m e = contains 58 e && (not (present m (fieldNamed (nameIn e))) && isSpan (spanIn e))
+isField m e = contains 58 e && (not (present m (fieldNamed (fieldNameIn e))) && isSpan (spanIn e))
 
 unfoldable pub insertField : FieldMap → List ℕ → FieldMap
-insertField m e = withField m (fieldNamed (nameIn e)) (At (spanOf (spanIn e)))
+insertField m e = withField m (fieldNamed (fieldNameIn e)) (At (lineSpan (spanIn e)))
 
 unfoldable pub areFields : FieldMap → List (List ℕ) → Bool
 areFields m [] = true
@@ -90,7 +90,7 @@ mapOf l = if sameBytes l (text "-") then noFields else mapFrom noFields (parts 4
 -- ---- the code's answers
 
 unfoldable pub parsedSpan : List ℕ → SpanResult
-parsedSpan s = if isSpan s then span.Parsed (spanOf s) else span.Failed
+parsedSpan s = if isSpan s then span.Parsed (lineSpan s) else span.Failed
 
 unfoldable pub parsedField : FieldMap → List ℕ → MapResult
 parsedField m e = if isField m e then Parsed (insertField m e) else Failed

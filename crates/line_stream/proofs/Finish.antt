@@ -12,8 +12,8 @@ use Rattle.write_bytes.specs.Puts.{Puts}
 use Rattle.write_bytes.proofs.Putting.{told}
 use Rattle.line_stream.specs.declared.Begun.{Begun}
 use Rattle.line_stream.specs.declared.Feeding.{Feeding}
-use Rattle.line_stream.specs.Stream.{answerTo, lastLine}
-use Rattle.line_stream.specs.Steps.{opening, Lasts}
+use Rattle.line_stream.specs.Stream.{lineAnswer, lastLine}
+use Rattle.line_stream.specs.Steps.{lineOpening, Lasts}
 use Rattle.line_stream.proofs.Room.{line-put}
 
 module _ (answer : List ℕ → List ℕ) where
@@ -21,7 +21,7 @@ module _ (answer : List ℕ → List ℕ) where
   no-line n [] f = refl
   no-line n (b ∷ l) f = absurd (not-suc-le-zero (ltb-false 0 (length (b ∷ l)) f))
 
-  some-line : (n : ℕ) (l : List ℕ) → ltb 0 (length l) ≡ true → lastLine answer n l ≡ answerTo answer n l
+  some-line : (n : ℕ) (l : List ℕ) → ltb 0 (length l) ≡ true → lastLine answer n l ≡ lineAnswer answer n l
   some-line n [] t = absurd (not-suc-le-zero (ltb-true 0 0 t))
   some-line n (b ∷ l) t = refl
 
@@ -29,7 +29,7 @@ module _ (answer : List ℕ → List ℕ) where
     waiting : t .waits ≡ ltb 0 (length (take (b .len) line))
     waiting = ap (λ (x : Feeding). x .waits) (k .is)
 
-    put-so-far : Puts out 0 (opening (t .waits) (b .number)) o (t .at)
+    put-so-far : Puts out 0 (lineOpening (t .waits) (b .number)) o (t .at)
     put-so-far = rw (k .is) (k .opened)
 
     pub none-waits : t .waits ≡ false → Puts out 0 (lastLine answer (b .number) (take (b .len) line)) o (t .at)

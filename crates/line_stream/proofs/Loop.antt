@@ -16,8 +16,8 @@ use Rattle.write_bytes.proofs.Putting.{none-put, same-length}
 use Rattle.write_bytes.proofs.Whole.{placed-front, placed-whole}
 use Rattle.line_stream.specs.declared.Begun.{Begun}
 use Rattle.line_stream.specs.declared.Feeding.{Feeding}
-use Rattle.line_stream.specs.Stream.{State, stateOf, ended, after, hasRoom, answerTo, answerFits, Feeds}
-use Rattle.line_stream.specs.Steps.{lfFrom, lineFrom, opening, Takes, Nexts, turnsLeft}
+use Rattle.line_stream.specs.Stream.{State, lineState, ended, after, hasRoom, lineAnswer, answerFits, Feeds}
+use Rattle.line_stream.specs.Steps.{lfFrom, lineFrom, lineOpening, Takes, Nexts, turnsLeft}
 use Rattle.line_stream.proofs.Room.{line-put, no-room, room-counted, room-within}
 use Rattle.line_stream.proofs.Parts.{line-within, line-lf, line-inside, line-after}
 use Rattle.line_stream.proofs.Keeping.{keeps-length, keeps-partly}
@@ -30,7 +30,7 @@ nothing-put p = ap (λ (q : List ℕ × ℕ). q .0) (p .is)
 module _ (answer : List ℕ → List ℕ) where
   module _ (input line₀ out₀ : List ℕ) (b : Begun) where
     abbrev now : ℕ → State
-    now i = after answer (length line₀) (stateOf b line₀ []) (take i input)
+    now i = after answer (length line₀) (lineState b line₀ []) (take i input)
 
     -- ---- the code is in the program's state after i bytes
 
@@ -39,14 +39,14 @@ module _ (answer : List ℕ → List ℕ) where
       put : place ≤ length out
       same-line : length line ≡ length line₀
       same-out : length out ≡ length out₀
-      is : stateOf g line (take place out) ≡ now i
+      is : lineState g line (take place out) ≡ now i
 
     -- where a line waits, an LF comes, and number and tab were put; where none waits, all was taken, or the answer had no room
 
     record SoFar (line out : List ℕ) (t : Feeding) : Type 0 where
       before : List ℕ
       at : At (t .fed .taken) line before (t .fed .put) (t .fed .begun)
-      opened : Puts before (t .fed .put) (opening (t .waits) (t .fed .begun .number)) out (t .at)
+      opened : Puts before (t .fed .put) (lineOpening (t .waits) (t .fed .begun .number)) out (t .at)
       lf : t .waits ≡ true → (t .fed .taken < length input) × (getD input (t .fed .taken) 0 ≡ 10)
       stops : t .waits ≡ false → t .fed .taken < length input
           → (getD input (t .fed .taken) 0 ≡ 10) × (answerFits answer (now (t .fed .taken)) (t .fed .put) before ≡ false)
@@ -63,7 +63,7 @@ module _ (answer : List ℕ → List ℕ) where
 
       at-end : At end line' out place (record { number = g .number; len = k .len })
       at-end =
-          let st = stateOf g line (take place out) in
+          let st = lineState g line (take place out) in
           record {
             within = line-within input i (s .within);
             put = s .put;
@@ -74,8 +74,8 @@ module _ (answer : List ℕ → List ℕ) where
                 ∙ sym (after-line answer (length line) st (lineFrom input i) (line-inside input i))
                 ∙ ap (λ (n : ℕ). after answer n st (lineFrom input i)) (s .same-line)
                 ∙ ap (λ (x : State). after answer (length line₀) x (lineFrom input i)) (s .is)
-                ∙ sym (after-append answer (length line₀) (stateOf b line₀ []) (take i input) (lineFrom input i))
-                ∙ ap (after answer (length line₀) (stateOf b line₀ [])) (sym (line-after input i));
+                ∙ sym (after-append answer (length line₀) (lineState b line₀ []) (take i input) (lineFrom input i))
+                ∙ ap (after answer (length line₀) (lineState b line₀ [])) (sym (line-after input i));
           }
 
       taken : SoFar line' out' r
@@ -104,14 +104,14 @@ module _ (answer : List ℕ → List ℕ) where
       number-put : Puts (so .before) place (decimal (begun .number) ++ text "\t") out (t .at)
       number-put = rw w at (so .opened)
 
-      answered : Puts (so .before) place (answerTo answer (begun .number) (take (begun .len) line)) (k .ended) (k .place)
+      answered : Puts (so .before) place (lineAnswer answer (begun .number) (take (begun .len) line)) (k .ended) (k .place)
       answered = line-put answer (begun .number) (take (begun .len) line) number-put (rw e at p) (k .puts)
 
       same : length (k .ended) ≡ length (so .before)
       same = same-length answered
 
       at-next : hasRoom (k .place) (length (k .ended)) ≡ true
-          → At (t .fed .taken + 1) line (k .ended) (k .place) (record { number = ended answer (stateOf begun line []) .number; len = 0 })
+          → At (t .fed .taken + 1) line (k .ended) (k .place) (record { number = ended answer (lineState begun line []) .number; len = 0 })
       at-next h =
           let fits : k .place ≤ length (k .ended) = room-within (k .place) (length (k .ended)) h in
           let few = room-counted (k .place) (length (k .ended)) h in
@@ -123,9 +123,9 @@ module _ (answer : List ℕ → List ℕ) where
             same-line = so .at .same-line;
             same-out = same ∙ so .at .same-out;
             is =
-                ap (λ (l : List ℕ). record { number = ended answer (stateOf begun line []) .number; begun = []; written = l }) all
+                ap (λ (l : List ℕ). record { number = ended answer (lineState begun line []) .number; begun = []; written = l }) all
                 ∙ ap (ended answer) (so .at .is)
-                ∙ sym (after-lf answer (length line₀) (stateOf b line₀ []) input (t .fed .taken) (lf .0) (lf .1));
+                ∙ sym (after-lf answer (length line₀) (lineState b line₀ []) input (t .fed .taken) (lf .0) (lf .1));
           }
 
       -- the same state as before: the answer is not counted
@@ -135,7 +135,7 @@ module _ (answer : List ℕ → List ℕ) where
         put = subst (λ (n : ℕ). place ≤ n) (sym same) (so .at .put);
         same-line = so .at .same-line;
         same-out = same ∙ so .at .same-out;
-        is = ap (stateOf begun line) (placed-front (so .before) place answered) ∙ so .at .is;
+        is = ap (lineState begun line) (placed-front (so .before) place answered) ∙ so .at .is;
       }
 
       full : hasRoom (k .place) (length (k .ended)) ≡ false → SoFar line (k .ended) (record { fed = t .fed; at = place; waits = false })

@@ -13,7 +13,7 @@ use Rattle.forms.specs.Bytes.{if_then_else_, text}
 use Rattle.forms.proofs.Bools.{by-cases}
 use Rattle.definitions.specs.Canonical.{decimal}
 use Rattle.definitions.specs.Lines.{lineTexts, linesFrom, outputOver}
-use Rattle.line_stream.specs.Stream.{maxNumber, nextNumber, answerTo, State, byteRead, after, lastLine, start, outputOf}
+use Rattle.line_stream.specs.Stream.{maxLineNumber, nextNumber, lineAnswer, State, byteRead, after, lastLine, start, outputOf}
 use Rattle.line_stream.proofs.Keeping.{first-more}
 
 texts-on : (line : List ℕ) (b : ℕ) (l : List ℕ) → lineTexts line (b ∷ l) ≡ (if eqb b 10 then line ∷ lineTexts [] l else lineTexts (line ++ (b ∷ [])) l)
@@ -23,12 +23,12 @@ texts-on (x ∷ line) b l = refl
 
 -- the next line's number, where 64 bits hold it
 next-is : (n k : ℕ) → n + suc k < 2 ^ 64 → nextNumber n ≡ suc n
-next-is n k h = rw (lt-ltb n maxNumber (omega (arith, h))) (add-one n)
+next-is n k h = rw (lt-ltb n maxLineNumber (omega (arith, h))) (add-one n)
 
 module _ (answer : List ℕ → List ℕ) where
   -- ---- line by line
 
-  lines-on : (n : ℕ) (s : List ℕ) (ss : List (List ℕ)) → linesFrom answer n (s ∷ ss) ≡ answerTo answer n s ++ linesFrom answer (suc n) ss
+  lines-on : (n : ℕ) (s : List ℕ) (ss : List (List ℕ)) → linesFrom answer n (s ∷ ss) ≡ lineAnswer answer n s ++ linesFrom answer (suc n) ss
   unfolding linesFrom
   lines-on n s ss =
       ap (λ (l : List ℕ). decimal n ++ (9 ∷ l)) (sym (append-assoc (answer s) (text "\n") (linesFrom answer (suc n) ss)))
@@ -54,11 +54,11 @@ module _ (answer : List ℕ → List ℕ) where
     reading n s w = at n (take room s) w
 
     read-end : (n : ℕ) (s w : List ℕ) (b k : ℕ) → n + suc k < 2 ^ 64 → eqb b 10 ≡ true
-        → byteRead answer room (reading n s w) b ≡ reading (suc n) [] (w ++ answerTo answer n s)
+        → byteRead answer room (reading n s w) b ≡ reading (suc n) [] (w ++ lineAnswer answer n s)
     read-end n s w b k few t =
         rw t
-        (ap (λ (m : ℕ). at m [] (w ++ answerTo answer n (take room s))) (next-is n k few)
-        ∙ ap (λ (l : List ℕ). at (suc n) l (w ++ answerTo answer n (take room s))) (sym (take-nil room))
+        (ap (λ (m : ℕ). at m [] (w ++ lineAnswer answer n (take room s))) (next-is n k few)
+        ∙ ap (λ (l : List ℕ). at (suc n) l (w ++ lineAnswer answer n (take room s))) (sym (take-nil room))
         ∙ ap (λ (l : List ℕ). reading (suc n) [] (w ++ (decimal n ++ (9 ∷ (l ++ (10 ∷ [])))))) (kept room s roomy))
 
     read-on : (n : ℕ) (s w : List ℕ) (b : ℕ) → eqb b 10 ≡ false → byteRead answer room (reading n s w) b ≡ reading n (s ++ (b ∷ [])) w
@@ -68,12 +68,12 @@ module _ (answer : List ℕ → List ℕ) where
     Comes n s w input = w ++ linesFrom answer n (lineTexts s input) ≡ outputOf answer (after answer room (reading n s w) input)
 
     module _ (n : ℕ) (s w : List ℕ) (b : ℕ) (l : List ℕ) where
-      comes-end : n + suc (length l) < 2 ^ 64 → eqb b 10 ≡ true → Comes (suc n) [] (w ++ answerTo answer n s) l → Comes n s w (b ∷ l)
+      comes-end : n + suc (length l) < 2 ^ 64 → eqb b 10 ≡ true → Comes (suc n) [] (w ++ lineAnswer answer n s) l → Comes n s w (b ∷ l)
       unfolding after
       comes-end few t next =
           ap (λ (x : List (List ℕ)). w ++ linesFrom answer n x) (texts-on s b l ∙ rw t)
           ∙ ap (λ (x : List ℕ). w ++ x) (lines-on n s (lineTexts [] l))
-          ∙ sym (append-assoc w (answerTo answer n s) (linesFrom answer (suc n) (lineTexts [] l)))
+          ∙ sym (append-assoc w (lineAnswer answer n s) (linesFrom answer (suc n) (lineTexts [] l)))
           ∙ next
           ∙ ap (λ (x : State). outputOf answer (after answer room x l)) (sym (read-end n s w b (length l) few t))
 
@@ -89,7 +89,7 @@ module _ (answer : List ℕ → List ℕ) where
     to-come n s w [] few = ap (λ (l : List ℕ). w ++ l) (texts-end n s ∙ sym (clipped n room s roomy))
     to-come n s w (b ∷ l) few =
         by-cases (eqb b 10)
-        (λ t. comes-end n s w b l few t (to-come (suc n) [] (w ++ answerTo answer n s) l (omega (arith, few))))
+        (λ t. comes-end n s w b l few t (to-come (suc n) [] (w ++ lineAnswer answer n s) l (omega (arith, few))))
         (λ f. comes-on n s w b l f (to-come n (s ++ (b ∷ [])) w l (omega (arith, few))))
 
     pub whole-output : (input : List ℕ) → length input + 1 < 2 ^ 64 → outputOver answer input ≡ outputOf answer (after answer room start input)

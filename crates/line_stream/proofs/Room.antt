@@ -13,11 +13,11 @@ use Rattle.definitions.specs.Canonical.{decimal}
 use Rattle.write_bytes.specs.Puts.{maxCounted, puts, Puts}
 use Rattle.write_bytes.proofs.Putting.{then as joined, told}
 use Rattle.write_bytes.proofs.Whole.{most-of, puts-count}
-use Rattle.line_stream.specs.Stream.{answerTo, hasRoom}
+use Rattle.line_stream.specs.Stream.{lineAnswer, hasRoom}
 
 -- number and tab, the answer, LF
 pub line-put : (answer : List ℕ → List ℕ) (n : ℕ) (s : List ℕ) {out o o' o'' : List ℕ} {at i j k : ℕ}
-    → Puts out at (decimal n ++ text "\t") o i → Puts o i (answer s) o' j → Puts o' j (text "\n") o'' k → Puts out at (answerTo answer n s) o'' k
+    → Puts out at (decimal n ++ text "\t") o i → Puts o i (answer s) o' j → Puts o' j (text "\n") o'' k → Puts out at (lineAnswer answer n s) o'' k
 line-put answer n s a b c = told (sym (append-assoc (decimal n) (text "\t") (answer s ++ text "\n"))) (joined a (joined b c))
 
 -- what has no room where it was counted has none by its length

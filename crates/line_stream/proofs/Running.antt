@@ -15,7 +15,7 @@ use Rattle.write_bytes.proofs.Putting.{same-length}
 use Rattle.write_bytes.proofs.Whole.{placed-whole}
 use Rattle.line_stream.specs.declared.Begun.{Begun}
 use Rattle.line_stream.specs.declared.Fed.{Fed}
-use Rattle.line_stream.specs.Stream.{maxNumber, answerTo, State, stateOf, byteRead, after, lastLine, outputOf, hasRoom, answerFits, Feeds}
+use Rattle.line_stream.specs.Stream.{maxLineNumber, lineAnswer, State, lineState, byteRead, after, lastLine, outputOf, hasRoom, answerFits, Feeds}
 use Rattle.line_stream.specs.Runs.{Runs, last, part}
 use Rattle.line_stream.proofs.Room.{room-counted, room-within}
 use Rattle.line_stream.proofs.States.{after-append}
@@ -31,7 +31,7 @@ module _ (answer : List ℕ → List ℕ) where
   byte-prepend room w st b =
       by-cases (eqb b 10)
       (λ t.
-      let put = answerTo answer (st .number) (st .begun) in
+      let put = lineAnswer answer (st .number) (st .begun) in
       rw t (ap (λ (l : List ℕ). record { number = byteRead answer room st 10 .number; begun = []; written = l }) (append-assoc w (st .written) put)))
       (λ f. rw f)
 
@@ -46,7 +46,7 @@ module _ (answer : List ℕ → List ℕ) where
   -- ---- what a run writes from anywhere on
 
   abbrev comes : List ℕ → List ℕ → Begun → List ℕ
-  comes input line b = outputOf answer (after answer (length line) (stateOf b line []) input)
+  comes input line b = outputOf answer (after answer (length line) (lineState b line []) input)
 
   last-comes : (line : List ℕ) (b : Begun) {out out' : List ℕ} {n : ℕ} → Puts out 0 (lastLine answer (b .number) (take (b .len) line)) out' n
       → hasRoom n (length out') ≡ true → take n out' ≡ comes [] line b
@@ -62,13 +62,13 @@ module _ (answer : List ℕ → List ℕ) where
       let back = drop (r .taken) block ++ rest in
       let whole : front ++ back ≡ block ++ rest =
       sym (append-assoc front (drop (r .taken) block) rest) ∙ ap (λ (l : List ℕ). l ++ rest) (take-append-drop (r .taken) block) in
-      sym (output-prepend w (after answer (length line') (stateOf (r .begun) line' []) back))
-      ∙ ap (outputOf answer) (sym (after-prepend (length line') w (stateOf (r .begun) line' []) back)
-      ∙ ap (λ (l : List ℕ). after answer (length line') (stateOf (r .begun) line' l) back) (append-nil w)
-      ∙ ap (λ (n : ℕ). after answer n (stateOf (r .begun) line' w) back) (f .same-line)
+      sym (output-prepend w (after answer (length line') (lineState (r .begun) line' []) back))
+      ∙ ap (outputOf answer) (sym (after-prepend (length line') w (lineState (r .begun) line' []) back)
+      ∙ ap (λ (l : List ℕ). after answer (length line') (lineState (r .begun) line' l) back) (append-nil w)
+      ∙ ap (λ (n : ℕ). after answer n (lineState (r .begun) line' w) back) (f .same-line)
       ∙ ap (λ (x : State). after answer (length line) x back) (f .stands)
-      ∙ sym (after-append answer (length line) (stateOf b line []) front back)
-      ∙ ap (after answer (length line) (stateOf b line [])) whole)
+      ∙ sym (after-append answer (length line) (lineState b line []) front back)
+      ∙ ap (after answer (length line) (lineState b line [])) whole)
 
   pub runs-on : {input line w : List ℕ} {b : Begun} → Runs answer input line b w → w ≡ comes input line b
   runs-on (last {line = line} {b = b} p t) = last-comes line b p t
@@ -89,8 +89,8 @@ module _ (answer : List ℕ → List ℕ) where
   has-room : (n len : ℕ) → n < maxCounted → n ≤ len → hasRoom n len ≡ true
   has-room n len few fits = rw (lt-ltb n maxCounted few, le-leb n len fits)
 
-  pub goes-on : (k : ℕ) → ((n : ℕ) (s : List ℕ) → n ≤ maxNumber → length (answerTo answer n s) ≤ k)
-      → {input line out line' out' : List ℕ} {b : Begun} {r : Fed} → k ≤ length out → k < maxCounted → b .number ≤ maxNumber → 0 < length input
+  pub goes-on : (k : ℕ) → ((n : ℕ) (s : List ℕ) → n ≤ maxLineNumber → length (lineAnswer answer n s) ≤ k)
+      → {input line out line' out' : List ℕ} {b : Begun} {r : Fed} → k ≤ length out → k < maxCounted → b .number ≤ maxLineNumber → 0 < length input
       → Feeds answer input line out line' out' b r → 0 < r .taken
   unfolding after
   goes-on k short {input = input} {line = line} {out = out} {out' = out'} {b = b} {r = r} fits few counts some f =
@@ -101,11 +101,11 @@ module _ (answer : List ℕ → List ℕ) where
 
       stuck : r .taken ≡ 0 → ⊥
       stuck e =
-          let first = stateOf b line [] in
+          let first = lineState b line [] in
           let st : after answer (length line) first (take (r .taken) input) ≡ first = ap (λ (n : ℕ). after answer (length line) first (take n input)) e in
           let none : r .put ≡ 0 = none-taken (r .put) out' (f .put) (ap (λ (x : State). x .written) (f .stands ∙ st)) in
           let crowded : answerFits answer first (r .put) out' ≡ false =
           subst (λ (x : State). answerFits answer x (r .put) out' ≡ false) st (f .stops (omega (arith, e, some)) .1) in
-          let len : length (answerTo answer (b .number) (take (b .len) line)) ≤ k = short (b .number) (take (b .len) line) counts in
-          let n = r .put + length (answerTo answer (b .number) (take (b .len) line)) in
+          let len : length (lineAnswer answer (b .number) (take (b .len) line)) ≤ k = short (b .number) (take (b .len) line) counts in
+          let n = r .put + length (lineAnswer answer (b .number) (take (b .len) line)) in
           true≢false (sym (has-room n (length out') (omega (arith, none, len, few)) (omega (arith, none, len, fits, f .same-out))) ∙ crowded)

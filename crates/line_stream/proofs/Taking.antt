@@ -18,7 +18,7 @@ use Rattle.line_stream.specs.declared.Begun.{Begun}
 use Rattle.line_stream.specs.declared.Fed.{Fed}
 use Rattle.line_stream.specs.declared.Feeding.{Feeding}
 use Rattle.line_stream.specs.Stream.{nextNumber, hasRoom}
-use Rattle.line_stream.specs.Steps.{lfFrom, Keeps, opening, Takes, Nexts, Lasts}
+use Rattle.line_stream.specs.Steps.{lfFrom, Keeps, lineOpening, Takes, Nexts, Lasts}
 use Rattle.line_stream.proofs.Parts.{line-slice}
 
 -- ---- a line is taken
@@ -28,7 +28,7 @@ module _ (input : List ℕ) (i place : ℕ) (b : Begun) where
   taken e len at w = record { fed = record { taken = e; put = place; begun = record { number = b .number; len = len } }; at = at; waits = w }
 
   takes-if : (e : ℕ) {line line' out out' : List ℕ} {len at : ℕ} (w : Bool) → e ≡ lfFrom input i → Keeps line line' (b .len) (take (e - i) (drop i input)) len
-      → w ≡ ltb e (length input) → Puts out place (opening w (b .number)) out' at → Takes input i line line' out out' place b (taken e len at w)
+      → w ≡ ltb e (length input) → Puts out place (lineOpening w (b .number)) out' at → Takes input i line line' out out' place b (taken e len at w)
   takes-if e {line = line} {line' = line'} {len = len} {at = at} w is k t p = record {
     len = len;
     next = at;
@@ -73,7 +73,7 @@ module _ (line : List ℕ) (b : Begun) where
   abbrev last : ℕ → Bool → Feeding
   last at w = record { fed = record { taken = 0; put = 0; begun = b }; at = at; waits = w }
 
-  lasts-if : {out out' : List ℕ} {len at : ℕ} (w : Bool) → len ≡ atMost (b .len) (length line) → w ≡ ltb 0 len → Puts out 0 (opening w (b .number)) out' at
+  lasts-if : {out out' : List ℕ} {len at : ℕ} (w : Bool) → len ≡ atMost (b .len) (length line) → w ≡ ltb 0 len → Puts out 0 (lineOpening w (b .number)) out' at
       → Lasts line out out' b (last at w)
   lasts-if {len = len} {at = at} w e t p =
       let few : len ≤ length line = omega (arith, e, at-most-le (b .len) (length line)) in

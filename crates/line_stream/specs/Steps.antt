@@ -37,16 +37,16 @@ pub record Keeps (line line' : List ℕ) (len : ℕ) (part : List ℕ) (r : ℕ)
   pub long : r ≡ len + fitting line len part
 
 -- what is put before an answer: the line's number and a tab, if a line waits
-abbrev pub opening : Bool → ℕ → List ℕ
-opening false n = []
-opening true n = decimal n ++ text "\t"
+abbrev pub lineOpening : Bool → ℕ → List ℕ
+lineOpening false n = []
+lineOpening true n = decimal n ++ text "\t"
 
 -- A LINE IS TAKEN from a place on: its bytes are kept up to the next LF, or to the end; at an LF it waits for its answer
 pub record Takes (input : List ℕ) (from : ℕ) (line line' out out' : List ℕ) (place : ℕ) (b : Begun) (r : Feeding) : Type 0 where
   pub len : ℕ
   pub next : ℕ
   pub keeps : Keeps line line' (b .len) (lineFrom input from) len
-  pub opened : Puts out place (opening (ltb (lfFrom input from) (length input)) (b .number)) out' next
+  pub opened : Puts out place (lineOpening (ltb (lfFrom input from) (length input)) (b .number)) out' next
   pub is : r ≡ record {
     fed = record { taken = lfFrom input from; put = place; begun = record { number = b .number; len = len } };
     at = next;
@@ -66,7 +66,7 @@ pub record Nexts (input line line' out out' : List ℕ) (fed : Fed) (at : ℕ) (
 -- THE LAST LINE, which lacks its LF: it waits for its answer, if a byte of it is kept
 pub record Lasts (line out out' : List ℕ) (b : Begun) (r : Feeding) : Type 0 where
   pub next : ℕ
-  pub opened : Puts out 0 (opening (ltb 0 (length (take (b .len) line))) (b .number)) out' next
+  pub opened : Puts out 0 (lineOpening (ltb 0 (length (take (b .len) line))) (b .number)) out' next
   pub is : r ≡ record { fed = record { taken = 0; put = 0; begun = b }; at = next; waits = ltb 0 (length (take (b .len) line)) }
 
 -- the turns that are left at most: one for each byte still to come, and for the line that waits

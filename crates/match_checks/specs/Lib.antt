@@ -1,2 +1,2 @@
 -- What the contracts of `match_checks` cite besides the definitions.
-pub mod Clearing
+pub mod InputChecks

@@ -1,6 +1,6 @@
 // What is due before any field or item is looked at: refusals 20 and 30 to 34, in this order.
 ghost use mathlib.Core.Path.{_≡_};
-ghost use Rattle.match_checks.specs.Clearing.{clearance};
+ghost use Rattle.match_checks.specs.InputChecks.{inputHeader};
 use definitions::answers::PacketAnswer;
 use definitions::answers::Refusal;
 use definitions::table::Table;
@@ -8,8 +8,8 @@ use packet::packet_header;
 use table_well_formed::well_formed;
 
 // The facts of the packet's datagram, or the first refusal that is due.
-pub fn cleared<'a>(t: Table, p: &'a [u8], decoded: &'a [u8]) -> PacketAnswer
-    ensures { λ r. ⌜ r ≡ clearance t (now (p .entry)) (now (decoded .entry)) ⌝ }
+pub fn check_input<'a>(t: Table, p: &'a [u8], decoded: &'a [u8]) -> PacketAnswer
+    ensures { λ r. ⌜ r ≡ inputHeader t (now (p .entry)) (now (decoded .entry)) ⌝ }
 {
     if !well_formed(t) {
         return PacketAnswer::Refused(Refusal::IllFormed);

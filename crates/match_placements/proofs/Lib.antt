@@ -1,4 +1,4 @@
 -- What a cleared packet hands on, the answers of "first" and "next", and the number of positive patterns.
-pub mod Cleared
+pub mod CheckedInput
 pub mod Answering
 pub mod PositiveCounts

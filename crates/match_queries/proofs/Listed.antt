@@ -24,7 +24,7 @@ use Rattle.definitions.specs.Placements.{positives, itemsOf}
 use Rattle.definitions.specs.Answers.{foundAnswer, noneAnswer, inputCheck, placementsOf, firstAnswer, nextAnswer}
 use Rattle.definitions.specs.Queries.{answers}
 use Rattle.laws.proofs.Asking.{all-listed, empty-or-none}
-use Rattle.match_queries.specs.Runs.{queryOf, numbersOfOne, allNumbers, room, written}
+use Rattle.match_queries.specs.Runs.{queryOfByte, numbersOfOne, allNumbers, room, written}
 use Rattle.match_queries.proofs.run.Reads as run
 use Rattle.match_queries.proofs.run.Kinds as run-kinds
 use Rattle.match_queries.proofs.Running.{answers-length}
@@ -75,16 +75,16 @@ module _ (κs : Lfts 3) (t : Table) (p d : RefT (List ℕ)) (dir : Direction) (m
   Answers rs = (r ≡ true) × (after ≡ allNumbers rs ++ drop (length rs * numbersOfOne) (now out))
 
   module _ (fits : room (now queries) (now out) ≡ true) (check : inputCheck t (now p) (now d) dir m ≡ Pass) where
-    run-answers : (rs : List Answer) → answers t (now p) (now d) dir m held (map queryOf (now queries)) ≡ rs → Answers rs
+    run-answers : (rs : List Answer) → answers t (now p) (now d) dir m held (map queryOfByte (now queries)) ≡ rs → Answers rs
     unfolding written
     run-answers rs e =
         let n : length (now queries) ≡ length rs = sym (answers-length t (now p) (now d) dir m held (now queries)) ∙ ap length e in
         (post .0 ∙ fits, post .1 ∙ rw (fits, e, n))
 
-    pub run-lists : map queryOf (now queries) ≡ First ∷ replicate (length (placementsOf t (now p) (now d) dir m)) Next
+    pub run-lists : map queryOfByte (now queries) ≡ First ∷ replicate (length (placementsOf t (now p) (now d) dir m)) Next
         → Answers (map foundAnswer (placementsOf t (now p) (now d) dir m) ++ (noneAnswer ∷ []))
     run-lists queried = run-answers _ (ap (answers t (now p) (now d) dir m held) queried ∙ all-listed t (now p) (now d) dir m check held)
 
-    pub run-empty : positives (itemsOf t) ≡ 0 → map queryOf (now queries) ≡ First ∷ Next ∷ [] → EmptyOrNone t (now p) (now d) dir m Answers
+    pub run-empty : positives (itemsOf t) ≡ 0 → map queryOfByte (now queries) ≡ First ∷ Next ∷ [] → EmptyOrNone t (now p) (now d) dir m Answers
     run-empty none queried =
         empty-claims t (now p) (now d) dir m check none held Answers (λ rs e. run-answers rs (ap (answers t (now p) (now d) dir m held) queried ∙ e))

@@ -14,14 +14,14 @@ use Rattle.definitions.specs.declared.packet.FieldMap.{FieldMap}
 use Rattle.definitions.specs.declared.packet.Placement.{Placement}
 use Rattle.definitions.specs.declared.answers.Answer.{Answer}
 use Rattle.definitions.specs.declared.answers.Query.the-variants.{First, Next}
-use Rattle.definitions.specs.Queries.{answerNumbers, answerTo, answers}
-use Rattle.match_queries.specs.Runs.{queryOf, numbersOfOne, allNumbers, room, written}
+use Rattle.definitions.specs.Queries.{answerNumbers, queryAnswer, answers}
+use Rattle.match_queries.specs.Runs.{queryOfByte, numbersOfOne, allNumbers, room, written}
 
-pub query-first : (a : ℕ) → a ≡ 0 → First ≡ queryOf a
+pub query-first : (a : ℕ) → a ≡ 0 → First ≡ queryOfByte a
 query-first zero e = refl
 query-first (suc a) e = absurd (let z : ⊥ = omega arith in z)
 
-pub query-next : (a : ℕ) → (a ≡ 0 → ⊥) → Next ≡ queryOf a
+pub query-next : (a : ℕ) → (a ≡ 0 → ⊥) → Next ≡ queryOfByte a
 query-next zero e = absurd (e refl)
 query-next (suc a) e = refl
 
@@ -33,15 +33,15 @@ module _ (t : Table) (p d : List ℕ) (dir : Direction) (m : FieldMap) where
   no-room h queries out k = rw (lt-leb (length queries * numbersOfOne) (length out) k) (refl, refl)
 
   -- an answer for each ask
-  pub answers-length : (h : Placement) (queries : List ℕ) → length (answers t p d dir m h (map queryOf queries)) ≡ length queries
+  pub answers-length : (h : Placement) (queries : List ℕ) → length (answers t p d dir m h (map queryOfByte queries)) ≡ length queries
   unfolding answers
   answers-length h [] = refl
-  answers-length h (a ∷ queries) = ap suc (answers-length (answerTo t p d dir m h (queryOf a) .placement) queries)
+  answers-length h (a ∷ queries) = ap suc (answers-length (queryAnswer t p d dir m h (queryOfByte a) .placement) queries)
 
   -- the buffer with i asks answered, and the others still to come from the placement h
   abbrev pub pending : List ℕ → List ℕ → Placement → ℕ → List ℕ
   pending queries out h i =
-      take (i * numbersOfOne) out ++ allNumbers (answers t p d dir m h (map queryOf (drop i queries))) ++ drop (length queries * numbersOfOne) out
+      take (i * numbersOfOne) out ++ allNumbers (answers t p d dir m h (map queryOfByte (drop i queries))) ++ drop (length queries * numbersOfOne) out
 
   pub run-start : (h : Placement) (queries out : List ℕ) → length queries * numbersOfOne ≤ length out → written t p d dir m h queries out ≡ pending queries out h 0
   unfolding written
@@ -62,7 +62,7 @@ module _ (t : Table) (p d : List ℕ) (dir : Direction) (m : FieldMap) where
   -- ---- a turn
 
   module _ (queries out out′ : List ℕ) (h : Placement) (i : ℕ) (r : Answer) (less : i < length queries) (fits : length queries * numbersOfOne ≤ length out)
-      (is : r ≡ answerTo t p d dir m h (queryOf (getD queries i 0)))
+      (is : r ≡ queryAnswer t p d dir m h (queryOfByte (getD queries i 0)))
       (put : out′ ≡ take (i * numbersOfOne) out ++ answerNumbers r ++ drop (i * numbersOfOne + numbersOfOne) out) (kept : length out′ ≡ length out) where
     front : length (take (i * numbersOfOne) out) ≡ i * numbersOfOne
     front = rw (length-take (i * numbersOfOne) out) (omega arith)
@@ -79,7 +79,7 @@ module _ (t : Table) (p d : List ℕ) (dir : Direction) (m : FieldMap) where
     head-length : length (take (i * numbersOfOne) out ++ answerNumbers r) ≡ (i + 1) * numbersOfOne
     head-length = let a = length-append (take (i * numbersOfOne) out) (answerNumbers r) in let b = front in let c = one in omega arith
 
-    model-step : answers t p d dir m h (map queryOf (drop i queries)) ≡ r ∷ answers t p d dir m (r .placement) (map queryOf (drop (i + 1) queries))
+    model-step : answers t p d dir m h (map queryOfByte (drop i queries)) ≡ r ∷ answers t p d dir m (r .placement) (map queryOfByte (drop (i + 1) queries))
     unfolding answers
     model-step = rw (drop-cons queries i 0 less, add-one i, is)
 
@@ -104,4 +104,4 @@ module _ (t : Table) (p d : List ℕ) (dir : Direction) (m : FieldMap) where
     run-step =
         rw (taken, dropped, model-step)
         (ap (λ (l : List ℕ). l ++ drop (length queries * numbersOfOne) out)
-        (sym (append-assoc (take (i * numbersOfOne) out) (answerNumbers r) (allNumbers (answers t p d dir m (r .placement) (map queryOf (drop (i + 1) queries)))))))
+        (sym (append-assoc (take (i * numbersOfOne) out) (answerNumbers r) (allNumbers (answers t p d dir m (r .placement) (map queryOfByte (drop (i + 1) queries)))))))

@@ -16,9 +16,9 @@ use Rattle.definitions.specs.Limits.{maxPatterns}
 use Rattle.definitions.specs.Queries.{answerNumbers, answers}
 
 -- an ask is a byte: 0 is "first", any other "next"
-abbrev pub queryOf : ℕ → Query
-queryOf zero = First
-queryOf (suc a) = Next
+abbrev pub queryOfByte : ℕ → Query
+queryOfByte zero = First
+queryOfByte (suc a) = Next
 
 -- refusal number, found or none, count, and all starts
 abbrev pub numbersOfOne : ℕ
@@ -36,5 +36,5 @@ room queries out = leb (length queries * numbersOfOne) (length out)
 unfoldable pub written : Table → List ℕ → List ℕ → Direction → FieldMap → Placement → List ℕ → List ℕ → List ℕ
 written t p decoded dir m h queries out =
     if room queries out
-    then allNumbers (answers t p decoded dir m h (map queryOf queries)) ++ drop (length queries * numbersOfOne) out
+    then allNumbers (answers t p decoded dir m h (map queryOfByte queries)) ++ drop (length queries * numbersOfOne) out
     else out

@@ -3,8 +3,8 @@
 mod writing;
 
 ghost use mathlib.Core.Path.{_≡_};
-ghost use Rattle.definitions.specs.Queries.{answerTo};
-ghost use Rattle.match_queries.specs.Runs.{queryOf, room, written};
+ghost use Rattle.definitions.specs.Queries.{queryAnswer};
+ghost use Rattle.match_queries.specs.Runs.{queryOfByte, room, written};
 use crate::writing::NUMBERS;
 use crate::writing::put_answer;
 use definitions::answers::Answer;
@@ -23,7 +23,7 @@ fn answer_to<'a>(
     held: Placement,
     query: u8,
 ) -> Answer
-    ensures { λ r. ⌜ r ≡ answerTo t (now (p .entry)) (now (decoded .entry)) dir m held (queryOf query) ⌝ }
+    ensures { λ r. ⌜ r ≡ queryAnswer t (now (p .entry)) (now (decoded .entry)) dir m held (queryOfByte query) ⌝ }
 {
     if query == 0 {
         return matcher::first(t, p, decoded, dir, m);

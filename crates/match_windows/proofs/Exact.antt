@@ -17,7 +17,7 @@ use Rattle.definitions.specs.declared.packet.LastMatch.{LastMatch}
 use Rattle.definitions.specs.Windows.{windowStart, beforeEnd, inWindow}
 use Rattle.match_windows.specs.declared.Window.{Window}
 use Rattle.match_windows.specs.Spans.{Spans}
-use Rattle.match_windows.specs.Ends.{clip, startsTo}
+use Rattle.match_windows.specs.Ends.{clip, endsTo}
 use Rattle.match_windows.proofs.Clips.{le-clip}
 
 same-test : (a b : Bool) → (a ≡ true → b ≡ true) → (b ≡ true → a ≡ true) → a ≡ b
@@ -61,23 +61,23 @@ limited s (pos k) len n at =
 
 -- the span's end where a reach is given
 module _ (s : ℤ) (w : Within) (v : WithinValue) (len n : ℕ) (e : w ≡ within.Given v) where
-  pub to-none : leZ (pos n) (s +ℤ pos (v .number)) ≡ false → 0 ≡ startsTo s w len n
-  unfolding startsTo
+  pub to-none : leZ (pos n) (s +ℤ pos (v .number)) ≡ false → 0 ≡ endsTo s w len n
+  unfolding endsTo
   to-none f = rw (e, f)
 
-  pub to-some : leZ (pos n) (s +ℤ pos (v .number)) ≡ true → (r : ℕ) → r ≡ min (clip (s +ℤ pos (v .number))) len + 1 - n → r ≡ startsTo s w len n
-  unfolding startsTo
+  pub to-some : leZ (pos n) (s +ℤ pos (v .number)) ≡ true → (r : ℕ) → r ≡ min (clip (s +ℤ pos (v .number))) len + 1 - n → r ≡ endsTo s w len n
+  unfolding endsTo
   to-some f r q = rw (e, f) q
 
 exactly : (s : ℤ) (w : Within) (len n at : ℕ)
-    → (leZ s (pos at) && beforeEnd s w len (at + n)) ≡ (leb (min (clip s) (len + 1)) at && ltb at (startsTo s w len n))
-unfolding startsTo
+    → (leZ s (pos at) && beforeEnd s w len (at + n)) ≡ (leb (min (clip s) (len + 1)) at && ltb at (endsTo s w len n))
+unfolding endsTo
 exactly s within.Unset len n at = rw (le-clip s at) (span (clip s) n len len at (omega arith))
 exactly s (within.Given w) len n at = rw (le-clip s at) (limited (clip s) (s +ℤ pos (w .number)) len n at)
 
 -- before the span's end the bytes lie inside the field
-inner : (s : ℤ) (w : Within) (len n at : ℕ) → at < startsTo s w len n → at + n ≤ len
-unfolding startsTo
+inner : (s : ℤ) (w : Within) (len n at : ℕ) → at < endsTo s w len n → at + n ≤ len
+unfolding endsTo
 inner s within.Unset len n at h = omega arith
 inner s (within.Given w) len n at h =
     by-cases (leZ (pos n) (s +ℤ pos (w .number)))
@@ -87,7 +87,7 @@ inner s (within.Given w) len n at h =
 pub spans : (p : Pattern) (l : LastMatch) (len : ℕ) (s : ℤ) (w : Window)
     → s ≡ windowStart l len (p .distance) (p .within)
     → w .from ≡ min (clip s) (len + 1)
-    → w .to ≡ startsTo s (p .within) len (p .len)
+    → w .to ≡ endsTo s (p .within) len (p .len)
     → Spans p l len w
 unfolding inWindow
 spans p l len s w e f t =

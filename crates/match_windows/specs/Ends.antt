@@ -19,6 +19,6 @@ pub record Begins (z s : ℤ) : Type 0 where
   pub small : mag s < startBound
 
 -- one past the last start at which n bytes end by the window's end
-unfoldable pub startsTo : ℤ → Within → ℕ → ℕ → ℕ
-startsTo s within.Unset len n = len + 1 - n
-startsTo s (within.Given w) len n = if leZ (pos n) (s +ℤ pos (w .number)) then min (clip (s +ℤ pos (w .number))) len + 1 - n else 0
+unfoldable pub endsTo : ℤ → Within → ℕ → ℕ → ℕ
+endsTo s within.Unset len n = len + 1 - n
+endsTo s (within.Given w) len n = if leZ (pos n) (s +ℤ pos (w .number)) then min (clip (s +ℤ pos (w .number))) len + 1 - n else 0

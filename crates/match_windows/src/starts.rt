@@ -6,7 +6,7 @@ ghost use lib.IntN.{pos, _+ℤ_, _-ℤ_};
 ghost use lib.Signed.{mag, leZ};
 ghost use Rattle.definitions.specs.Windows as windows;
 ghost use Rattle.match_windows.specs.Spans.{sizeBound, startBound, Measured, Spans};
-ghost use Rattle.match_windows.specs.Ends.{clip, Begins, startsTo};
+ghost use Rattle.match_windows.specs.Ends.{clip, Begins, endsTo};
 use crate::Window;
 use definitions::packet::LastMatch;
 use definitions::table::Distance;
@@ -137,7 +137,7 @@ fn room(end: usize, n: usize) -> usize
 
 fn starts_to(s: i64, within: Within, len: usize, n: usize) -> usize
     requires { ⌜ (mag s < startBound) × (len < sizeBound) × (n < sizeBound) ⌝ }
-    ensures { λ r. ⌜ r ≡ startsTo s within len n ⌝ }
+    ensures { λ r. ⌜ r ≡ endsTo s within len n ⌝ }
 {
     let Within::Given(w) = within else {
         return room(len, n);

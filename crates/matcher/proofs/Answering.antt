@@ -17,14 +17,14 @@ use Rattle.definitions.specs.declared.answers.Verdict.the-variants as verdict
 use Rattle.definitions.specs.declared.answers.Answer.{Answer}
 use Rattle.definitions.specs.Fields.{fieldsCheck}
 use Rattle.definitions.specs.Answers.{refusedAnswer, headOf, unless, verdictBy, verdictAnswer, firstAnswer, nextAnswer}
-use Rattle.match_checks.specs.Clearing.{clearance}
+use Rattle.match_checks.specs.InputChecks.{inputHeader}
 use Rattle.match_placements.specs.Listing.{listIn, firstIn, nextIn}
-use Rattle.match_placements.proofs.Cleared.{Cleared, refused-check, check-here, list-here}
+use Rattle.match_placements.proofs.CheckedInput.{CheckedInput, refused-check, check-here, list-here}
 use Rattle.matcher.specs.Verdicts.{verdictOf}
 
 -- ---- a refusal is due: a is what was cleared, x the answer given
 
-module _ (t : Table) (p d : List ℕ) (dir : Direction) (m : FieldMap) {a : PacketAnswer} (e : a ≡ clearance t p d) {r : Refusal} (k : a ≡ packet.Refused r) where
+module _ (t : Table) (p d : List ℕ) (dir : Direction) (m : FieldMap) {a : PacketAnswer} (e : a ≡ inputHeader t p d) {r : Refusal} (k : a ≡ packet.Refused r) where
   pub verdict-refused : verdict.Refused r ≡ verdictAnswer t p d dir m
   unfolding verdictAnswer
   verdict-refused = rw (refused-check t p d e k dir m)
@@ -44,7 +44,7 @@ verdict-head Pass [] = refl
 verdict-head Pass (q ∷ l) = refl
 verdict-head (Refuse r) l = refl
 
-module _ {t : Table} {p d : List ℕ} {f : PacketHeader} {s : List ℕ} (c : Cleared t p d f s) (dir : Direction) (m : FieldMap) where
+module _ {t : Table} {p d : List ℕ} {f : PacketHeader} {s : List ℕ} (c : CheckedInput t p d f s) (dir : Direction) (m : FieldMap) where
   pub verdict-here : verdictOf (firstIn t f s d dir m .found) ≡ verdictAnswer t p d dir m
   unfolding firstIn verdictAnswer
   verdict-here = rw (check-here c dir m, list-here c dir m) (verdict-head (fieldsCheck s d m) (listIn t f s d dir m))

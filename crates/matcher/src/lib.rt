@@ -11,7 +11,7 @@ use definitions::packet::Direction;
 use definitions::packet::FieldMap;
 use definitions::packet::Placement;
 use definitions::table::Table;
-use match_checks::cleared;
+use match_checks::check_input;
 use match_placements::answers::refused;
 use match_placements::first_in;
 use match_placements::next_in;
@@ -32,7 +32,7 @@ fn verdict_of(f: Found) -> Verdict
 pub fn verdict<'a>(t: Table, p: &'a [u8], decoded: &'a [u8], dir: Direction, m: FieldMap) -> Verdict
     ensures { λ r. ⌜ r ≡ verdictAnswer t (now (p .entry)) (now (decoded .entry)) dir m ⌝ }
 {
-    let seen = cleared(t, p, decoded);
+    let seen = check_input(t, p, decoded);
     match seen {
         PacketAnswer::Refused(r) => Verdict::Refused(r), // 20 and 30 to 34 come before 35
         PacketAnswer::Seen(header) => {
@@ -48,7 +48,7 @@ pub fn verdict<'a>(t: Table, p: &'a [u8], decoded: &'a [u8], dir: Direction, m: 
 pub fn first<'a>(t: Table, p: &'a [u8], decoded: &'a [u8], dir: Direction, m: FieldMap) -> Answer
     ensures { λ r. ⌜ r ≡ firstAnswer t (now (p .entry)) (now (decoded .entry)) dir m ⌝ }
 {
-    let seen = cleared(t, p, decoded);
+    let seen = check_input(t, p, decoded);
     match seen {
         PacketAnswer::Refused(r) => refused(r),
         PacketAnswer::Seen(header) => {
@@ -69,7 +69,7 @@ pub fn next<'a>(
 ) -> Answer
     ensures { λ r. ⌜ r ≡ nextAnswer t (now (p .entry)) (now (decoded .entry)) dir m held ⌝ }
 {
-    let seen = cleared(t, p, decoded);
+    let seen = check_input(t, p, decoded);
     match seen {
         PacketAnswer::Refused(r) => refused(r), // 20 and 30 to 34 come before 36
         PacketAnswer::Seen(header) => {

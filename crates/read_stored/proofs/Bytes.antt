@@ -20,18 +20,18 @@ use Rattle.scan_cursors.proofs.Readings.{made-reads, before-reads, stopped-read
 use Rattle.scan_cursors.proofs.Choices.{first-reads, second-reads}
 use Rattle.scan_cursors.proofs.Onward.{ahead-more}
 use Rattle.scan_pieces.proofs.AtPlace.{begins-in, byte-begun}
-use Rattle.read_stored.specs.Storing.{spacedPair, pairs, element, Ready, Stores}
+use Rattle.read_stored.specs.Storing.{spacedPair, hexPairs, element, Ready, Stores}
 use Rattle.read_stored.proofs.Halting.{halted}
 use Rattle.read_stored.proofs.Rooms.{appended-none, Writing, Writes, writes-ready, writes-on, writes-last, writes-stop}
 
 -- ---- the pairs of a block
 
-abbrev pub pairWriting : Writing spacedPair pairs
+abbrev pub pairWriting : Writing spacedPair hexPairs
 pairWriting = record { full = refl; bytes = λ vs. vs; one = λ v. v ∷ []; none = refl; snoc = λ vs v. refl; read = λ s at vs d r. r }
 
 module _ (s : List ℕ) (at : ℕ) (room : PatternBytes) (ready : Ready s (Parsed at) room) {here : ℕ} {to : PatternBytes}
     (u : Writes pairWriting s at room here to) {v : ℕ} {d : Cursor} (r : Reads hexPair s (Parsed here) v d) where
-  pub pairs-halt : OneOf (1 ∷ 2 ∷ []) (tagOf cursor-type.the-type d) → Stores pairs s (Parsed at) room to d
+  pub pairs-halt : OneOf (1 ∷ 2 ∷ []) (tagOf cursor-type.the-type d) → Stores hexPairs s (Parsed at) room to d
   pairs-halt k =
       let z = halted d k refl r in
       let q : d ≡ Failed (z .0) = z .1 in
@@ -63,24 +63,24 @@ module _ (s : List ℕ) (at : ℕ) (room : PatternBytes) (ready : Ready s (Parse
         pub pairs-on : begins hexDigits (drop next s) ≡ true → Writes pairWriting s at room next to′
         pairs-on t = writes-on pairWriting s at room ready u v spaced k (omega (arith, further)) t
 
-        pub pairs-last : begins hexDigits (drop next s) ≡ false → Stores pairs s (Parsed at) room to′ (Parsed next)
+        pub pairs-last : begins hexDigits (drop next s) ≡ false → Stores hexPairs s (Parsed at) room to′ (Parsed next)
         pairs-last t = writes-last pairWriting s at room ready u v spaced k (omega (arith, further)) t
 
 -- ---- the elements of a pattern
 
-pub joined-snoc : (vs : List (List ℕ)) (v : List ℕ) → forms.joined (vs ++ (v ∷ [])) ≡ forms.joined vs ++ v
+pub joined-snoc : (vs : List (List ℕ)) (v : List ℕ) → forms.concatenated (vs ++ (v ∷ [])) ≡ forms.concatenated vs ++ v
 joined-snoc [] v = append-nil v
-joined-snoc (x ∷ vs) v = rw (joined-snoc vs v) (sym (append-assoc x (forms.joined vs) v))
+joined-snoc (x ∷ vs) v = rw (joined-snoc vs v) (sym (append-assoc x (forms.concatenated vs) v))
 
 abbrev pub elementWriting : Writing element patternBytes
 elementWriting =
     record {
       full = refl;
-      bytes = forms.joined;
+      bytes = forms.concatenated;
       one = λ v. v;
       none = refl;
       snoc = joined-snoc;
-      read = λ s at vs d r. made-reads forms.joined r;
+      read = λ s at vs d r. made-reads forms.concatenated r;
     }
 
 module _ (s : List ℕ) (at : ℕ) (room : PatternBytes) (ready : Ready s (Parsed at) room) {here : ℕ} {to to′ : PatternBytes}

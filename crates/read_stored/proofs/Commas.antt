@@ -22,7 +22,7 @@ use Rattle.scan_cursors.proofs.Readings.{made-reads, pair-reads, skip-reads, be
 use Rattle.scan_cursors.proofs.Choices.{first-reads, second-reads}
 use Rattle.scan_cursors.proofs.Onward.{Ahead, ahead-more, left, less-left}
 use Rattle.scan_pieces.proofs.AtPlace.{begins-in}
-use Rattle.read_stored.specs.Listing.{listed, Lists}
+use Rattle.read_stored.specs.Listing.{listedAddresses, Lists}
 use Rattle.read_stored.proofs.Turns.{star-out, Star, star-start, star-more, star-end}
 
 -- ---- an array that holds the first of a list
@@ -84,7 +84,7 @@ gathered-one {s} {c} {b} row h r =
 module _ (s : List ℕ) {b : Cursor} {row list : List Address} {count : ℕ} {c : Cursor} (u : Gathered s b row list count c) {t : Bool}
     (e : t ≡ nextIn ((44, 44) ∷ []) s c) where
   pub gathered-out : {c0 : Cursor} {a : Address} → Inside s c0 → Reads address s c0 a b → row ≡ padded maxAddresses noAddress (a ∷ []) → t ≡ false
-      → Lists listed s c0 list count c
+      → Lists listedAddresses s c0 list count c
   gathered-out {c0} {a} h r k y = (
     a ∷ u .values,
     record {
@@ -134,7 +134,7 @@ module _ (s : List ℕ) {b : Cursor} {row list : List Address} {count : ℕ} {c 
 
 module _ {s : List ℕ} {c : Cursor} {t : Bool} (h : Inside s c) where
   pub bracket-read : {list : List Address} {count x : ℕ} {b e d : Cursor} → t ≡ nextIn ((91, 91) ∷ []) s c → t ≡ true → Reads (literal 91) s c 91 b
-      → Lists listed s b list count e → Reads (literal 93) s e x d → Lists addresses s c list count d
+      → Lists listedAddresses s b list count e → Reads (literal 93) s e x d → Lists addresses s c list count d
   bracket-read n y q l r = (
     l .0,
     record {

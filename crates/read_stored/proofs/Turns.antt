@@ -6,7 +6,7 @@ use Prim.Native.Nat.{ℕ, _+_, _≤_}
 use lib.ListN.{length, drop}
 use Rattle.forms.specs.Form.{Form, pair, many}
 use Rattle.forms.specs.Scan.{nullable, firstSet, begins}
-use Rattle.forms.specs.Place.{readAt, mapped, both-read}
+use Rattle.forms.specs.Place.{readAt, mapRead, both-read}
 use Rattle.forms.specs.Pieces.{some}
 use Rattle.forms.proofs.At.{pair-at, made-at, star-at, mapped-both}
 use Rattle.scan_cursors.specs.declared.Cursor.{Cursor}
@@ -19,7 +19,7 @@ module _ {A : Type 0} (f : Form A) (full : not (nullable f) ≡ true) (s : List 
       → readAt (some f) s n ≡ both-read (λ (x : A) (xs : List A). x ∷ xs) (readAt f s n) (λ m. readAt (many f) s m)
   some-at n h =
       made-at (λ (p : A × List A). p .0 ∷ p .1) (pair f (many f)) s n
-      ∙ ap (mapped (λ (p : A × List A). p .0 ∷ p .1)) (pair-at f (many f) s n h)
+      ∙ ap (mapRead (λ (p : A × List A). p .0 ∷ p .1)) (pair-at f (many f) s n h)
       ∙ mapped-both (λ (p : A × List A). p .0 ∷ p .1) (readAt f s n) (λ m. readAt (many f) s m)
 
   -- where a value begins, any number of them is one or more

@@ -18,14 +18,14 @@ use Rattle.scan_cursors.specs.Reads.{Reads}
 abbrev pub prefixed : Form ℕ
 prefixed = opt maxPrefix (preceded (literal 47) (number maxPrefix))
 
-abbrev pub listed : Form (List Address)
-listed = fmap (λ (p : Address × List Address). p .0 ∷ p .1) (pair address (many (preceded (literal 44) address)))
+abbrev pub listedAddresses : Form (List Address)
+listedAddresses = fmap (λ (p : Address × List Address). p .0 ∷ p .1) (pair address (many (preceded (literal 44) address)))
 
 -- all are counted, and the first are kept
-pub record Listed (f : Form (List Address)) (s : List ℕ) (c : Cursor) (al list : List Address) (count : ℕ) (d : Cursor) : Type 0 where
+pub record ListedAddresses (f : Form (List Address)) (s : List ℕ) (c : Cursor) (al list : List Address) (count : ℕ) (d : Cursor) : Type 0 where
   pub read : Reads f s c al d
   pub kept : list ≡ padded maxAddresses noAddress (take maxAddresses al)
   pub counted : count ≡ length al
 
 abbrev pub Lists : Form (List Address) → List ℕ → Cursor → List Address → ℕ → Cursor → Type 0
-Lists f s c list count d = (al : List Address) × Listed f s c al list count d
+Lists f s c list count d = (al : List Address) × ListedAddresses f s c al list count d

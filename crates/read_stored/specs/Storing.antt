@@ -16,8 +16,8 @@ use Rattle.scan_cursors.specs.Reads.{placeOf, Inside, Reads}
 abbrev pub spacedPair : Form ℕ
 spacedPair = terminated hexPair spaces
 
-abbrev pub pairs : Form (List ℕ)
-pairs = some spacedPair
+abbrev pub hexPairs : Form (List ℕ)
+hexPairs = some spacedPair
 
 abbrev pub element : Form (List ℕ)
 element = or (fmap (λ (b : ℕ). b ∷ []) (byte plainBytes)) block

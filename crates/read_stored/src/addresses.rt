@@ -7,7 +7,7 @@ ghost use Rattle.definitions.specs.Lists.{padded};
 ghost use Rattle.definitions.specs.Tables.{noAddress};
 ghost use Rattle.definitions.specs.Forms.{addresses};
 ghost use Rattle.scan_cursors.specs.Reads.{Inside};
-ghost use Rattle.read_stored.specs.Listing.{listed, Lists};
+ghost use Rattle.read_stored.specs.Listing.{listedAddresses, Lists};
 use crate::dotted::then_address;
 use definitions::limits::ADDRESSES;
 use definitions::table::Address;
@@ -50,7 +50,7 @@ fn one_kept(a: Address) -> Row
 // One address or more, parted by commas.
 fn then_list(s: &[u8], c: Cursor) -> AddressesAt
     requires { ⌜ Inside (now s) c ⌝ }
-    ensures { λ r. ⌜ Lists listed (now (s .entry)) c (r .list) (r .count) (r .cursor) ⌝ }
+    ensures { λ r. ⌜ Lists listedAddresses (now (s .entry)) c (r .list) (r .count) (r .cursor) ⌝ }
 {
     let first = then_address(s, c);
     let a = first.address;

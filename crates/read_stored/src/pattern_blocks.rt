@@ -9,7 +9,7 @@ ghost use Rattle.definitions.specs.Forms.{hexPair, block};
 ghost use Rattle.read_value.specs.Values.{patternBytesOf, appended};
 ghost use Rattle.scan_cursors.specs.Reads.{Reads};
 ghost use Rattle.scan_cursors.specs.declared.Cursor.the-variants.{Parsed};
-ghost use Rattle.read_stored.specs.Storing.{pairs, Ready, Stores};
+ghost use Rattle.read_stored.specs.Storing.{hexPairs, Ready, Stores};
 use scan_bytes::bytes::Class;
 use scan_bytes::bytes::in_class;
 use scan_bytes::numbers::value_of;
@@ -80,7 +80,7 @@ fn pair_at(s: &[u8], at: usize) -> PairAt
 // One or more pairs, spaces behind each. The loop goes from place to place: a cursor for each pair would be tested at each.
 fn pairs_at(s: &[u8], at: usize, bytes: &mut [u8], used: usize) -> BytesAt
     requires { ⌜ Ready (now s) (Parsed at) (patternBytesOf (now bytes) used) ⌝ }
-    ensures { λ r. ⌜ Stores pairs (now (s .entry)) (Parsed at) (patternBytesOf (now (bytes .entry)) used) (patternBytesOf (now (bytes .exit)) (r .used)) (r .cursor) ⌝ }
+    ensures { λ r. ⌜ Stores hexPairs (now (s .entry)) (Parsed at) (patternBytesOf (now (bytes .entry)) used) (patternBytesOf (now (bytes .exit)) (r .used)) (r .cursor) ⌝ }
 {
     let mut here = at;
     let mut to = used;
@@ -107,7 +107,7 @@ fn pairs_at(s: &[u8], at: usize, bytes: &mut [u8], used: usize) -> BytesAt
 // The pairs from any cursor on.
 fn then_pairs(s: &[u8], c: Cursor, bytes: &mut [u8], used: usize) -> BytesAt
     requires { ⌜ Ready (now s) c (patternBytesOf (now bytes) used) ⌝ }
-    ensures { λ r. ⌜ Stores pairs (now (s .entry)) c (patternBytesOf (now (bytes .entry)) used) (patternBytesOf (now (bytes .exit)) (r .used)) (r .cursor) ⌝ }
+    ensures { λ r. ⌜ Stores hexPairs (now (s .entry)) c (patternBytesOf (now (bytes .entry)) used) (patternBytesOf (now (bytes .exit)) (r .used)) (r .cursor) ⌝ }
 {
     let at = place(c);
     let p = pairs_at(s, at, bytes, used);

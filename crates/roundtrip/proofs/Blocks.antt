@@ -12,7 +12,7 @@ use Rattle.forms.specs.Form.{has, Row, none}
 use Rattle.forms.proofs.Bools.{by-cases}
 use Rattle.definitions.specs.Lists.{all?}
 use Rattle.definitions.specs.Numbers.{hexDigits, digitValue}
-use Rattle.definitions.specs.Forms.{block, plainBytes, joined, patternBytes}
+use Rattle.definitions.specs.Forms.{block, plainBytes, concatenated, patternBytes}
 use Rattle.definitions.specs.Canonical.{hexDigit, patternText}
 use Rattle.roundtrip.proofs.Alls.{all-head, all-tail}
 use Rattle.roundtrip.proofs.Fits.{isByte}
@@ -42,7 +42,7 @@ pair-of b t =
 record Shut (x bs : List ℕ) : Type 0 where
   parts : List (List ℕ)
   row : Row (λ y w. Of part y w) x parts
-  bytes : joined parts ≡ bs
+  bytes : concatenated parts ≡ bs
 
 record Begun (x bs : List ℕ) : Type 0 where
   front : List ℕ
@@ -101,9 +101,9 @@ written (b ∷ bs) t =
     (λ p. rw p (hex-first b (patternText true bs) bs h (i .1), hex-more b (patternText true bs) bs h (i .1)))
 
 -- one part or more
-parted : {x : List ℕ} {vs : List (List ℕ)} → Row (λ y w. Of part y w) x vs → 1 ≤ length (joined vs) → Of patternBytes x (joined vs)
+parted : {x : List ℕ} {vs : List (List ℕ)} → Row (λ y w. Of part y w) x vs → 1 ≤ length (concatenated vs) → Of patternBytes x (concatenated vs)
 parted none h = absurd (omega (arith, h))
-parted (Row.more m r) h = makes {h = joined} (somes m r)
+parted (Row.more m r) h = makes {h = concatenated} (somes m r)
 
 pub pattern-of : (bs : List ℕ) → 1 ≤ length bs → all? isByte bs ≡ true → Of patternBytes (patternText false bs) bs
 pattern-of bs h t =

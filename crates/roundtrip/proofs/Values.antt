@@ -15,7 +15,7 @@ use Rattle.forms.proofs.Bools.{by-cases}
 use Rattle.definitions.specs.declared.table.Address.{Address}
 use Rattle.definitions.specs.Lists.{all?}
 use Rattle.definitions.specs.Numbers.{hexDigits, digitValue, valueOf, number, numeral}
-use Rattle.definitions.specs.Forms.{spaces, address, addresses, hexPair, block, plainBytes, joined, patternBytes, signed}
+use Rattle.definitions.specs.Forms.{spaces, address, addresses, hexPair, block, plainBytes, concatenated, patternBytes, signed}
 use Rattle.definitions.specs.WellFormed.{addressFits}
 use Rattle.roundtrip.proofs.Alls.{both, all-none, all-more, all-append, all-row}
 use Rattle.roundtrip.proofs.Classes.{class-inside}
@@ -132,18 +132,18 @@ part-fits =
       known block (λ x bs. NotNone bs × Short x bs) block-fits,
     )
 
-parts-fit : (x : List ℕ) (vs : List (List ℕ)) → Row (λ y w. Means true part y w) x vs → Short x (joined vs)
+parts-fit : (x : List ℕ) (vs : List (List ℕ)) → Row (λ y w. Means true part y w) x vs → Short x (concatenated vs)
 parts-fit x vs none = record { bytes = all-none isByte; short = omega arith }
 parts-fit x vs (Row.more {x = y} {y = z} {v} {vs = ws} p r) =
     let i = parts-fit z ws r in
     let j = part-fits y v p in
-    record { bytes = all-append isByte v (joined ws) (j .1 .bytes) (i .bytes); short = omega (arith, length-append y z, length-append v (joined ws), i .short, j .1 .short) }
+    record { bytes = all-append isByte v (concatenated ws) (j .1 .bytes) (i .bytes); short = omega (arith, length-append y z, length-append v (concatenated ws), i .short, j .1 .short) }
 
 pub pattern-fits : (x bs : List ℕ) → Means true patternBytes x bs → NotNone bs × Short x bs
 pattern-fits =
     every patternBytes (λ x bs. NotNone bs × Short x bs)
-    (known part (λ y v. (z : List ℕ) (ws : List (List ℕ)) → Row (λ y w. Means true part y w) z ws → NotNone (v ++ joined ws) × Short (y ++ z) (v ++ joined ws))
+    (known part (λ y v. (z : List ℕ) (ws : List (List ℕ)) → Row (λ y w. Means true part y w) z ws → NotNone (v ++ concatenated ws) × Short (y ++ z) (v ++ concatenated ws))
     (λ y v m z ws r.
     let i = part-fits y v m in
     let k = parts-fit (y ++ z) (v ∷ ws) (Row.more m r) in
-    (le-leb 1 (length (v ++ joined ws)) (omega (arith, length-append v (joined ws), leb-true 1 (length v) (i .0))), k)))
+    (le-leb 1 (length (v ++ concatenated ws)) (omega (arith, length-append v (concatenated ws), leb-true 1 (length v) (i .0))), k)))

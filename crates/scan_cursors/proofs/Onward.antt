@@ -7,7 +7,7 @@ use native.Mathlib.Omega.{arith}
 use lib.ListN.{length, drop, length-drop, length-append}
 use Rattle.forms.specs.Form.{Class, Form, Means, pair, many}
 use Rattle.forms.specs.Scan.{Scan, Got, Stop, scan, over, nullable, isLL1}
-use Rattle.forms.specs.Place.{Read, Parsed, OutOfRange, Failed, placed, readAt, mapped, farther}
+use Rattle.forms.specs.Place.{Read, Parsed, OutOfRange, Failed, placed, readAt, mapRead, farther}
 use Rattle.forms.specs.Pieces.{some}
 use Rattle.forms.proofs.Sound.{sound-loose, never}
 use Rattle.forms.proofs.Complete.{some-byte, no-empty}
@@ -160,7 +160,7 @@ some-filled {A} {f} {s} {c} {d} {vs} {n} r e =
     let z : Parsed vs n ≡ readAt (some f) s (b .0) = rw (e, i) at (r .reads) in
     go (readAt (pair f (many f)) s (b .0)) (z ∙ made-at (λ (p : A × List A). p .0 ∷ p .1) (pair f (many f)) s (b .0))
   where
-    go : (q : Read (A × List A)) → Parsed vs n ≡ mapped (λ (p : A × List A). p .0 ∷ p .1) q → 1 ≤ length vs
+    go : (q : Read (A × List A)) → Parsed vs n ≡ mapRead (λ (p : A × List A). p .0 ∷ p .1) q → 1 ≤ length vs
     go (Parsed p k) z = let y : vs ≡ p .0 ∷ p .1 = cc in rw y (omega arith)
     go (OutOfRange p k) z = never (cc)
     go (Failed p) z = never (cc)

@@ -6,7 +6,7 @@ use Prim.Native.Nat.{ℕ, _+_, _-_, _≤_, _<_}
 use native.Mathlib.Omega.{arith}
 use lib.ListN.{length, drop, getD, length-drop}
 use Rattle.forms.specs.Form.{Class, has, Form, pure, byte, pair, fmap, bound}
-use Rattle.forms.specs.Place.{Read, Parsed, OutOfRange, Failed, readAt, mapped, farther, both-read, bounded}
+use Rattle.forms.specs.Place.{Read, Parsed, OutOfRange, Failed, readAt, mapRead, farther, both-read, bounded}
 use Rattle.forms.specs.Pieces.{preceded, terminated}
 use Rattle.forms.proofs.Bools.{by-cases}
 use Rattle.forms.proofs.At.{pair-at, skip-at, before-at, made-at, tell-at, byte-at, byte-end, bound-at}
@@ -30,33 +30,33 @@ alike-reads {A} {f} {g} {s} {c} e i r = record { reads = r .reads ∙ from-alike
 
 -- ---- made
 
-mapped-farther : {A B : Type 0} (h : A → B) (p : ℕ) (r : Read A) → mapped h (farther {B = A} p r) ≡ farther p (mapped h r)
+mapped-farther : {A B : Type 0} (h : A → B) (p : ℕ) (r : Read A) → mapRead h (farther {B = A} p r) ≡ farther p (mapRead h r)
 mapped-farther h p (Parsed a n) = refl
 mapped-farther h p (OutOfRange q n) = refl
 mapped-farther h p (Failed q) = refl
 
-made-from : {A B : Type 0} (h : A → B) (f : Form A) (s : List ℕ) (c : Cursor) → mapped h (from c (λ n. readAt f s n)) ≡ from c (λ n. readAt (fmap h f) s n)
+made-from : {A B : Type 0} (h : A → B) (f : Form A) (s : List ℕ) (c : Cursor) → mapRead h (from c (λ n. readAt f s n)) ≡ from c (λ n. readAt (fmap h f) s n)
 made-from h f s (cursor.Parsed n) = sym (made-at h f s n)
 made-from h f s (cursor.OutOfRange p n) = mapped-farther h p (readAt f s n) ∙ ap (farther p) (sym (made-at h f s n))
 made-from h f s (cursor.Failed p) = refl
 
-mapped-by : {A B : Type 0} (h : A → B) (v : A) (d : Cursor) → mapped h (readBy v d) ≡ readBy (h v) d
+mapped-by : {A B : Type 0} (h : A → B) (v : A) (d : Cursor) → mapRead h (readBy v d) ≡ readBy (h v) d
 mapped-by h v (cursor.Parsed n) = refl
 mapped-by h v (cursor.OutOfRange p n) = refl
 mapped-by h v (cursor.Failed p) = refl
 
 pub made-reads : {A B : Type 0} {f : Form A} {s : List ℕ} {c d : Cursor} {v : A} (h : A → B) → Reads f s c v d → Reads (fmap h f) s c (h v) d
 made-reads {A} {B} {f} {s} {c} {d} {v} h r =
-    record { reads = sym (mapped-by h v d) ∙ ap (mapped h) (r .reads) ∙ made-from h f s c; inside = r .inside }
+    record { reads = sym (mapped-by h v d) ∙ ap (mapRead h) (r .reads) ∙ made-from h f s c; inside = r .inside }
 
 -- ---- one after the other
 
-farther-mapped : {A B : Type 0} (h : A → B) (p : ℕ) (r : Read A) → farther {B = B} p r ≡ mapped h (farther {B = A} p r)
+farther-mapped : {A B : Type 0} (h : A → B) (p : ℕ) (r : Read A) → farther {B = B} p r ≡ mapRead h (farther {B = A} p r)
 farther-mapped h p (Parsed a n) = refl
 farther-mapped h p (OutOfRange q n) = refl
 farther-mapped h p (Failed q) = refl
 
-by-both : {A B C : Type 0} (h : A → B → C) (v : A) (d : Cursor) (k : ℕ → Read B) → both-read h (readBy v d) k ≡ mapped (h v) (from d k)
+by-both : {A B C : Type 0} (h : A → B → C) (v : A) (d : Cursor) (k : ℕ → Read B) → both-read h (readBy v d) k ≡ mapRead (h v) (from d k)
 by-both h v (cursor.Parsed n) k = refl
 by-both h v (cursor.OutOfRange p n) k = farther-mapped (h v) p (k n)
 by-both h v (cursor.Failed p) k = refl
@@ -65,7 +65,7 @@ farther-both : {A B C : Type 0} (h : A → B → C) (p : ℕ) (r : Read A) (k : 
     → farther p (both-read h r k) ≡ both-read h (farther {B = A} p r) k
 farther-both {A} {B} {C} h p (Parsed a n) k = go (k n)
   where
-    go : (r : Read B) → farther {B = C} p (mapped (h a) r) ≡ farther p r
+    go : (r : Read B) → farther {B = C} p (mapRead (h a) r) ≡ farther p r
     go (Parsed b m) = refl
     go (OutOfRange q m) = refl
     go (Failed q) = refl
@@ -90,7 +90,7 @@ both-reads : {A B C : Type 0} {f : Form A} {g : Form B} {s : List ℕ} {c d e : 
 both-reads {A} {B} {C} {f} {g} {s} {c} {d} {e} {v} {w} h F at i r q =
     record {
       reads =
-          sym (mapped-by (h v) w e) ∙ ap (mapped (h v)) (q .reads) ∙ sym (by-both h v d (λ m. readAt g s m))
+          sym (mapped-by (h v) w e) ∙ ap (mapRead (h v)) (q .reads) ∙ sym (by-both h v d (λ m. readAt g s m))
           ∙ ap (λ (x : Read A). both-read h x (λ m. readAt g s m)) (r .reads)
           ∙ sym (from-both h c (λ n. readAt f s n) (λ m. readAt g s m))
           ∙ sym (from-alike s c (λ n. readAt F s n) (λ n. both-read h (readAt f s n) (λ m. readAt g s m)) i at);

@@ -9,7 +9,7 @@ use lib.Dec.{leb, ltb, eqb}
 use borrow.Author.Tests.{eqb-true, eqb-false, ltb-true, ltb-false, le-leb, lt-leb, leb-true, leb-false}
 use Rattle.forms.specs.Form.{Class, Form, byte, many, fmap, has}
 use Rattle.forms.specs.Scan.{begins}
-use Rattle.forms.specs.Place.{Read, Parsed, OutOfRange, Failed, readAt, mapped, both-read, bounded}
+use Rattle.forms.specs.Place.{Read, Parsed, OutOfRange, Failed, readAt, mapRead, both-read, bounded}
 use Rattle.forms.specs.Pieces.{preceded, some}
 use Rattle.forms.proofs.Bools.{by-cases, both-left, both-right}
 use Rattle.forms.proofs.At.{alt-at, skip-at, made-at, pair-at, bound-at, byte-at, byte-end, mapped-both}
@@ -31,12 +31,12 @@ x-sign = (120, 120) ∷ (88, 88) ∷ []
 stood : (c : List (ℕ × ℕ)) (s : List ℕ) (at : ℕ) → begins c (drop at s) ≡ true → readAt (byte c) s at ≡ Parsed (getD s at 0) (at + 1)
 stood c s at e = let h = begins-in c s at e in byte-at c s at h ∙ rw (sym (begins-at c s at h) ∙ e)
 
-mapped-id : {A : Type 0} (r : Read A) → mapped (λ (y : A). y) r ≡ r
+mapped-id : {A : Type 0} (r : Read A) → mapRead (λ (y : A). y) r ≡ r
 mapped-id (Parsed a n) = refl
 mapped-id (OutOfRange p n) = refl
 mapped-id (Failed p) = refl
 
-mapped-twice : {A B C : Type 0} (h : B → C) (g : A → B) (r : Read A) → mapped h (mapped g r) ≡ mapped (λ (a : A). h (g a)) r
+mapped-twice : {A B C : Type 0} (h : B → C) (g : A → B) (r : Read A) → mapRead h (mapRead g r) ≡ mapRead (λ (a : A). h (g a)) r
 mapped-twice h g (Parsed a n) = refl
 mapped-twice h g (OutOfRange p n) = refl
 mapped-twice h g (Failed p) = refl
@@ -64,7 +64,7 @@ abbrev joined : ℕ × List ℕ → List ℕ
 joined p = p .0 ∷ p .1
 
 -- a leading zero changes no number
-led-by-zero : (X : Read (List ℕ)) → mapped plainly (mapped (λ (l : List ℕ). 48 ∷ l) X) ≡ mapped plainly X
+led-by-zero : (X : Read (List ℕ)) → mapRead plainly (mapRead (λ (l : List ℕ). 48 ∷ l) X) ≡ mapRead plainly X
 unfolding valueOf digitValue
 led-by-zero (Parsed l n) = refl
 led-by-zero (OutOfRange p n) = refl
@@ -74,7 +74,7 @@ led-by-zero (Failed p) = refl
 
 module _ (s : List ℕ) (at : ℕ) where
   either-hex : begins zero-sign (drop at s) ≡ true → begins x-sign (drop (at + 1) s) ≡ true
-      → readAt eitherBase s at ≡ mapped (λ (l : List ℕ). (2, valueOf 16 0 l)) (readAt (some (byte hexDigits)) s (at + 2))
+      → readAt eitherBase s at ≡ mapRead (λ (l : List ℕ). (2, valueOf 16 0 l)) (readAt (some (byte hexDigits)) s (at + 2))
   either-hex z x =
       let e : at + 1 + 1 ≡ at + 2 = omega arith in
       alt-at _ _ s at
@@ -88,14 +88,14 @@ module _ (s : List ℕ) (at : ℕ) where
   some-at : at ≤ length s
       → readAt (some (byte decimalDigits)) s at ≡ both-read (λ (b : ℕ) (l : List ℕ). b ∷ l) (readAt (byte decimalDigits) s at) digits
   some-at h =
-      made-at _ _ s at ∙ ap (mapped joined) (pair-at (byte decimalDigits) (many (byte decimalDigits)) s at h)
+      made-at _ _ s at ∙ ap (mapRead joined) (pair-at (byte decimalDigits) (many (byte decimalDigits)) s at h)
       ∙ mapped-both joined (readAt (byte decimalDigits) s at) digits
 
   zero-digit : begins zero-sign (drop at s) ≡ true → getD s at 0 ≡ 48
   zero-digit z = let h = begins-in zero-sign s at z in eqb-true _ _ (sym (has-one 48 (getD s at 0)) ∙ sym (begins-at zero-sign s at h) ∙ z)
 
   either-zero : begins zero-sign (drop at s) ≡ true → begins x-sign (drop (at + 1) s) ≡ false
-      → readAt eitherBase s at ≡ mapped plainly (readAt (some (byte decimalDigits)) s at)
+      → readAt eitherBase s at ≡ mapRead plainly (readAt (some (byte decimalDigits)) s at)
   unfolding has
   either-zero z x =
       let h = begins-in zero-sign s at z in
@@ -103,7 +103,7 @@ module _ (s : List ℕ) (at : ℕ) where
       let e = some-at (omega arith) ∙ ap (λ (X : Read ℕ). both-read (λ (b : ℕ) (l : List ℕ). b ∷ l) X digits) d in
       alt-at _ _ s at
       ∙ rw z (skip-stood zero-sign _ s at z ∙ alt-at _ _ s (at + 1)
-      ∙ rw x (made-at _ _ s (at + 1) ∙ sym (ap (mapped plainly) e ∙ led-by-zero (digits (at + 1)))))
+      ∙ rw x (made-at _ _ s (at + 1) ∙ sym (ap (mapRead plainly) e ∙ led-by-zero (digits (at + 1)))))
 
   -- a digit that is no zero, or no digit at all
   other-digit : at ≤ length s → begins zero-sign (drop at s) ≡ false → readAt (byte ((49, 57) ∷ [])) s at ≡ readAt (byte decimalDigits) s at
@@ -118,16 +118,16 @@ module _ (s : List ℕ) (at : ℕ) where
       rw e (byte-end ((49, 57) ∷ []) s ∙ sym (byte-end decimalDigits s)))
 
   either-other : at ≤ length s → begins zero-sign (drop at s) ≡ false
-      → readAt eitherBase s at ≡ mapped plainly (readAt (some (byte decimalDigits)) s at)
+      → readAt eitherBase s at ≡ mapRead plainly (readAt (some (byte decimalDigits)) s at)
   either-other h z =
       let of : ℕ × List ℕ → ℕ × ℕ = λ p. (0, valueOf 10 0 (p .0 ∷ p .1)) in
       let X : Read ℕ = readAt (byte decimalDigits) s at in
       let two : Read ℕ → Read (ℕ × List ℕ) = λ (Y : Read ℕ). both-read (λ (b : ℕ) (l : List ℕ). (b, l)) Y digits in
       let one = pair-at (byte ((49, 57) ∷ [])) (many (byte decimalDigits)) s at h ∙ ap two (other-digit h z) in
-      let all = made-at _ _ s at ∙ ap (mapped joined) (pair-at (byte decimalDigits) (many (byte decimalDigits)) s at h) in
+      let all = made-at _ _ s at ∙ ap (mapRead joined) (pair-at (byte decimalDigits) (many (byte decimalDigits)) s at h) in
       alt-at _ _ s at
-      ∙ rw z (made-at of _ s at ∙ ap (mapped of) one ∙ mapped-both of X digits
-      ∙ sym (ap (mapped plainly) all ∙ mapped-twice plainly joined (two X) ∙ mapped-both of X digits))
+      ∙ rw z (made-at of _ s at ∙ ap (mapRead of) one ∙ mapped-both of X digits
+      ∙ sym (ap (mapRead plainly) all ∙ mapped-twice plainly joined (two X) ∙ mapped-both of X digits))
 
 -- ---- the number
 
@@ -140,8 +140,8 @@ within limit p = leb (p .1) limit
 
 -- bounds of the numeral and of its digits, over any reading of digits
 same-bound : (limit : ℕ) (s : List ℕ) (at here base k : ℕ) (X : Read (List ℕ)) → here ≡ at + k → here ≤ length s
-    → mapped (λ (p : ℕ × ℕ). p .1) (bounded (within limit) (λ (p : ℕ × ℕ). after s at (p .0)) (mapped (λ (l : List ℕ). (k, valueOf base 0 l)) X))
-    ≡ bounded (λ (n : ℕ). leb n limit) (λ (n : ℕ). after s here 0) (mapped (valueOf base 0) X)
+    → mapRead (λ (p : ℕ × ℕ). p .1) (bounded (within limit) (λ (p : ℕ × ℕ). after s at (p .0)) (mapRead (λ (l : List ℕ). (k, valueOf base 0 l)) X))
+    ≡ bounded (λ (n : ℕ). leb n limit) (λ (n : ℕ). after s here 0) (mapRead (valueOf base 0) X)
 same-bound limit s at here base k (Parsed l n) e h =
     let q : after s at k ≡ after s here 0 = omega (arith, length-drop k (drop at s), length-drop at s, length-drop here s, h, e) in
     by-cases (leb (valueOf base 0 l) limit) (λ t. rw t) (λ t. rw (t, q))
@@ -149,14 +149,14 @@ same-bound limit s at here base k (OutOfRange p n) e h = refl
 same-bound limit s at here base k (Failed p) e h = refl
 
 numeral-is : (limit : ℕ) (s : List ℕ) (at here k : ℕ) (c : Class) (base : ℕ) → here ≡ at + k → here ≤ length s
-    → readAt eitherBase s at ≡ mapped (λ (l : List ℕ). (k, valueOf base 0 l)) (readAt (some (byte c)) s here)
+    → readAt eitherBase s at ≡ mapRead (λ (l : List ℕ). (k, valueOf base 0 l)) (readAt (some (byte c)) s here)
     → readAt (numeral limit) s at ≡ readAt (digitsWithin c base limit) s here
 numeral-is limit s at here k c base e h x =
     let left = bound-at _ _ eitherBase s at ∙ ap (bounded (within limit) (λ (p : ℕ × ℕ). after s at (p .0))) x in
     let right =
     bound-at (λ (n : ℕ). leb n limit) (λ (n : ℕ). 0) (fmap (valueOf base 0) (some (byte c))) s here
     ∙ ap (bounded (λ (n : ℕ). leb n limit) (λ (n : ℕ). after s here 0)) (made-at (valueOf base 0) (some (byte c)) s here) in
-    made-at _ _ s at ∙ ap (mapped (λ (p : ℕ × ℕ). p .1)) left ∙ same-bound limit s at here base k (readAt (some (byte c)) s here) e h ∙ sym right
+    made-at _ _ s at ∙ ap (mapRead (λ (p : ℕ × ℕ). p .1)) left ∙ same-bound limit s at here base k (readAt (some (byte c)) s here) e h ∙ sym right
 
 pub hex-inside : (s : List ℕ) (at : ℕ) → hexMarked s at ≡ true → at + 2 ≤ length s
 hex-inside s at e = omega (arith, begins-in x-sign s (at + 1) (both-right (begins zero-sign (drop at s)) (begins x-sign (drop (at + 1) s)) e))
@@ -172,6 +172,6 @@ module _ (limit : ℕ) {s : List ℕ} {at : ℕ} {v : ℕ} {d : Cursor} where
   pub decimal-reads : at ≤ length s → hexMarked s at ≡ false → Reads (number limit) s (cursor.Parsed at) v d → Reads (numeral limit) s (cursor.Parsed at) v d
   decimal-reads h e r =
       let q : at ≡ at + 0 = omega arith in
-      let w : readAt eitherBase s at ≡ mapped plainly (readAt (some (byte decimalDigits)) s at) =
+      let w : readAt eitherBase s at ≡ mapRead plainly (readAt (some (byte decimalDigits)) s at) =
       by-cases (begins zero-sign (drop at s)) (λ z. either-zero s at z (rw z at e)) (λ z. either-other s at h z) in
       record { reads = r .reads ∙ sym (numeral-is limit s at at 0 decimalDigits 10 q h w); inside = r .inside }

@@ -8,7 +8,7 @@ use lib.ListN.{length, drop, getD}
 use Rattle.forms.specs.Bytes.{if_then_else_}
 use Rattle.forms.specs.Form.{Class, fmap}
 use Rattle.forms.specs.Scan.{firstSet, begins}
-use Rattle.forms.specs.Place.{readAt, mapped}
+use Rattle.forms.specs.Place.{readAt, mapRead}
 use Rattle.forms.specs.Pieces.{or, keyword, word}
 use Rattle.forms.proofs.At.{made-at, alt-at}
 use Rattle.forms.proofs.Bools.{by-cases}
@@ -45,7 +45,7 @@ module _ {A : Type 0} (w u : List ℕ) (h : Bool → A) (s : List ℕ) where
   either-at : (n : ℕ) → readAt (fmap h (or (keyword w true) (keyword u false))) s n ≡ readAt (or (keyword w (h true)) (keyword u (h false))) s n
   either-at n =
       let z = alt-at (keyword w (h true)) (keyword u (h false)) s n in
-      made-at h (or (keyword w true) (keyword u false)) s n ∙ ap (mapped h) (alt-at (keyword w true) (keyword u false) s n)
+      made-at h (or (keyword w true) (keyword u false)) s n ∙ ap (mapRead h) (alt-at (keyword w true) (keyword u false) s n)
       ∙ by-cases (begins (firstSet (keyword w true)) (drop n s))
       (λ t.
       let e : begins (firstSet (keyword w (h true))) (drop n s) ≡ true = rw (first-says w (h true)) t in

@@ -32,7 +32,7 @@ use Rattle.search_state.specs.declared.outcomes.Outcome.{Outcome}
 use Rattle.search_state.specs.Outcomes.{nothing, outcomeOf}
 use Rattle.search_state.specs.Choosing.{answer, afterIf}
 use Rattle.search_state.proofs.Extending.{first-outcome}
-use Rattle.search_items.specs.Items.{Ready}
+use Rattle.search_items.specs.Items.{ReadyItems}
 
 -- ---- no more positive patterns than patterns
 
@@ -85,7 +85,7 @@ module _ (t : Table) (formed : wellFormed t ≡ true) where
   few-positives = omega (arith, positives-few (slotsOf t) (t .bytes), few-patterns)
 
   pub ready-first : (s d : List ℕ) → length (t .bytes) < sizeBound → length s < sizeBound → length d < sizeBound
-      → Ready (slotsOf t) (t .bytes) s d None (placementOf [])
+      → ReadyItems (slotsOf t) (t .bytes) s d None (placementOf [])
   unfolding itemsOf
   ready-first s d b h k =
       record {

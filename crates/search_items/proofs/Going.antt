@@ -24,7 +24,7 @@ use Rattle.search_state.specs.Outcomes.{nothing}
 use Rattle.search_state.specs.Choosing.{answer}
 use Rattle.search_state.specs.declared.input.SearchInput.{SearchInput}
 use Rattle.search_state.specs.Inputs.{itemsLeft, slot0}
-use Rattle.search_items.specs.Items.{Ready, Trying}
+use Rattle.search_items.specs.Items.{ReadyItems, Trying}
 use Rattle.search_items.proofs.Stepping as stepping
 use Rattle.search_items.proofs.Stepping.{NoPattern}
 
@@ -53,11 +53,11 @@ pub record Gone (q : SearchInput) (k : ℕ) (b s d : List ℕ) (l : LastMatch) (
   pub held : q .count ≤ length (q .items)
   pub on : k ≤ i
   pub inside : from ≤ length b
-  pub ready : Ready (itemsLeft q i) (drop from b) s d l chosen
+  pub ready : ReadyItems (itemsLeft q i) (drop from b) s d l chosen
   pub same : found q s d l chosen on-bound (constraints (itemsLeft q k) b) ≡ found q s d l chosen on-bound (constraints (itemsLeft q i) (drop from b))
 
 pub gone-none : {q : SearchInput} {k : ℕ} {b s d : List ℕ} {l : LastMatch} {chosen : Placement} {on-bound : Bool} → q .count ≤ maxItems
-    → q .count ≤ length (q .items) → Ready (itemsLeft q k) b s d l chosen → Gone q k b s d l chosen on-bound k 0
+    → q .count ≤ length (q .items) → ReadyItems (itemsLeft q k) b s d l chosen → Gone q k b s d l chosen on-bound k 0
 gone-none few h rd = record { few = few; held = h; on = omega arith; inside = omega arith; ready = rd; same = refl }
 
 module _ {q : SearchInput} {k : ℕ} {b s d : List ℕ} {l : LastMatch} {chosen : Placement} {on-bound : Bool} {i from : ℕ}

@@ -33,7 +33,7 @@ use Rattle.search_state.specs.Choosing.{push, answer}
 use Rattle.search_state.proofs.Answering.{answer-nothing}
 use Rattle.search_state.specs.declared.input.SearchInput.{SearchInput}
 use Rattle.search_state.specs.Inputs.{itemsLeft, slot0}
-use Rattle.search_items.specs.Items.{Small, Ready, Trying}
+use Rattle.search_items.specs.Items.{Small, ReadyItems, Trying}
 
 -- ---- what is wanted
 
@@ -94,8 +94,8 @@ unfolding positives
 positives-placed p b ws = refl
 
 module _ (all : List Slot) (sl : Slot) (sls : List Slot) (u : all ≡ sl ∷ sls) (b s d : List ℕ) (l : LastMatch) (chosen : Placement)
-    (rd : Ready all b s d l chosen) where
-  pub ready-test : NoPattern (sl .item) → Ready sls b s d l chosen
+    (rd : ReadyItems all b s d l chosen) where
+  pub ready-test : NoPattern (sl .item) → ReadyItems sls b s d l chosen
   ready-test k =
       let room : positives (constraints all b) ≡ positives (constraints sls b) = ap positives (wanted-test all sl sls u b k) ∙ positives-test _ _ _ in
       record { small = rd .small; stored = omega (arith, rd .stored, bytes-test all sl sls u b k); room = omega (arith, rd .room, room) }
@@ -126,7 +126,7 @@ module _ (all : List Slot) (sl : Slot) (sls : List Slot) (u : all ≡ sl ∷ sls
           last = rd .small .last;
         }
 
-    pub ready-nowhere : p .negated ≡ true → Ready sls (drop (p .len) b) s d l chosen
+    pub ready-nowhere : p .negated ≡ true → ReadyItems sls (drop (p .len) b) s d l chosen
     ready-nowhere n =
         let rest = constraints sls (drop (p .len) b) in
         let room : positives (constraints all b) ≡ positives rest = ap positives (wanted-nowhere all sl sls u b p e n) ∙ positives-nowhere p _ _ in
@@ -153,7 +153,7 @@ module _ (sls : List Slot) (b : List ℕ) (p : Pattern) (own s d : List ℕ) (l 
   last-small at h = by-cases (p .negated) (λ t. rw t (tr .small .last)) (λ t. rw t h)
 
   pub ready-next : (at : Start) (next : LastMatch) (ws : Placement) → at .at + p .len < sizeBound → next ≡ lastAfter l p at → ws ≡ push chosen at
-      → Ready sls b s d next ws
+      → ReadyItems sls b s d next ws
   ready-next at next ws h en ew =
       record {
         small = record { bytes = tr .small .bytes; payload = tr .small .payload; decoded = tr .small .decoded; last = rw en (last-small at h) };

@@ -31,7 +31,7 @@ use Rattle.search_state.specs.Choosing.{push, answer, foundOr, startFrom}
 use Rattle.search_state.specs.declared.input.SearchInput.{SearchInput}
 use Rattle.search_state.proofs.Answering.{startsFrom, starts-met, starts-past, starts-out, answer-cons, answer-from, answer-nothing}
 use Rattle.search_state.specs.Inputs.{itemsLeft}
-use Rattle.search_items.specs.Items.{Ready, Trying}
+use Rattle.search_items.specs.Items.{ReadyItems, Trying}
 use Rattle.search_items.proofs.Stepping.{ready-next}
 use Rattle.search_items.proofs.Going.{found}
 
@@ -196,7 +196,7 @@ module _ {q : SearchInput} {k : ℕ} {rest s d : List ℕ} {l : LastMatch} {chos
     chosen-small = rw is (end-small more)
 
     module _ {next : LastMatch} {ac : Placement} (en : next ≡ lastAfter l p x) (ea : ac ≡ push chosen x) where
-      pub chosen-ready : Ready (itemsLeft q (k + 1)) rest s d next ac
+      pub chosen-ready : ReadyItems (itemsLeft q (k + 1)) rest s d next ac
       chosen-ready = ready-next (itemsLeft q (k + 1)) rest p own s d l chosen (o .trying) x next ac chosen-small en ea
 
       -- with the answer r of the items left after it

@@ -22,7 +22,7 @@ pub record Small (b s d : List ℕ) (l : LastMatch) : Type 0 where
   pub last : lastEnd l < sizeBound
 
 -- the items sls are left: their patterns' bytes are there, and room for the starts of the positive ones
-pub record Ready (sls : List Slot) (b s d : List ℕ) (l : LastMatch) (chosen : Placement) : Type 0 where
+pub record ReadyItems (sls : List Slot) (b s d : List ℕ) (l : LastMatch) (chosen : Placement) : Type 0 where
   pub small : Small b s d l
   pub stored : bytesOf (patternsOf sls) ≤ length b
   pub room : chosen .count + positives (constraints sls b) ≤ maxPatterns

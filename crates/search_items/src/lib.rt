@@ -8,7 +8,7 @@ ghost use Rattle.definitions.specs.Placements.{matched, constraints, placements
 ghost use Rattle.fields.specs.Seen.{seen};
 ghost use Rattle.search_state.specs.Choosing.{answer};
 ghost use Rattle.search_state.specs.Inputs.{itemsLeft};
-ghost use Rattle.search_items.specs.Items.{Ready, Trying};
+ghost use Rattle.search_items.specs.Items.{ReadyItems, Trying};
 use definitions::packet::LastMatch;
 use definitions::packet::Placement;
 use definitions::table::Item;
@@ -41,7 +41,7 @@ pub fn from_item<'a>(
     chosen: Placement,
     on_bound: bool,
 ) -> Outcome
-    requires { ⌜ (input .count ≤ maxItems) × Ready (itemsLeft input k) (now bytes) (now payload) (now decoded) last chosen ⌝ }
+    requires { ⌜ (input .count ≤ maxItems) × ReadyItems (itemsLeft input k) (now bytes) (now payload) (now decoded) last chosen ⌝ }
     ensures { λ r. ⌜ r ≡ answer chosen «on_bound» (drop (chosen .count) (input .bound)) (placements (seen (input .header) (now (payload .entry)) (now (decoded .entry)) (input .map)) (constraints (itemsLeft input k) (now (bytes .entry))) last) ⌝ }
 {
     let count = input.count;

@@ -16,7 +16,7 @@ use Rattle.definitions.specs.References.{usable, usableRun}
 use Rattle.table_references.specs.declared.counting.Run.{Run}
 use Rattle.list_laws.proofs.Choices.{if-true, if-false}
 use Rattle.list_laws.proofs.Firsts.{first-here, first-out}
-use Rattle.table_references.specs.Counting.{onward, past, pastOpen, toCome}
+use Rattle.table_references.specs.Counting.{usableFrom, past, pastOpen, toCome}
 
 pub none-passed : (sls : List Slot) → toCome (record { count = 0; last = None; ended = false }) sls ≡ usableRun None (patternsOf sls)
 unfolding toCome
@@ -30,8 +30,8 @@ all-passed run = by-cases (run .ended) (λ t. rw t) (λ f. rw f (add-zero _))
 sum : Run → List Pattern → ℕ
 sum run ps = if run .ended then run .count else run .count + usableRun (run .last) ps
 
-pattern-on : (run : Run) (p : Pattern) (ps : List Pattern) → run .ended ≡ false → sum run (p ∷ ps) ≡ sum (onward run p) ps
-unfolding sum onward usableRun
+pattern-on : (run : Run) (p : Pattern) (ps : List Pattern) → run .ended ≡ false → sum run (p ∷ ps) ≡ sum (usableFrom run p) ps
+unfolding sum usableFrom usableRun
 pattern-on run p ps e =
     by-cases (usable (run .last) p)
     (λ t. rw (e, t) (omega arith))
@@ -63,8 +63,8 @@ pub slots-end : (run : Run) (items : List Slot) (count i : ℕ) → count ≤ i 
 slots-end run items count i h = rw (first-out items count i h) (all-passed run)
 
 -- the count rises by one at most
-onward-count : (run : Run) (p : Pattern) → onward run p .count ≤ run .count + 1
-unfolding onward
+onward-count : (run : Run) (p : Pattern) → usableFrom run p .count ≤ run .count + 1
+unfolding usableFrom
 onward-count run p = by-cases (usable (run .last) p) (λ t. rw t (le-refl _)) (λ f. rw f (omega arith))
 
 open-count : (k : Kind) (run : Run) → pastOpen k run .count ≤ run .count + 1

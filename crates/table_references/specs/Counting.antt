@@ -11,15 +11,15 @@ use Rattle.definitions.specs.References.{lastAfter, usable, usableRun}
 use Rattle.table_references.specs.declared.counting.Run.{Run}
 
 -- a pattern more, and an item of any kind more
-unfoldable pub onward : Run → Pattern → Run
-onward run p =
+unfoldable pub usableFrom : Run → Pattern → Run
+usableFrom run p =
     if usable (run .last) p then record { count = run .count + 1; last = lastAfter (run .last) p (startAt 0); ended = false }
     else record { count = run .count; last = run .last; ended = true }
 
 abbrev pub pastOpen : Kind → Run → Run
 pastOpen unused run = run
 pastOpen (addressed a) run = run
-pastOpen (patterned p) run = onward run p
+pastOpen (patterned p) run = usableFrom run p
 pastOpen plainTest run = run
 
 unfoldable pub past : Kind → Run → Run

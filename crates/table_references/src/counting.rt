@@ -6,7 +6,7 @@ ghost use Rattle.definitions.specs.declared.packet.LastMatch.the-variants.{None
 ghost use Rattle.definitions.specs.Limits.{maxItems};
 ghost use Rattle.definitions.specs.Items.{kindOf, patternsOf};
 ghost use Rattle.definitions.specs.References.{usableRun};
-ghost use Rattle.table_references.specs.Counting.{onward, past};
+ghost use Rattle.table_references.specs.Counting.{usableFrom, past};
 use crate::usable::is_usable;
 use crate::usable::last_after;
 use definitions::limits::ITEMS;
@@ -24,7 +24,7 @@ pub struct Run {
 
 fn past_pattern(run: Run, p: Pattern) -> Run
     requires { ⌜ run .count < maxItems ⌝ }
-    ensures { λ r. ⌜ r ≡ onward run p ⌝ }
+    ensures { λ r. ⌜ r ≡ usableFrom run p ⌝ }
 {
     let last = run.last;
     if is_usable(last, p) {

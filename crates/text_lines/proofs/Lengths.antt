@@ -27,7 +27,7 @@ use Rattle.laws.proofs.Places.{place-most}
 use Rattle.laws.proofs.Digits.{decimal-most}
 use Rattle.line_stream.specs.declared.Begun.{Begun}
 use Rattle.line_stream.specs.declared.Fed.{Fed}
-use Rattle.line_stream.specs.Stream.{maxNumber, answerTo, Feeds}
+use Rattle.line_stream.specs.Stream.{maxLineNumber, lineAnswer, Feeds}
 use Rattle.line_stream.proofs.Running.{goes-on}
 
 -- ---- the answer to a text
@@ -90,11 +90,11 @@ line-most s = outcome-most (read documentLimits s .outcome) (read documentLimits
 
 -- ---- with its number, and in a feed
 
-pub answer-most : (n : ℕ) (s : List ℕ) → n ≤ maxNumber → length (answerTo (lineOf documentLimits) n s) ≤ 1049
+pub answer-most : (n : ℕ) (s : List ℕ) → n ≤ maxLineNumber → length (lineAnswer (lineOf documentLimits) n s) ≤ 1049
 answer-most n s h =
     let tail = lineOf documentLimits s ++ text "\n" in
     omega (arith, length-append (decimal n) (9 ∷ tail), length-append (lineOf documentLimits s) (text "\n"), decimal-most n (omega (arith, h)), line-most s)
 
-pub always-takes : {input line out line' out' : List ℕ} {b : Begun} {r : Fed} → 1049 ≤ length out → b .number ≤ maxNumber → 0 < length input
+pub always-takes : {input line out line' out' : List ℕ} {b : Begun} {r : Fed} → 1049 ≤ length out → b .number ≤ maxLineNumber → 0 < length input
     → Feeds (lineOf documentLimits) input line out line' out' b r → 0 < r .taken
 always-takes room counts some f = goes-on (lineOf documentLimits) 1049 answer-most room (omega arith) counts some f

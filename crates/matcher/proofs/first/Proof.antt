@@ -1,12 +1,12 @@
 -- A refusal is the first due of 20 and 30 to 34; else the first goes by facts and payload.
 use mathlib.Core.Path.{_∙_}
-use Rattle.match_placements.proofs.Cleared.{seen-cleared, searchable}
+use Rattle.match_placements.proofs.CheckedInput.{seen-checked, searchable}
 use Rattle.matcher.proofs.Answering.{first-refused, first-here}
 use Rattle.matcher.proofs.first.Statement.{statement}
 use Rattle.matcher.proofs.first.Tie as tie
 
-cleared-requires : tie.Need-cleared-requires
-cleared-requires c κs = tt
+check-input-requires : tie.Need-check-input-requires
+check-input-requires c κs = tt
 
 enum-known-seen : tie.Need-enum-known-seen
 enum-known-seen c = c .match .keys1
@@ -24,28 +24,28 @@ first-in-requires : tie.Need-first-in-requires
 first-in-requires c κs =
     let a = c .before .before .before .before in
     let x = a .before .before .before .args in
-    let ok = seen-cleared (x .t) (x .p .now) (x .decoded .now) (a .cleared .ensures) (c .before .before .seen2 .given .1) (c .payload-of .ensures .0) in
+    let ok = seen-checked (x .t) (x .p .now) (x .decoded .now) (a .check-input .ensures) (c .before .before .seen2 .given .1) (c .payload-of .ensures .0) in
     searchable ok
 
 returns : tie.Need-returns
 returns c =
     let a = c .before .before .before .before in
     let x = a .before .before .before .args in
-    first-refused (x .t) (x .p .now) (x .decoded .now) (x .dir) (x .m) (a .cleared .ensures) (c .before .before .seen .given .1) (c .refused .ensures)
+    first-refused (x .t) (x .p .now) (x .decoded .now) (x .dir) (x .m) (a .check-input .ensures) (c .before .before .seen .given .1) (c .refused .ensures)
 
 returns-2 : tie.Need-returns-2
 returns-2 c =
     let s = c .before in
     let a = s .before .before .before .before in
     let x = a .before .before .before .args in
-    let ok = seen-cleared (x .t) (x .p .now) (x .decoded .now) (a .cleared .ensures) (s .before .before .seen2 .given .1) (s .payload-of .ensures .0) in
+    let ok = seen-checked (x .t) (x .p .now) (x .decoded .now) (a .check-input .ensures) (s .before .before .seen2 .given .1) (s .payload-of .ensures .0) in
     c .first-in .ensures ∙ first-here ok (x .dir) (x .m)
 
 pub first-spec : {M : Type 1} → statement M
 first-spec =
     tie.close
     (tie.spec
-    cleared-requires
+    check-input-requires
     enum-known-seen
     refused-requires
     enum-known-seen-2

@@ -1,14 +1,14 @@
 -- A refusal is the first due of 20 and 30 to 34; else the verdict is what the first by facts and payload comes to.
 use mathlib.Core.Path.{ap, _∙_}
 use Rattle.definitions.specs.declared.answers.Answer.{Answer}
-use Rattle.match_placements.proofs.Cleared.{seen-cleared, searchable}
+use Rattle.match_placements.proofs.CheckedInput.{seen-checked, searchable}
 use Rattle.matcher.specs.Verdicts.{verdictOf}
 use Rattle.matcher.proofs.Answering.{verdict-refused, verdict-here}
 use Rattle.matcher.proofs.verdict.Statement.{statement}
 use Rattle.matcher.proofs.verdict.Tie as tie
 
-cleared-requires : tie.Need-cleared-requires
-cleared-requires c κs = tt
+check-input-requires : tie.Need-check-input-requires
+check-input-requires c κs = tt
 
 enum-known-seen : tie.Need-enum-known-seen
 enum-known-seen c = c .match .keys1
@@ -23,7 +23,7 @@ first-in-requires : tie.Need-first-in-requires
 first-in-requires c κs =
     let a = c .before .before .before .before in
     let x = a .before .before .before .args in
-    let ok = seen-cleared (x .t) (x .p .now) (x .decoded .now) (a .cleared .ensures) (c .before .before .seen2 .given .1) (c .payload-of .ensures .0) in
+    let ok = seen-checked (x .t) (x .p .now) (x .decoded .now) (a .check-input .ensures) (c .before .before .seen2 .given .1) (c .payload-of .ensures .0) in
     searchable ok
 
 verdict-of-requires : tie.Need-verdict-of-requires
@@ -32,7 +32,7 @@ verdict-of-requires c κs = tt
 returns : tie.Need-returns
 returns c =
     let x = c .before .before .before .before .before .before .args in
-    verdict-refused (x .t) (x .p .now) (x .decoded .now) (x .dir) (x .m) (c .before .before .before .cleared .ensures) (c .before .seen .given .1)
+    verdict-refused (x .t) (x .p .now) (x .decoded .now) (x .dir) (x .m) (c .before .before .before .check-input .ensures) (c .before .seen .given .1)
 
 returns-2 : tie.Need-returns-2
 returns-2 c =
@@ -40,14 +40,14 @@ returns-2 c =
     let s = first .before in
     let a = s .before .before .before .before in
     let x = a .before .before .before .args in
-    let ok = seen-cleared (x .t) (x .p .now) (x .decoded .now) (a .cleared .ensures) (s .before .before .seen2 .given .1) (s .payload-of .ensures .0) in
+    let ok = seen-checked (x .t) (x .p .now) (x .decoded .now) (a .check-input .ensures) (s .before .before .seen2 .given .1) (s .payload-of .ensures .0) in
     c .verdict-of .ensures ∙ ap (λ (y : Answer). verdictOf (y .found)) (first .first-in .ensures) ∙ verdict-here ok (x .dir) (x .m)
 
 pub verdict-spec : {M : Type 1} → statement M
 verdict-spec =
     tie.close
     (tie.spec
-    cleared-requires
+    check-input-requires
     enum-known-seen
     enum-known-seen-2
     payload-of-requires

@@ -1,11 +1,11 @@
 -- A refusal is the first due of 20 and 30 to 34; else what is still due and the list go by facts and payload.
 use Rattle.write_bytes.proofs.Putting.{told, same-length as same}
-use Rattle.match_placements.proofs.Cleared.{refused-check, seen-cleared, searchable, check-here, list-here}
+use Rattle.match_placements.proofs.CheckedInput.{refused-check, seen-checked, searchable, check-here, list-here}
 use Rattle.case_lists.proofs.lists.put_list.Statement.{statement}
 use Rattle.case_lists.proofs.lists.put_list.Tie as tie
 
-cleared-requires : tie.Need-cleared-requires
-cleared-requires c κs = tt
+check-input-requires : tie.Need-check-input-requires
+check-input-requires c κs = tt
 
 enum-known-seen : tie.Need-enum-known-seen
 enum-known-seen c = c .match .keys1
@@ -24,7 +24,7 @@ put-seen-requires c κs =
     let s = c .before in
     let a = s .before .before .before .before in
     let x = a .before .before .before .before .args in
-    let ok = seen-cleared (x .t) (x .p .now) (x .decoded .now) (a .cleared .ensures) (s .before .before .seen2 .given .1) (s .payload-of .ensures .0) in
+    let ok = seen-checked (x .t) (x .p .now) (x .decoded .now) (a .check-input .ensures) (s .before .before .seen2 .given .1) (s .payload-of .ensures .0) in
     searchable ok
 
 returns : tie.Need-returns
@@ -32,7 +32,7 @@ returns c =
     let k = c .before .before .before .before .before in
     let a = k .before .before in
     let x = a .before .before .before .before .args in
-    let check = refused-check (x .t) (x .p .now) (x .decoded .now) (a .cleared .ensures) (k .seen .given .1) (x .dir) (x .m) in
+    let check = refused-check (x .t) (x .p .now) (x .decoded .now) (a .check-input .ensures) (k .seen .given .1) (x .dir) (x .m) in
     told (rw check) (c .before .before .put-refused .ensures)
 
 returns-2 : tie.Need-returns-2
@@ -40,7 +40,7 @@ returns-2 c =
     let s = c .before .before .before .before in
     let a = s .before .before .before .before in
     let x = a .before .before .before .before .args in
-    let ok = seen-cleared (x .t) (x .p .now) (x .decoded .now) (a .cleared .ensures) (s .before .before .seen2 .given .1) (s .payload-of .ensures .0) in
+    let ok = seen-checked (x .t) (x .p .now) (x .decoded .now) (a .check-input .ensures) (s .before .before .seen2 .given .1) (s .payload-of .ensures .0) in
     told (rw (check-here ok (x .dir) (x .m), list-here ok (x .dir) (x .m))) (c .before .before .put-seen .ensures)
 
 same-length : tie.Need-same-length
@@ -53,7 +53,7 @@ pub put-list-spec : {M : Type 1} → statement M
 put-list-spec =
     tie.close
     (tie.spec
-    cleared-requires
+    check-input-requires
     enum-known-seen
     put-refused-requires
     enum-known-seen-2

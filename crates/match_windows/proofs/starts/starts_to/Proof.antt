@@ -8,7 +8,7 @@ use lib.IntN.{ℤ, pos, _+ℤ_}
 use lib.Signed.{leZ}
 use mir.Val.{toZ, ofZ}
 use Rattle.match_windows.proofs.Sums.{end-back}
-use Rattle.match_windows.specs.Ends.{clip, startsTo}
+use Rattle.match_windows.specs.Ends.{clip, endsTo}
 use Rattle.match_windows.proofs.Exact.{to-none, to-some}
 use mir.Syntax.{w64}
 use borrow.Author.Tests.{not-true, not-false}
@@ -26,7 +26,7 @@ room-requires : tie.Need-room-requires
 room-requires c κs = search needs
 
 returns : tie.Need-returns
-unfolding startsTo
+unfolding endsTo
 returns c = rw (c .before .enum-told .given .1) (c .room .ensures)
 
 window-end-requires : tie.Need-window-end-requires

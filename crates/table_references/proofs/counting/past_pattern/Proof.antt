@@ -1,6 +1,6 @@
 -- Each return rewrites with what `is_usable` ensures of the test that led there.
 use mathlib.Core.Path.{sym, _∙_}
-use Rattle.table_references.specs.Counting.{onward}
+use Rattle.table_references.specs.Counting.{usableFrom}
 use borrow.Author.Needs.{needs}
 use Rattle.table_references.proofs.counting.past_pattern.Statement.{statement}
 use Rattle.table_references.proofs.counting.past_pattern.Tie as tie
@@ -15,11 +15,11 @@ add-t6 : tie.Need-add-t6
 add-t6 c = search needs
 
 returns : tie.Need-returns
-unfolding onward
+unfolding usableFrom
 returns c = simp (sym (c .before .before .before .is-usable .ensures) ∙ c .before .before .if1 .taken, c .before .last-after .ensures)
 
 returns-2 : tie.Need-returns-2
-unfolding onward
+unfolding usableFrom
 returns-2 c = simp (sym (c .before .is-usable .ensures) ∙ c .if1 .left)
 
 pub past-pattern-spec : {M : Type 1} → statement M

@@ -28,7 +28,7 @@ use Rattle.laws.proofs.Checks.{refuse-fine, neither}
 use Rattle.packet.specs.Datagram.{payloadPart}
 use Rattle.packet.proofs.Payloads.{payload-part}
 use Rattle.search.specs.Searching.{Searchable}
-use Rattle.match_checks.specs.Clearing.{clearingCheck, clearance}
+use Rattle.match_checks.specs.InputChecks.{tableAndPacketCheck, inputHeader}
 use Rattle.match_placements.specs.Listing.{listIn}
 
 by-seen : (w : Check) (g : List ℕ) (f : PacketHeader) → packetBy w g ≡ Seen f → (w ≡ Pass) × (f ≡ headerOf g)
@@ -46,7 +46,7 @@ refused-first false i r Pass v e = cc
 refused-first false i r (Refuse s) v e = e
 
 -- neither 20 nor any of 30 to 34 is due, and f and s are the datagram's facts and payload
-pub record Cleared (t : Table) (p d : List ℕ) (f : PacketHeader) (s : List ℕ) : Type 0 where
+pub record CheckedInput (t : Table) (p d : List ℕ) (f : PacketHeader) (s : List ℕ) : Type 0 where
   pub formed : wellFormed t ≡ true
   pub packet : packetCheck p d ≡ Pass
   pub header : f ≡ headerOf (datagramOf p)
@@ -54,15 +54,15 @@ pub record Cleared (t : Table) (p d : List ℕ) (f : PacketHeader) (s : List ℕ
 
 -- ---- what the answer a says
 
-module _ (t : Table) (p d : List ℕ) {a : PacketAnswer} (e : a ≡ clearance t p d) where
+module _ (t : Table) (p d : List ℕ) {a : PacketAnswer} (e : a ≡ inputHeader t p d) where
   pub refused-check : {r : Refusal} → a ≡ Refused r → (dir : Direction) (m : FieldMap) → inputCheck t p d dir m ≡ Refuse r
   unfolding inputCheck
   refused-check {r} k dir m =
-      refused-first (not (wellFormed t)) refusal.IllFormed r (packetCheck p d) _ (by-refused (clearingCheck t p d) (datagramOf p) r (sym e ∙ k))
+      refused-first (not (wellFormed t)) refusal.IllFormed r (packetCheck p d) _ (by-refused (tableAndPacketCheck t p d) (datagramOf p) r (sym e ∙ k))
 
-  pub seen-cleared : {f : PacketHeader} → a ≡ Seen f → {s : List ℕ} → s ≡ payloadPart p f → Cleared t p d f s
-  seen-cleared {f} k q =
-      let w = by-seen (clearingCheck t p d) (datagramOf p) f (sym e ∙ k) in
+  pub seen-checked : {f : PacketHeader} → a ≡ Seen f → {s : List ℕ} → s ≡ payloadPart p f → CheckedInput t p d f s
+  seen-checked {f} k q =
+      let w = by-seen (tableAndPacketCheck t p d) (datagramOf p) f (sym e ∙ k) in
       let z = refuse-fine (not (wellFormed t)) refusal.IllFormed (packetCheck p d) (w .0) in
       record {
         formed = not-false (wellFormed t) (z .0);
@@ -73,7 +73,7 @@ module _ (t : Table) (p d : List ℕ) {a : PacketAnswer} (e : a ≡ clearance t 
 
 -- ---- what is handed on
 
-module _ {t : Table} {p d : List ℕ} {f : PacketHeader} {s : List ℕ} (c : Cleared t p d f s) where
+module _ {t : Table} {p d : List ℕ} {f : PacketHeader} {s : List ℕ} (c : CheckedInput t p d f s) where
   buffer-lengths : (length p ≤ maxPacket) × (length d ≤ maxDecoded)
   unfolding packetCheck
   buffer-lengths =

@@ -11,9 +11,9 @@ use Rattle.definitions.specs.WellFormed.{wellFormed}
 use Rattle.definitions.specs.Packet.{datagramOf, packetCheck, packetBy}
 
 -- 20, then 30 to 34
-abbrev pub clearingCheck : Table → List ℕ → List ℕ → Check
-clearingCheck t p decoded = refuseIf (not (wellFormed t)) refusal.IllFormed (packetCheck p decoded)
+abbrev pub tableAndPacketCheck : Table → List ℕ → List ℕ → Check
+tableAndPacketCheck t p decoded = refuseIf (not (wellFormed t)) refusal.IllFormed (packetCheck p decoded)
 
 -- the facts of the datagram, or the first due of these
-abbrev pub clearance : Table → List ℕ → List ℕ → PacketAnswer
-clearance t p decoded = packetBy (clearingCheck t p decoded) (datagramOf p)
+abbrev pub inputHeader : Table → List ℕ → List ℕ → PacketAnswer
+inputHeader t p decoded = packetBy (tableAndPacketCheck t p decoded) (datagramOf p)

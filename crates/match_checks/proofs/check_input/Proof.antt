@@ -2,8 +2,8 @@
 use mathlib.Core.Path.{sym, _∙_}
 use borrow.Author.Tests.{not-true, not-false}
 use Rattle.definitions.specs.Packet.{packetAnswer}
-use Rattle.match_checks.proofs.cleared.Statement.{statement}
-use Rattle.match_checks.proofs.cleared.Tie as tie
+use Rattle.match_checks.proofs.check_input.Statement.{statement}
+use Rattle.match_checks.proofs.check_input.Tie as tie
 
 well-formed-requires : tie.Need-well-formed-requires
 well-formed-requires c κs = tt
@@ -18,5 +18,5 @@ returns-2 : tie.Need-returns-2
 unfolding packetAnswer
 returns-2 c = rw (sym (c .before .before .well-formed .ensures) ∙ not-false _ (c .before .if1 .left)) (c .packet-header .ensures)
 
-pub cleared-spec : {M : Type 1} → statement M
-cleared-spec = tie.close (tie.spec well-formed-requires returns packet-header-requires returns-2)
+pub check-input-spec : {M : Type 1} → statement M
+check-input-spec = tie.close (tie.spec well-formed-requires returns packet-header-requires returns-2)
