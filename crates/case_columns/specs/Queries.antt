@@ -5,8 +5,8 @@ use mathlib.Core.List.{List, [], map}
 use lib.ListN.{length}
 use lib.Dec.{leb}
 use Rattle.forms.specs.Bytes.{if_then_else_, text}
-use Rattle.definitions.specs.declared.packet.Placement.{Placement}
-use Rattle.definitions.specs.declared.packet.Start.{Start}
+use Rattle.definitions.specs.declared.packets.Placement.{Placement}
+use Rattle.definitions.specs.declared.packets.Start.{Start}
 use Rattle.definitions.specs.Limits.{maxPatterns}
 use Rattle.definitions.specs.Lists.{all?, none?, sameBytes}
 use Rattle.definitions.specs.Numbers.{valueOf}

@@ -7,10 +7,10 @@ use native.Mathlib.Omega.{arith}
 use lib.ListN.{length, replicate}
 use lib.Seq.{take-append-seam}
 use Rattle.definitions.specs.declared.table.Table.{Table}
-use Rattle.definitions.specs.declared.packet.Direction.{Direction}
-use Rattle.definitions.specs.declared.packet.PacketHeader.{PacketHeader}
-use Rattle.definitions.specs.declared.packet.FieldMap.{FieldMap}
-use Rattle.definitions.specs.declared.packet.Start.{Start}
+use Rattle.definitions.specs.declared.packets.Direction.{Direction}
+use Rattle.definitions.specs.declared.packets.PacketHeader.{PacketHeader}
+use Rattle.definitions.specs.declared.packets.FieldMap.{FieldMap}
+use Rattle.definitions.specs.declared.packets.Start.{Start}
 use Rattle.definitions.specs.Limits.{maxPatterns}
 use Rattle.definitions.specs.Lists.{keep}
 use Rattle.definitions.specs.Starts.{startAt}

@@ -1,7 +1,7 @@
 // The answer to one ask: a placement, none, or a refusal.
 ghost use Rattle.write_bytes.specs.Puts.{Puts};
 ghost use Rattle.case_lists.specs.AnswerTexts.{refusedText, answerText};
-use crate::placements::put_placement;
+use crate::placement_text::put_placement;
 use definitions::answers::Answer;
 use definitions::answers::Found;
 use definitions::answers::Refusal;

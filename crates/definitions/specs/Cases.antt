@@ -5,10 +5,10 @@ use Prim.Native.Nat.{ℕ, _+_, _-_, _*_, _/_, _%_}
 use Prim.Native.String.{String}
 use lib.ListN.{length, replicate}
 use lib.Dec.{eqb}
-use Rattle.definitions.specs.declared.packet.Direction.the-variants.{Client}
-use Rattle.definitions.specs.declared.packet.FieldSpan.{FieldSpan}
-use Rattle.definitions.specs.declared.packet.FieldSpan.the-variants.{Absent, At}
-use Rattle.definitions.specs.declared.packet.FieldMap.{FieldMap}
+use Rattle.definitions.specs.declared.packets.Direction.the-variants.{Client}
+use Rattle.definitions.specs.declared.packets.FieldSpan.{FieldSpan}
+use Rattle.definitions.specs.declared.packets.FieldSpan.the-variants.{Absent, At}
+use Rattle.definitions.specs.declared.packets.FieldMap.{FieldMap}
 use Rattle.definitions.specs.declared.answers.Reading.{Reading}
 use Rattle.definitions.specs.declared.answers.Query.{Query}
 use Rattle.definitions.specs.declared.answers.Query.the-variants.{First, Next}

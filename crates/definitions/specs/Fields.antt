@@ -9,11 +9,11 @@ use Rattle.definitions.specs.declared.table.Context.{Context}
 use Rattle.definitions.specs.declared.table.Context.the-variants as context
 use Rattle.definitions.specs.declared.table.SizeField.{SizeField}
 use Rattle.definitions.specs.declared.table.SizeField.the-variants as sizeField
-use Rattle.definitions.specs.declared.packet.Span.{Span}
-use Rattle.definitions.specs.declared.packet.FieldSpan.{FieldSpan}
-use Rattle.definitions.specs.declared.packet.FieldSpan.the-variants.{Absent, At}
-use Rattle.definitions.specs.declared.packet.FieldMap.{FieldMap}
-use Rattle.definitions.specs.declared.packet.PacketHeader.{PacketHeader}
+use Rattle.definitions.specs.declared.packets.Span.{Span}
+use Rattle.definitions.specs.declared.packets.FieldSpan.{FieldSpan}
+use Rattle.definitions.specs.declared.packets.FieldSpan.the-variants.{Absent, At}
+use Rattle.definitions.specs.declared.packets.FieldMap.{FieldMap}
+use Rattle.definitions.specs.declared.packets.PacketHeader.{PacketHeader}
 use Rattle.definitions.specs.declared.answers.Refusal.the-variants as refusal
 use Rattle.definitions.specs.declared.answers.Check.{Check}
 use Rattle.definitions.specs.declared.answers.Check.the-variants.{Pass}

@@ -6,7 +6,7 @@ use mathlib.Core.List.{List}
 use lib.ListN.{length, getD, take, drop}
 use lib.Dec.{eqb, ltb}
 use Rattle.forms.specs.Bytes.{if_then_else_}
-use Rattle.definitions.specs.declared.packet.PacketHeader.{PacketHeader}
+use Rattle.definitions.specs.declared.packets.PacketHeader.{PacketHeader}
 use Rattle.definitions.specs.declared.answers.Refusal.the-variants as refusal
 use Rattle.definitions.specs.declared.answers.Check.{Check}
 use Rattle.definitions.specs.declared.answers.Check.the-variants.{Pass, Refuse}

@@ -16,9 +16,9 @@ use Rattle.definitions.specs.declared.table.Distance.the-variants as dis
 use Rattle.definitions.specs.declared.table.Within.{Within}
 use Rattle.definitions.specs.declared.table.Within.the-variants as within
 use Rattle.definitions.specs.declared.table.Pattern.{Pattern}
-use Rattle.definitions.specs.declared.packet.LastMatch.{LastMatch}
-use Rattle.definitions.specs.declared.packet.LastMatch.the-variants.{None, Some}
-use Rattle.definitions.specs.declared.packet.Start.{Start}
+use Rattle.definitions.specs.declared.packets.LastMatch.{LastMatch}
+use Rattle.definitions.specs.declared.packets.LastMatch.the-variants.{None, Some}
+use Rattle.definitions.specs.declared.packets.Start.{Start}
 use Rattle.definitions.specs.OptionValues.{OptionValue}
 use Rattle.definitions.specs.Tables.{slotsIn}
 use Rattle.definitions.specs.Items.{patternsOf}

@@ -2,7 +2,7 @@
 use Prim.Native.Nat.{ℕ}
 use mathlib.Core.Bool.{Bool}
 use lib.Dec.{eqb, ltb}
-use Rattle.definitions.specs.declared.packet.Start.{Start}
+use Rattle.definitions.specs.declared.packets.Start.{Start}
 
 -- the start so many bytes from the field's start, and a start as the number that answers are compared by
 abbrev pub startAt : ℕ → Start

@@ -27,11 +27,11 @@ use Rattle.definitions.specs.declared.table.AtTest.{AtTest}
 use Rattle.definitions.specs.declared.table.Item.{Item}
 use Rattle.definitions.specs.declared.table.Item.the-variants as item
 use Rattle.definitions.specs.declared.table.Address.{Address}
-use Rattle.definitions.specs.declared.packet.Direction.{Direction}
-use Rattle.definitions.specs.declared.packet.Direction.the-variants.{Client, Server}
-use Rattle.definitions.specs.declared.packet.PacketHeader.{PacketHeader}
-use Rattle.definitions.specs.declared.packet.LastMatch.{LastMatch}
-use Rattle.definitions.specs.declared.packet.LastMatch.the-variants as last
+use Rattle.definitions.specs.declared.packets.Direction.{Direction}
+use Rattle.definitions.specs.declared.packets.Direction.the-variants.{Client, Server}
+use Rattle.definitions.specs.declared.packets.PacketHeader.{PacketHeader}
+use Rattle.definitions.specs.declared.packets.LastMatch.{LastMatch}
+use Rattle.definitions.specs.declared.packets.LastMatch.the-variants as last
 use Rattle.definitions.specs.Packet.{hasPorts}
 use Rattle.definitions.specs.Fields.{View, sizeContext}
 

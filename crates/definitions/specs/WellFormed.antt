@@ -18,7 +18,7 @@ use Rattle.definitions.specs.declared.table.Item.the-variants as item
 use Rattle.definitions.specs.declared.table.Address.{Address}
 use Rattle.definitions.specs.declared.table.Slot.{Slot}
 use Rattle.definitions.specs.declared.table.Table.{Table}
-use Rattle.definitions.specs.declared.packet.LastMatch.the-variants.{None}
+use Rattle.definitions.specs.declared.packets.LastMatch.the-variants.{None}
 use Rattle.definitions.specs.Limits.{maxName, maxPatterns, maxTests, maxItems, maxAddresses, maxByte, maxWord, maxAddress, maxPrefix}
 use Rattle.definitions.specs.Lists.{all?}
 use Rattle.definitions.specs.Forms.{quotable, maxField, maxNumber}

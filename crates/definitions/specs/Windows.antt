@@ -15,8 +15,8 @@ use Rattle.definitions.specs.declared.table.Distance.the-variants as dis
 use Rattle.definitions.specs.declared.table.Within.{Within}
 use Rattle.definitions.specs.declared.table.Within.the-variants as within
 use Rattle.definitions.specs.declared.table.Pattern.{Pattern}
-use Rattle.definitions.specs.declared.packet.LastMatch.{LastMatch}
-use Rattle.definitions.specs.declared.packet.LastMatch.the-variants.{None, Some}
+use Rattle.definitions.specs.declared.packets.LastMatch.{LastMatch}
+use Rattle.definitions.specs.declared.packets.LastMatch.the-variants.{None, Some}
 
 -- r is 0, or with `match` the end of the last positive pattern before, if there is one
 abbrev pub lastEnd : LastMatch → ℕ

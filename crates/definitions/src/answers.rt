@@ -1,6 +1,6 @@
 // The answers of the public entries. specs/Refusals.antt gives document 01's number and values for each case.
-use crate::packet::PacketHeader;
-use crate::packet::Placement;
+use crate::packets::PacketHeader;
+use crate::packets::Placement;
 use crate::table::Table;
 
 // The causes of refusal: 1 to 12, 20 to 22, 30 to 36, in this order.

@@ -1,5 +1,5 @@
 // The types of document 01: limits, the rule table, packet and fields, answers. No code; specs/ says what they mean.
 pub mod answers;
 pub mod limits;
-pub mod packet;
+pub mod packets;
 pub mod table;

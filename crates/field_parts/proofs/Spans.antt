@@ -8,9 +8,9 @@ use lib.ListN.{length, take, drop}
 use lib.Dec.{ltb}
 use borrow.Author.Tests.{ltb-true, ltb-false, lt-ltb, le-ltb}
 use denote.Ref.{RefT, ptr, now}
-use Rattle.definitions.specs.declared.packet.Span.{Span}
-use Rattle.definitions.specs.declared.packet.FieldSpan.{FieldSpan}
-use Rattle.definitions.specs.declared.packet.FieldSpan.the-variants.{Absent, At}
+use Rattle.definitions.specs.declared.packets.Span.{Span}
+use Rattle.definitions.specs.declared.packets.FieldSpan.{FieldSpan}
+use Rattle.definitions.specs.declared.packets.FieldSpan.the-variants.{Absent, At}
 use Rattle.definitions.specs.Fields.{shown}
 use Rattle.field_parts.specs.Parts.{PartOf}
 

@@ -3,7 +3,7 @@ use Prim.Native.Nat.{ℕ, _+_}
 use mathlib.Core.Path.{_≡_}
 use mathlib.Core.List.{List}
 use denote.Ref.{RefT, ptr, now}
-use Rattle.definitions.specs.declared.packet.Span.{Span}
+use Rattle.definitions.specs.declared.packets.Span.{Span}
 use Rattle.definitions.specs.Fields.{cut}
 
 -- r refers to the span's bytes of what b refers to: in the same block of memory, so many bytes behind b's first, and of these values

@@ -4,8 +4,8 @@ ghost use Prim.Native.Nat.{_+_};
 ghost use lib.Dec.{ltb};
 ghost use Rattle.definitions.specs.Fields.{isAt, passes, shown};
 ghost use Rattle.field_parts.specs.Parts.{PartOf};
-use definitions::packet::FieldSpan;
-use definitions::packet::Span;
+use definitions::packets::FieldSpan;
+use definitions::packets::Span;
 
 // Whether a field is present.
 pub fn is_at(f: FieldSpan) -> bool

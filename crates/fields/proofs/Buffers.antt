@@ -6,7 +6,7 @@ use Prim.Native.Nat.{ℕ}
 use denote.Ref.{RefT, now}
 use Rattle.definitions.specs.declared.table.Context.{Context}
 use Rattle.definitions.specs.declared.table.Context.the-variants as context
-use Rattle.definitions.specs.declared.packet.FieldMap.{FieldMap}
+use Rattle.definitions.specs.declared.packets.FieldMap.{FieldMap}
 use Rattle.definitions.specs.Fields.{bufferOf, spanOf, shown, cut, fieldSpan, fieldOf, passes, fieldPasses}
 use Rattle.field_parts.specs.Parts.{PartOf}
 use Rattle.fields.specs.Places.{ownBuffer}

@@ -3,7 +3,7 @@ use Prim.Native.Nat.{ℕ}
 use mathlib.Core.List.{List, [], _∷_}
 use Rattle.forms.specs.Bytes.{if_then_else_}
 use Rattle.definitions.specs.declared.table.Context.{Context}
-use Rattle.definitions.specs.declared.packet.FieldMap.{FieldMap}
+use Rattle.definitions.specs.declared.packets.FieldMap.{FieldMap}
 use Rattle.definitions.specs.Lists.{none?}
 use Rattle.definitions.specs.Fields.{bufferOf, spanOf}
 use Rattle.fields.specs.declared.places.Buffer.{Buffer}

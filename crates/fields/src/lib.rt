@@ -10,7 +10,7 @@ use crate::places::passes_one;
 use crate::places::place_of;
 use definitions::answers::Check;
 use definitions::answers::Refusal;
-use definitions::packet::FieldMap;
+use definitions::packets::FieldMap;
 use definitions::table::Context;
 use field_parts::is_at;
 

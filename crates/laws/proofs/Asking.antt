@@ -10,11 +10,11 @@ use native.Mathlib.Omega.{arith}
 use lib.ListN.{length, replicate}
 use lib.Seq.{take-append-seam, append-snoc}
 use borrow.Author.Tests.{eq-eqb}
-use Rattle.definitions.specs.declared.packet.Direction.{Direction}
+use Rattle.definitions.specs.declared.packets.Direction.{Direction}
 use Rattle.definitions.specs.declared.table.Table.{Table}
-use Rattle.definitions.specs.declared.packet.FieldMap.{FieldMap}
-use Rattle.definitions.specs.declared.packet.Start.{Start}
-use Rattle.definitions.specs.declared.packet.Placement.{Placement}
+use Rattle.definitions.specs.declared.packets.FieldMap.{FieldMap}
+use Rattle.definitions.specs.declared.packets.Start.{Start}
+use Rattle.definitions.specs.declared.packets.Placement.{Placement}
 use Rattle.definitions.specs.declared.answers.Refusal.{Refusal}
 use Rattle.definitions.specs.declared.answers.Check.the-variants.{Pass, Refuse}
 use Rattle.definitions.specs.declared.answers.Answer.{Answer}

@@ -5,11 +5,11 @@ use mathlib.Core.Logic.{_⊎_, inl, inr, _↔_}
 use mathlib.Core.Bool.{Bool, true, false, true≢false}
 use mathlib.Core.List.{List, [], _∷_, List·Memᴰ as Mem, List·Memᴰ·head as here, List·Memᴰ·not-nil as not-nil, List·Memᴰ·cases-cons as cases-cons}
 use Prim.Native.Nat.{ℕ}
-use Rattle.definitions.specs.declared.packet.Direction.{Direction}
+use Rattle.definitions.specs.declared.packets.Direction.{Direction}
 use Rattle.definitions.specs.declared.table.Table.{Table}
-use Rattle.definitions.specs.declared.packet.FieldMap.{FieldMap}
-use Rattle.definitions.specs.declared.packet.Start.{Start}
-use Rattle.definitions.specs.declared.packet.Placement.{Placement}
+use Rattle.definitions.specs.declared.packets.FieldMap.{FieldMap}
+use Rattle.definitions.specs.declared.packets.Start.{Start}
+use Rattle.definitions.specs.declared.packets.Placement.{Placement}
 use Rattle.definitions.specs.declared.answers.Check.the-variants.{Pass}
 use Rattle.definitions.specs.Fields.{viewOf}
 use Rattle.definitions.specs.Lists.{keep}

@@ -7,7 +7,7 @@ use mathlib.Core.List.{List, [], _∷_}
 use Prim.Native.Nat.{ℕ, zero, suc, _≤_}
 use native.Mathlib.Omega.{arith}
 use lib.ListN.{length, take}
-use Rattle.definitions.specs.declared.packet.Start.{Start}
+use Rattle.definitions.specs.declared.packets.Start.{Start}
 use Rattle.definitions.specs.Starts.{startBefore, sameStart}
 use Rattle.definitions.specs.Placements.{lexLess}
 use Rattle.laws.proofs.StartOrder.{before-irreflexive, before-asymmetric, before-transitive, after-differs, same-reflexive, same-equal}

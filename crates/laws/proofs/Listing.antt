@@ -8,12 +8,12 @@ use mathlib.Core.List.{List, [], _∷_, _++_, map, nil≢cons, cons≢nil, head-
 use Prim.Native.Nat.{ℕ}
 use native.Mathlib.Omega.{arith}
 use lib.ListN.{length}
-use Rattle.definitions.specs.declared.packet.Direction.{Direction}
+use Rattle.definitions.specs.declared.packets.Direction.{Direction}
 use Rattle.definitions.specs.declared.table.Pattern.{Pattern}
 use Rattle.definitions.specs.declared.table.Table.{Table}
-use Rattle.definitions.specs.declared.packet.LastMatch.{LastMatch}
-use Rattle.definitions.specs.declared.packet.LastMatch.the-variants.{None}
-use Rattle.definitions.specs.declared.packet.Start.{Start}
+use Rattle.definitions.specs.declared.packets.LastMatch.{LastMatch}
+use Rattle.definitions.specs.declared.packets.LastMatch.the-variants.{None}
+use Rattle.definitions.specs.declared.packets.Start.{Start}
 use Rattle.definitions.specs.Starts.{startBefore}
 use Rattle.definitions.specs.References.{lastAfter}
 use Rattle.definitions.specs.Fields.{View}

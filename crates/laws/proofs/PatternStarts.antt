@@ -15,8 +15,8 @@ use Rattle.forms.proofs.Bools.{both-left, both-right}
 use Rattle.definitions.specs.declared.table.Within.{Within}
 use Rattle.definitions.specs.declared.table.Within.the-variants as within
 use Rattle.definitions.specs.declared.table.Pattern.{Pattern}
-use Rattle.definitions.specs.declared.packet.LastMatch.{LastMatch}
-use Rattle.definitions.specs.declared.packet.Start.{Start}
+use Rattle.definitions.specs.declared.packets.LastMatch.{LastMatch}
+use Rattle.definitions.specs.declared.packets.Start.{Start}
 use Rattle.definitions.specs.Starts.{startAt, startBefore}
 use Rattle.definitions.specs.Fields.{View}
 use Rattle.definitions.specs.Windows.{windowStart, beforeEnd, inWindow, standsAt, lies}

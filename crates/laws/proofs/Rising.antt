@@ -6,7 +6,7 @@ use mathlib.Core.Bool.{Bool, true, false, false≢true}
 use mathlib.Core.List.{List, [], _∷_, _++_, nil≢cons, head-eq-of-cons-eq, tail-eq-of-cons-eq, List·Memᴰ as Mem, List·Memᴰ·head as here, List·Memᴰ·tail as there, List·Memᴰ·not-nil as not-nil, List·Memᴰ·cases-cons as cases-cons, List·Memᴰ·append-cases as append-cases, Memᴰ·append-right as append-right}
 use Prim.Native.Nat.{ℕ, _≤_}
 use lib.ListN.{length, take}
-use Rattle.definitions.specs.declared.packet.Start.{Start}
+use Rattle.definitions.specs.declared.packets.Start.{Start}
 use Rattle.definitions.specs.Lists.{keep, keepOne}
 use Rattle.definitions.specs.Placements.{lexLess}
 use Rattle.laws.proofs.Keep.{keep-in, keep-all, keep-agree}

@@ -5,10 +5,10 @@ use mathlib.Core.Logic.{_↔_}
 use mathlib.Core.Bool.{true, false, false≢true}
 use mathlib.Core.List.{List, [], _∷_, List·Memᴰ as Mem, List·Memᴰ·head as here, List·Memᴰ·not-nil as not-nil}
 use Prim.Native.Nat.{ℕ}
-use Rattle.definitions.specs.declared.packet.Start.{Start}
-use Rattle.definitions.specs.declared.packet.Direction.{Direction}
+use Rattle.definitions.specs.declared.packets.Start.{Start}
+use Rattle.definitions.specs.declared.packets.Direction.{Direction}
 use Rattle.definitions.specs.declared.table.Table.{Table}
-use Rattle.definitions.specs.declared.packet.FieldMap.{FieldMap}
+use Rattle.definitions.specs.declared.packets.FieldMap.{FieldMap}
 use Rattle.definitions.specs.declared.answers.Check.{Check}
 use Rattle.definitions.specs.declared.answers.Check.the-variants.{Pass, Refuse}
 use Rattle.definitions.specs.declared.answers.Verdict.the-variants.{Met, NotMet}

@@ -7,9 +7,9 @@ use lib.ListN.{length, take, drop}
 use Rattle.forms.specs.Bytes.{text, run}
 use Rattle.forms.proofs.Bools.{by-cases}
 use Rattle.definitions.specs.declared.table.Context.{Context}
-use Rattle.definitions.specs.declared.packet.Span.{Span}
-use Rattle.definitions.specs.declared.packet.FieldSpan.the-variants.{At}
-use Rattle.definitions.specs.declared.packet.FieldMap.{FieldMap}
+use Rattle.definitions.specs.declared.packets.Span.{Span}
+use Rattle.definitions.specs.declared.packets.FieldSpan.the-variants.{At}
+use Rattle.definitions.specs.declared.packets.FieldMap.{FieldMap}
 use Rattle.definitions.specs.Fields.{present}
 use Rattle.definitions.specs.Lists.{sameBytes}
 use Rattle.line_parts.specs.Parts.{find, contains, partBefore, partAfter, parts}

@@ -4,8 +4,8 @@ use mathlib.Core.Bool.{true, false, false≢true, _&&_}
 use mathlib.Core.List.{List}
 use Prim.Native.Nat.{ℕ}
 use Rattle.forms.proofs.Bools.{both-left, both-right}
-use Rattle.definitions.specs.declared.packet.Direction.{Direction}
-use Rattle.definitions.specs.declared.packet.FieldMap.{FieldMap}
+use Rattle.definitions.specs.declared.packets.Direction.{Direction}
+use Rattle.definitions.specs.declared.packets.FieldMap.{FieldMap}
 use Rattle.line_parts.proofs.Results.{failed-test, parsed-test, parsed-value}
 use Rattle.line_numbers.specs.HexPairs.{isHex}
 use Rattle.line_packets.specs.declared.directions.DirectionResult.the-variants as direction

@@ -4,7 +4,7 @@ use mathlib.Core.Bool.{true, false, false≢true, _&&_, and-false}
 use mathlib.Core.List.{List}
 use Prim.Native.Nat.{ℕ}
 use Rattle.forms.proofs.Bools.{by-cases}
-use Rattle.definitions.specs.declared.packet.Span.{Span}
+use Rattle.definitions.specs.declared.packets.Span.{Span}
 use Rattle.line_parts.specs.Parts.{contains, partBefore, partAfter}
 use Rattle.line_parts.proofs.Delimiters.{after-empty}
 use Rattle.line_parts.proofs.Results.{failed-test, parsed-test, parsed-value}

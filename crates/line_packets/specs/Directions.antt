@@ -3,8 +3,8 @@ use Prim.Native.Nat.{ℕ}
 use mathlib.Core.Bool.{Bool, _||_}
 use mathlib.Core.List.{List}
 use Rattle.forms.specs.Bytes.{if_then_else_, text}
-use Rattle.definitions.specs.declared.packet.Direction.{Direction}
-use Rattle.definitions.specs.declared.packet.Direction.the-variants.{Client, Server}
+use Rattle.definitions.specs.declared.packets.Direction.{Direction}
+use Rattle.definitions.specs.declared.packets.Direction.the-variants.{Client, Server}
 use Rattle.definitions.specs.Lists.{sameBytes}
 use Rattle.line_packets.specs.declared.directions.DirectionResult.{DirectionResult}
 use Rattle.line_packets.specs.declared.directions.DirectionResult.the-variants.{Parsed, Failed}

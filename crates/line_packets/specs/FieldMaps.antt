@@ -5,10 +5,10 @@ use mathlib.Core.List.{List, [], _∷_}
 use Rattle.forms.specs.Bytes.{if_then_else_, text}
 use Rattle.definitions.specs.declared.table.Context.{Context}
 use Rattle.definitions.specs.declared.table.Context.the-variants as context
-use Rattle.definitions.specs.declared.packet.Span.{Span}
-use Rattle.definitions.specs.declared.packet.FieldSpan.{FieldSpan}
-use Rattle.definitions.specs.declared.packet.FieldSpan.the-variants.{Absent, At}
-use Rattle.definitions.specs.declared.packet.FieldMap.{FieldMap}
+use Rattle.definitions.specs.declared.packets.Span.{Span}
+use Rattle.definitions.specs.declared.packets.FieldSpan.{FieldSpan}
+use Rattle.definitions.specs.declared.packets.FieldSpan.the-variants.{Absent, At}
+use Rattle.definitions.specs.declared.packets.FieldMap.{FieldMap}
 use Rattle.definitions.specs.Lists.{sameBytes}
 use Rattle.definitions.specs.Numbers.{valueOf}
 use Rattle.definitions.specs.Fields.{present}

@@ -1,7 +1,7 @@
 // Where a packet comes from: `client` or `server`.
 ghost use mathlib.Core.Path.{_≡_};
 ghost use Rattle.line_packets.specs.Directions.{parsedDirection};
-use definitions::packet::Direction;
+use definitions::packets::Direction;
 use line_parts::is_word;
 
 // The direction that a word names, or that it names none.

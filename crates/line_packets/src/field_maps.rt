@@ -5,9 +5,9 @@ ghost use Rattle.line_packets.specs.FieldMaps.{noFields, parsedSpan, par
 use crate::field_names::field_named;
 use crate::field_names::no_fields;
 use crate::field_names::with_field;
-use definitions::packet::FieldMap;
-use definitions::packet::FieldSpan;
-use definitions::packet::Span;
+use definitions::packets::FieldMap;
+use definitions::packets::FieldSpan;
+use definitions::packets::Span;
 use fields::is_present;
 use line_numbers::decimals::NumberResult;
 use line_numbers::decimals::parse_decimal;

@@ -2,8 +2,8 @@
 ghost use mathlib.Core.Path.{_≡_};
 ghost use Rattle.definitions.specs.declared.table.Context.the-variants as context;
 ghost use Rattle.line_packets.specs.FieldMaps.{noFields, fieldNamed, withField};
-use definitions::packet::FieldMap;
-use definitions::packet::FieldSpan;
+use definitions::packets::FieldMap;
+use definitions::packets::FieldSpan;
 use definitions::table::Context;
 use line_parts::is_word;
 

@@ -5,8 +5,8 @@ use crate::directions::DirectionResult;
 use crate::directions::parse_direction;
 use crate::field_maps::MapResult;
 use crate::field_maps::parse_map;
-use definitions::packet::Direction;
-use definitions::packet::FieldMap;
+use definitions::packets::Direction;
+use definitions::packets::FieldMap;
 use line_numbers::hex_pairs::is_hex_pairs;
 
 // What the columns say beside the bytes of packet and buffer.

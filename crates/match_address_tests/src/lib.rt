@@ -6,7 +6,7 @@ ghost use lib.ListN.{take};
 ghost use Rattle.definitions.specs.Limits.{maxPrefix};
 ghost use Rattle.definitions.specs.Tests.{packetAddress, sameBits, inAddresses, addressHolds};
 use definitions::limits::ADDRESSES;
-use definitions::packet::PacketHeader;
+use definitions::packets::PacketHeader;
 use definitions::table::Address;
 use definitions::table::AddressTest;
 use definitions::table::Side;

@@ -8,11 +8,11 @@ use lib.ListN.{length, drop, length-take, length-drop}
 use Rattle.definitions.specs.declared.table.Context.{Context}
 use Rattle.definitions.specs.declared.table.Context.the-variants as context
 use Rattle.definitions.specs.declared.table.Pattern.{Pattern}
-use Rattle.definitions.specs.declared.packet.PacketHeader.{PacketHeader}
-use Rattle.definitions.specs.declared.packet.FieldMap.{FieldMap}
-use Rattle.definitions.specs.declared.packet.LastMatch.{LastMatch}
-use Rattle.definitions.specs.declared.packet.Span.{Span}
-use Rattle.definitions.specs.declared.packet.Start.{Start}
+use Rattle.definitions.specs.declared.packets.PacketHeader.{PacketHeader}
+use Rattle.definitions.specs.declared.packets.FieldMap.{FieldMap}
+use Rattle.definitions.specs.declared.packets.LastMatch.{LastMatch}
+use Rattle.definitions.specs.declared.packets.Span.{Span}
+use Rattle.definitions.specs.declared.packets.Start.{Start}
 use Rattle.definitions.specs.Lists.{keep, keepOne, none?}
 use Rattle.definitions.specs.Starts.{startAt}
 use Rattle.definitions.specs.Fields.{present, bufferOf, fieldSpan, fieldOf, cut}

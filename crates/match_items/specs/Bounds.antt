@@ -4,7 +4,7 @@ use mathlib.Core.Path.{_≡_}
 use mathlib.Core.List.{List}
 use lib.ListN.{length}
 use Rattle.definitions.specs.declared.table.Pattern.{Pattern}
-use Rattle.definitions.specs.declared.packet.LastMatch.{LastMatch}
+use Rattle.definitions.specs.declared.packets.LastMatch.{LastMatch}
 use Rattle.definitions.specs.Windows.{lastEnd}
 use Rattle.match_windows.specs.Spans.{sizeBound}
 

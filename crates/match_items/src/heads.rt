@@ -3,8 +3,8 @@ ghost use mathlib.Core.Path.{_≡_};
 ghost use mathlib.Core.Bool.{_&&_};
 ghost use lib.Dec.{eqb};
 ghost use Rattle.definitions.specs.Tests.{flowHolds};
-use definitions::packet::Direction;
-use definitions::packet::PacketHeader;
+use definitions::packets::Direction;
+use definitions::packets::PacketHeader;
 use definitions::table::Flow;
 
 fn is_client(dir: Direction) -> bool

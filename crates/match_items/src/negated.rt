@@ -1,11 +1,11 @@
 // Negated patterns.
 ghost use mathlib.Core.Path.{_≡_};
 ghost use Rattle.definitions.specs.Placements.{unmatchedHolds};
-ghost use Rattle.definitions.specs.declared.packet.PacketHeader.{PacketHeader};
+ghost use Rattle.definitions.specs.declared.packets.PacketHeader.{PacketHeader};
 ghost use Rattle.fields.specs.Seen.{seen};
 ghost use Rattle.match_items.specs.Bounds.{Bounded};
-use definitions::packet::FieldMap;
-use definitions::packet::LastMatch;
+use definitions::packets::FieldMap;
+use definitions::packets::LastMatch;
 use definitions::table::Pattern;
 use fields::field_of;
 use fields::is_present;

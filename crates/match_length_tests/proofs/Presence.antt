@@ -7,9 +7,9 @@ use lib.ListN.{length}
 use Rattle.definitions.specs.declared.table.Context.{Context}
 use Rattle.definitions.specs.declared.table.SizeTest.{SizeTest}
 use Rattle.definitions.specs.declared.table.AtTest.{AtTest}
-use Rattle.definitions.specs.declared.packet.PacketHeader.{PacketHeader}
-use Rattle.definitions.specs.declared.packet.FieldMap.{FieldMap}
-use Rattle.definitions.specs.declared.packet.LastMatch.{LastMatch}
+use Rattle.definitions.specs.declared.packets.PacketHeader.{PacketHeader}
+use Rattle.definitions.specs.declared.packets.FieldMap.{FieldMap}
+use Rattle.definitions.specs.declared.packets.LastMatch.{LastMatch}
 use Rattle.definitions.specs.Fields.{present, fieldOf, sizeContext}
 use Rattle.definitions.specs.Tests.{orderHolds, atContext, atStart, atExists, sizeHolds, atHolds}
 use Rattle.fields.specs.Seen.{seen}

@@ -4,7 +4,7 @@ ghost use mathlib.Core.Bool.{_&&_};
 ghost use lib.Dec.{eqb};
 ghost use Rattle.definitions.specs.Packet.{hasPorts};
 ghost use Rattle.definitions.specs.Tests.{numberHolds, orderHolds, headerValue, operatorHolds, fieldHolds};
-use definitions::packet::PacketHeader;
+use definitions::packets::PacketHeader;
 use definitions::table::FieldTest;
 use definitions::table::HeaderField;
 use definitions::table::NumberField;

@@ -11,7 +11,7 @@ use lib.Dec.{ltb, leb}
 use borrow.Author.Tests.{ltb-true, ltb-false, lt-ltb, le-ltb, le-leb, lt-leb}
 use Rattle.forms.proofs.Bools.{by-cases}
 use Rattle.definitions.specs.declared.table.Pattern.{Pattern}
-use Rattle.definitions.specs.declared.packet.LastMatch.{LastMatch}
+use Rattle.definitions.specs.declared.packets.LastMatch.{LastMatch}
 use Rattle.definitions.specs.Lists.{keep, keepOne, none?}
 use Rattle.definitions.specs.Windows.{standsAt, lies}
 use Rattle.definitions.specs.Placements.{upFrom}

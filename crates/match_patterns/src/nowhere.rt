@@ -4,7 +4,7 @@ ghost use lib.ListN.{length};
 ghost use Rattle.definitions.specs.Lists.{none?};
 ghost use Rattle.match_windows.specs.Spans.{Measured, placesOf};
 use crate::bytes::stands_at;
-use definitions::packet::LastMatch;
+use definitions::packets::LastMatch;
 use definitions::table::Pattern;
 use match_windows::starts::window;
 

@@ -9,9 +9,9 @@ use lib.ListN.{length, take, drop, getD, length-append, length-take, length-drop
 use lib.Seq.{drop-cons, take-at, drop-append-add, drop-drop}
 use borrow.Author.Tests.{le-leb, lt-leb}
 use Rattle.definitions.specs.declared.table.Table.{Table}
-use Rattle.definitions.specs.declared.packet.Direction.{Direction}
-use Rattle.definitions.specs.declared.packet.FieldMap.{FieldMap}
-use Rattle.definitions.specs.declared.packet.Placement.{Placement}
+use Rattle.definitions.specs.declared.packets.Direction.{Direction}
+use Rattle.definitions.specs.declared.packets.FieldMap.{FieldMap}
+use Rattle.definitions.specs.declared.packets.Placement.{Placement}
 use Rattle.definitions.specs.declared.answers.Answer.{Answer}
 use Rattle.definitions.specs.declared.answers.Query.the-variants.{First, Next}
 use Rattle.definitions.specs.Queries.{answerNumbers, queryAnswer, answers}

@@ -8,9 +8,9 @@ ghost use Rattle.match_queries.specs.Runs.{queryOfByte, room, written};
 use crate::writing::NUMBERS;
 use crate::writing::put_answer;
 use definitions::answers::Answer;
-use definitions::packet::Direction;
-use definitions::packet::FieldMap;
-use definitions::packet::Placement;
+use definitions::packets::Direction;
+use definitions::packets::FieldMap;
+use definitions::packets::Placement;
 use definitions::table::Table;
 
 // One ask, a byte: 0 is "first", any other "next" after the placement held.

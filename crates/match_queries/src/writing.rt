@@ -12,7 +12,7 @@ ghost use Rattle.match_queries.specs.Runs.{numbersOfOne};
 use definitions::answers::Answer;
 use definitions::answers::Found;
 use definitions::limits::PATTERNS;
-use definitions::packet::Start;
+use definitions::packets::Start;
 use match_starts::start_number;
 use refusal_numbers::number_of;
 

@@ -3,7 +3,7 @@ ghost use mathlib.Core.Path.{_≡_};
 ghost use Rattle.definitions.specs.Starts.{startAt, startNumber, startBefore, sameStart};
 ghost use Rattle.write_bytes.specs.Puts.{Puts};
 ghost use Rattle.match_starts.specs.StartTexts.{startText};
-use definitions::packet::Start;
+use definitions::packets::Start;
 use write_bytes::put_decimal;
 
 // The start so many bytes from the field's start.

@@ -12,7 +12,7 @@ use Rattle.definitions.specs.declared.table.Reference.the-variants as reference
 use Rattle.definitions.specs.declared.table.Distance.the-variants as distance
 use Rattle.definitions.specs.declared.table.Within.{Within}
 use Rattle.definitions.specs.declared.table.Within.the-variants as within
-use Rattle.definitions.specs.declared.packet.LastMatch.{LastMatch}
+use Rattle.definitions.specs.declared.packets.LastMatch.{LastMatch}
 use Rattle.definitions.specs.Windows.{lastEnd, base, windowStart}
 use Rattle.match_windows.specs.Spans.{sizeBound}
 use Rattle.match_windows.specs.Ends.{Begins}

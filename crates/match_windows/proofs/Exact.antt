@@ -13,7 +13,7 @@ use Rattle.definitions.specs.declared.table.Pattern.{Pattern}
 use Rattle.definitions.specs.declared.table.WithinValue.{WithinValue}
 use Rattle.definitions.specs.declared.table.Within.{Within}
 use Rattle.definitions.specs.declared.table.Within.the-variants as within
-use Rattle.definitions.specs.declared.packet.LastMatch.{LastMatch}
+use Rattle.definitions.specs.declared.packets.LastMatch.{LastMatch}
 use Rattle.definitions.specs.Windows.{windowStart, beforeEnd, inWindow}
 use Rattle.match_windows.specs.declared.Window.{Window}
 use Rattle.match_windows.specs.Spans.{Spans}

@@ -8,7 +8,7 @@ ghost use Rattle.definitions.specs.Windows as windows;
 ghost use Rattle.match_windows.specs.Spans.{sizeBound, startBound, Measured, Spans};
 ghost use Rattle.match_windows.specs.Ends.{clip, Begins, endsTo};
 use crate::Window;
-use definitions::packet::LastMatch;
+use definitions::packets::LastMatch;
 use definitions::table::Distance;
 use definitions::table::DistanceValue;
 use definitions::table::Pattern;

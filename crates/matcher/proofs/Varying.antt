@@ -6,10 +6,10 @@ use mathlib.Core.List.{List, []}
 use Prim.Native.Nat.{ℕ}
 use Rattle.forms.specs.Bytes.{text}
 use Rattle.definitions.specs.declared.table.Table.{Table}
-use Rattle.definitions.specs.declared.packet.Direction.{Direction}
-use Rattle.definitions.specs.declared.packet.Direction.the-variants.{Client}
-use Rattle.definitions.specs.declared.packet.FieldMap.{FieldMap}
-use Rattle.definitions.specs.declared.packet.FieldSpan.the-variants.{Absent}
+use Rattle.definitions.specs.declared.packets.Direction.{Direction}
+use Rattle.definitions.specs.declared.packets.Direction.the-variants.{Client}
+use Rattle.definitions.specs.declared.packets.FieldMap.{FieldMap}
+use Rattle.definitions.specs.declared.packets.FieldSpan.the-variants.{Absent}
 use Rattle.definitions.specs.declared.answers.Verdict.{Verdict}
 use Rattle.definitions.specs.declared.answers.Verdict.the-variants.{Met, NotMet}
 use Rattle.definitions.specs.Limits.{documentLimits}

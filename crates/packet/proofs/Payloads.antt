@@ -11,7 +11,7 @@ use lib.Seq.{length-take-le}
 use lib.Dec.{ltb, eqb}
 use borrow.Author.Tests.{ltb-false, le-ltb}
 use Rattle.forms.proofs.Bools.{by-cases}
-use Rattle.definitions.specs.declared.packet.PacketHeader.{PacketHeader}
+use Rattle.definitions.specs.declared.packets.PacketHeader.{PacketHeader}
 use Rattle.definitions.specs.declared.answers.Refusal.the-variants as refusal
 use Rattle.definitions.specs.declared.answers.Check.{Check}
 use Rattle.definitions.specs.declared.answers.Check.the-variants.{Pass, Refuse}

@@ -9,7 +9,7 @@ use Rattle.definitions.specs.Limits.{documentLimits, maxName}
 use Rattle.definitions.specs.Lists.{padded}
 use Rattle.definitions.specs.declared.answers.Refusal.the-variants as refusal
 use Rattle.definitions.specs.declared.answers.Reading.{Reading}
-use Rattle.definitions.specs.declared.packet.LastMatch.the-variants.{None}
+use Rattle.definitions.specs.declared.packets.LastMatch.the-variants.{None}
 use Rattle.definitions.specs.declared.table.Slot.{Slot}
 use Rattle.definitions.specs.declared.table.Table.{Table}
 use Rattle.definitions.specs.Items.{patternsOf}

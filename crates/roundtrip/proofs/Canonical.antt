@@ -11,7 +11,7 @@ use lib.Dec.{eqb·suc-zero}
 use Rattle.forms.specs.Bytes.{text}
 use Rattle.forms.proofs.Bools.{both-left}
 use Rattle.definitions.specs.declared.table.Table.{Table}
-use Rattle.definitions.specs.declared.packet.LastMatch.the-variants.{None}
+use Rattle.definitions.specs.declared.packets.LastMatch.the-variants.{None}
 use Rattle.definitions.specs.Lists.{all?, keep, count}
 use Rattle.definitions.specs.OptionValues.{OptionValue}
 use Rattle.definitions.specs.Items.{slotsOf, patternsOf}

@@ -13,7 +13,7 @@ use Rattle.forms.specs.Bytes.{between}
 use Rattle.forms.specs.Form.{has}
 use Rattle.forms.proofs.Bools.{both-left, both-right}
 use Rattle.forms.proofs.Sound.{never}
-use Rattle.definitions.specs.declared.packet.LastMatch.the-variants.{None}
+use Rattle.definitions.specs.declared.packets.LastMatch.the-variants.{None}
 use Rattle.definitions.specs.Limits.{maxName, maxItems, maxByte, maxTests, maxPatterns}
 use Rattle.definitions.specs.Lists.{all?, keep, count, padded}
 use Rattle.definitions.specs.OptionValues.{OptionValue, Name, Protocol, Flow, Test, Pattern, Modified}

@@ -8,7 +8,7 @@ use borrow.Author.Tests.{eqb-true, leb-true}
 use Rattle.forms.specs.Bytes.{between}
 use Rattle.forms.specs.Form.{has}
 use Rattle.definitions.specs.declared.table.Table.{Table}
-use Rattle.definitions.specs.declared.packet.LastMatch.the-variants.{None}
+use Rattle.definitions.specs.declared.packets.LastMatch.the-variants.{None}
 use Rattle.definitions.specs.Limits.{maxName, maxPatterns, maxTests, maxItems, maxByte}
 use Rattle.definitions.specs.Lists.{all?}
 use Rattle.definitions.specs.Forms.{quotable}

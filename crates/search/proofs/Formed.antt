@@ -14,9 +14,9 @@ use Rattle.definitions.specs.declared.table.Item.{Item}
 use Rattle.definitions.specs.declared.table.Address.{Address}
 use Rattle.definitions.specs.declared.table.Slot.{Slot}
 use Rattle.definitions.specs.declared.table.Table.{Table}
-use Rattle.definitions.specs.declared.packet.Direction.{Direction}
-use Rattle.definitions.specs.declared.packet.LastMatch.the-variants.{None}
-use Rattle.definitions.specs.declared.packet.Start.{Start}
+use Rattle.definitions.specs.declared.packets.Direction.{Direction}
+use Rattle.definitions.specs.declared.packets.LastMatch.the-variants.{None}
+use Rattle.definitions.specs.declared.packets.Start.{Start}
 use Rattle.definitions.specs.Limits.{maxItems, maxPatterns, maxByte}
 use Rattle.definitions.specs.Lists.{keep, all?}
 use Rattle.definitions.specs.Items.{Kind, unused, addressed, patterned, plainTest, kindOf, slotsOf, patternFirst, patternsOf, afterItem}

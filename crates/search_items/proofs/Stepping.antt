@@ -13,9 +13,9 @@ use Rattle.definitions.specs.declared.table.Item.{Item}
 use Rattle.definitions.specs.declared.table.Item.the-variants as item
 use Rattle.definitions.specs.declared.table.Address.{Address}
 use Rattle.definitions.specs.declared.table.Slot.{Slot}
-use Rattle.definitions.specs.declared.packet.LastMatch.{LastMatch}
-use Rattle.definitions.specs.declared.packet.Start.{Start}
-use Rattle.definitions.specs.declared.packet.Placement.{Placement}
+use Rattle.definitions.specs.declared.packets.LastMatch.{LastMatch}
+use Rattle.definitions.specs.declared.packets.Start.{Start}
+use Rattle.definitions.specs.declared.packets.Placement.{Placement}
 use Rattle.definitions.specs.References.{lastAfter}
 use Rattle.definitions.specs.Windows.{lastEnd}
 use Rattle.definitions.specs.Items.{Kind, patternFirst, patternsOf, afterItem}

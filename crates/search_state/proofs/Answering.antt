@@ -9,8 +9,8 @@ use native.Mathlib.Numerals.{add-one}
 use lib.Dec.{ltb, leb}
 use borrow.Author.Tests.{ltb-true, ltb-false, leb-true, leb-false}
 use Rattle.forms.proofs.Bools.{by-cases}
-use Rattle.definitions.specs.declared.packet.Start.{Start}
-use Rattle.definitions.specs.declared.packet.Placement.{Placement}
+use Rattle.definitions.specs.declared.packets.Start.{Start}
+use Rattle.definitions.specs.declared.packets.Placement.{Placement}
 use Rattle.definitions.specs.Lists.{keep, keepOne}
 use Rattle.definitions.specs.Starts.{startAt, startBefore, sameStart}
 use Rattle.definitions.specs.Placements.{lexLess, upFrom, spread}

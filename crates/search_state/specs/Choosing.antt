@@ -4,8 +4,8 @@ use mathlib.Core.Bool.{Bool, true, false}
 use mathlib.Core.List.{List, [], _∷_}
 use lib.ListN.{set}
 use Rattle.forms.specs.Bytes.{if_then_else_}
-use Rattle.definitions.specs.declared.packet.Start.{Start}
-use Rattle.definitions.specs.declared.packet.Placement.{Placement}
+use Rattle.definitions.specs.declared.packets.Start.{Start}
+use Rattle.definitions.specs.declared.packets.Placement.{Placement}
 use Rattle.definitions.specs.Lists.{keep}
 use Rattle.definitions.specs.Placements.{lexLess}
 use Rattle.search_state.specs.declared.outcomes.Outcome.{Outcome}

@@ -1,7 +1,7 @@
 -- What a search finds, as a function of a list of placements. Document 01, section "Meaning", its last paragraphs.
 use mathlib.Core.Bool.{true, false}
 use mathlib.Core.List.{List, [], _∷_}
-use Rattle.definitions.specs.declared.packet.Start.{Start}
+use Rattle.definitions.specs.declared.packets.Start.{Start}
 use Rattle.definitions.specs.Answers.{placementOf}
 use Rattle.search_state.specs.declared.outcomes.Outcome.{Outcome}
 

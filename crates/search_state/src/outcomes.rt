@@ -4,8 +4,8 @@ ghost use mathlib.Core.List.{[]};
 ghost use Rattle.definitions.specs.Answers.{placementOf};
 ghost use Rattle.search_state.specs.Outcomes.{nothing};
 use definitions::limits::PATTERNS;
-use definitions::packet::Placement;
-use definitions::packet::Start;
+use definitions::packets::Placement;
+use definitions::packets::Start;
 
 // A placement is found, or none; the placement of none is empty.
 pub struct Outcome {

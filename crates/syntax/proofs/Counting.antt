@@ -12,8 +12,8 @@ use borrow.Author.Tests.{ltb-false, le-ltb}
 use Rattle.forms.specs.Form.{Form, pure, fmap, Means}
 use Rattle.forms.proofs.Bools.{by-cases, both-left, both-right}
 use Rattle.forms.proofs.Sound.{never}
-use Rattle.definitions.specs.declared.packet.LastMatch.{LastMatch}
-use Rattle.definitions.specs.declared.packet.LastMatch.the-variants.{None}
+use Rattle.definitions.specs.declared.packets.LastMatch.{LastMatch}
+use Rattle.definitions.specs.declared.packets.LastMatch.the-variants.{None}
 use Rattle.definitions.specs.declared.table.Pattern as table
 use Rattle.definitions.specs.Lists.{all?, keep, count}
 use Rattle.definitions.specs.OptionValues.{OptionValue, Name, Protocol, Flow, Test, Pattern, Modified}

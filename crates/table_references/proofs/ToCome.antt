@@ -8,7 +8,7 @@ use native.Mathlib.Nat.{add-zero, zero-add, le-refl}
 use lib.ListN.{length, getD, take, drop}
 use Rattle.forms.specs.Bytes.{if_then_else_}
 use Rattle.forms.proofs.Bools.{by-cases}
-use Rattle.definitions.specs.declared.packet.LastMatch.the-variants.{None}
+use Rattle.definitions.specs.declared.packets.LastMatch.the-variants.{None}
 use Rattle.definitions.specs.declared.table.Pattern.{Pattern}
 use Rattle.definitions.specs.declared.table.Slot.{Slot}
 use Rattle.definitions.specs.Items.{Kind, unused, addressed, patterned, plainTest, kindOf, patternFirst, patternsOf}

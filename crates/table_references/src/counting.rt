@@ -2,7 +2,7 @@
 ghost use mathlib.Core.Path.{_≡_};
 ghost use Prim.Native.Nat.{_<_, _≤_};
 ghost use lib.ListN.{take};
-ghost use Rattle.definitions.specs.declared.packet.LastMatch.the-variants.{None};
+ghost use Rattle.definitions.specs.declared.packets.LastMatch.the-variants.{None};
 ghost use Rattle.definitions.specs.Limits.{maxItems};
 ghost use Rattle.definitions.specs.Items.{kindOf, patternsOf};
 ghost use Rattle.definitions.specs.References.{usableRun};
@@ -10,7 +10,7 @@ ghost use Rattle.table_references.specs.Counting.{usableFrom, past};
 use crate::usable::is_usable;
 use crate::usable::last_after;
 use definitions::limits::ITEMS;
-use definitions::packet::LastMatch;
+use definitions::packets::LastMatch;
 use definitions::table::Item;
 use definitions::table::Pattern;
 use definitions::table::Slot;

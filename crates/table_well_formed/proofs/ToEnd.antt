@@ -10,7 +10,7 @@ use lib.ListN.{length, getD, take, drop}
 use lib.Dec.{eqb, leb, eqb·zero-suc, eqb·suc-suc}
 use borrow.Author.Tests.{leb-true, leb-false, eqb-true, eqb-false, eq-eqb, ne-eqb}
 use Rattle.forms.proofs.Bools.{by-cases, both-left, both-right}
-use Rattle.definitions.specs.declared.packet.LastMatch.{LastMatch}
+use Rattle.definitions.specs.declared.packets.LastMatch.{LastMatch}
 use Rattle.definitions.specs.declared.table.Pattern.{Pattern}
 use Rattle.definitions.specs.declared.table.Slot.{Slot}
 use Rattle.definitions.specs.Limits.{maxPatterns, maxTests}

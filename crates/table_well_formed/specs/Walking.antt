@@ -5,7 +5,7 @@ use mathlib.Core.Bool.{Bool, true, _&&_}
 use mathlib.Core.List.{List}
 use lib.ListN.{length, take, drop}
 use lib.Dec.{eqb, leb}
-use Rattle.definitions.specs.declared.packet.LastMatch.the-variants.{None}
+use Rattle.definitions.specs.declared.packets.LastMatch.the-variants.{None}
 use Rattle.definitions.specs.declared.table.Pattern.{Pattern}
 use Rattle.definitions.specs.declared.table.Slot.{Slot}
 use Rattle.definitions.specs.Limits.{maxPatterns, maxTests, maxItems}

@@ -4,7 +4,7 @@ ghost use Prim.Native.Nat.{_≤_};
 ghost use Rattle.table_well_formed.specs.Walking.{started, mayFollow, mayPass, Passable, pastItem, endsWell};
 use definitions::limits::PATTERNS;
 use definitions::limits::TESTS;
-use definitions::packet::LastMatch;
+use definitions::packets::LastMatch;
 use definitions::table::Item;
 use definitions::table::Pattern;
 use definitions::table::Slot;

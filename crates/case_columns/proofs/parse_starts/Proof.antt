@@ -4,7 +4,7 @@ use Prim.Native.Nat.{ℕ, _+_, _-_}
 use native.Mathlib.Omega.{arith}
 use lib.ListN.{length}
 use borrow.Author.Needs.{needs}
-use Rattle.definitions.specs.declared.packet.Start.{Start}
+use Rattle.definitions.specs.declared.packets.Start.{Start}
 use Rattle.line_parts.proofs.PartsFrom.{part-in}
 use Rattle.case_columns.proofs.Starts.{Starting, no-starts, starting, starting-halt, starting-full, starting-on, starting-out}
 use Rattle.case_columns.proofs.parse_starts.Statement.{statement}

@@ -4,7 +4,7 @@ use Prim.Native.Nat.{_+_, _-_, _≤_}
 use native.Mathlib.Omega.{arith}
 use borrow.Author.Needs.{needs}
 use lib.ListN.{length, take, drop}
-use Rattle.definitions.specs.declared.packet.LastMatch.the-variants.{None}
+use Rattle.definitions.specs.declared.packets.LastMatch.the-variants.{None}
 use Rattle.definitions.specs.References.{usableRun}
 use Rattle.definitions.specs.Items.{patternsOf}
 use Rattle.table_references.specs.Counting.{toCome}

@@ -7,8 +7,8 @@ use lib.ListN.{length, take, drop}
 use Rattle.write_bytes.specs.Puts.{puts}
 use Rattle.case_lists.specs.AnswerTexts.{startsAfter}
 use Rattle.case_lists.proofs.Listing.{starts-on, starts-end}
-use Rattle.case_lists.proofs.placements.put_starts_after.Statement.{statement}
-use Rattle.case_lists.proofs.placements.put_starts_after.Tie as tie
+use Rattle.case_lists.proofs.placement_text.put_starts_after.Statement.{statement}
+use Rattle.case_lists.proofs.placement_text.put_starts_after.Tie as tie
 
 abbrev Inv-loop : tie.InvT-loop
 Inv-loop out₀ at n starts next₀ i₀ out next i = puts out₀ next₀ (startsAfter (drop 1 (take n starts))) ≡ puts out next (startsAfter (drop i (take n starts)))

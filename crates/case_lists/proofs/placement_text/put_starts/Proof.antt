@@ -7,8 +7,8 @@ use Rattle.definitions.specs.Limits.{maxPatterns}
 use Rattle.write_bytes.proofs.Clipping.{at-most-le, taken-most}
 use Rattle.case_lists.specs.AnswerTexts.{startsText}
 use Rattle.case_lists.proofs.Listing.{starts-none, starts-first}
-use Rattle.case_lists.proofs.placements.put_starts.Statement.{statement}
-use Rattle.case_lists.proofs.placements.put_starts.Tie as tie
+use Rattle.case_lists.proofs.placement_text.put_starts.Statement.{statement}
+use Rattle.case_lists.proofs.placement_text.put_starts.Tie as tie
 
 at-most-requires : tie.Need-at-most-requires
 at-most-requires c κs = tt

@@ -1,7 +1,7 @@
 use mathlib.Core.Path.{_≡_, _∙_}
 use Rattle.write_bytes.proofs.Putting.{then, same-length as same}
-use Rattle.case_lists.proofs.placements.put_placement.Statement.{statement}
-use Rattle.case_lists.proofs.placements.put_placement.Tie as tie
+use Rattle.case_lists.proofs.placement_text.put_placement.Statement.{statement}
+use Rattle.case_lists.proofs.placement_text.put_placement.Tie as tie
 
 put-requires : tie.Need-put-requires
 put-requires c κs = tt
