@@ -41,7 +41,7 @@ pub const LINE_BYTES: usize = 16384;
 // Bytes that the pairs of a column write at most.
 pub const PAIRS: usize = LINE_BYTES / 2;
 
-// The answer to an ask. `Bad` does not come here: such a line is answered `bad` before; its arm says what the definition's does.
+// The answer to a query. `Bad` does not come here: such a line is answered `bad` before; its arm says what the definition's does.
 fn put_query<'a>(
     out: &mut [u8],
     at: usize,

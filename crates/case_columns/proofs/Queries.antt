@@ -1,4 +1,4 @@
--- The ask: the word, or what stands between the brackets; and what the code's answer tells of the bytes.
+-- The query: the word, or what stands between the brackets; and what the code's answer tells of the bytes.
 use mathlib.Core.Path.{_≡_, refl, ap, _∙_}
 use mathlib.Core.Bool.{Bool, true, false}
 use mathlib.Core.List.{List}

@@ -51,7 +51,7 @@ isQuery l = sameBytes l (text "all") || (sameBytes l (text "first") || (isEnclos
 unfoldable pub queryOf : List ℕ → Query
 queryOf l = if sameBytes l (text "all") then all else if sameBytes l (text "first") then first else next (placementOf (startsIn (inside l)))
 
--- ---- the code's kinds of ask: whether it is one; and the ask, with the placement beside it
+-- ---- the code's kinds of query: whether it is one; and the query, with the placement beside it
 
 abbrev pub isKind : Kind → Bool
 isKind All = true

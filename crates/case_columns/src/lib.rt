@@ -1,4 +1,4 @@
-// The column that a line of cases alone has, the ask: `all`, `first`, or an earlier placement such as `(2,9)` or `()`.
+// The column that a line of cases alone has, the query: `all`, `first`, or an earlier placement such as `(2,9)` or `()`.
 ghost use mathlib.Core.Path.{_≡_};
 ghost use mathlib.Core.List.{[]};
 ghost use Rattle.definitions.specs.Starts.{startAt};
@@ -32,7 +32,7 @@ pub struct Queried {
 // The largest start.
 const MAX_START: u64 = 18446744073709551615;
 
-// Whether it is an ask.
+// Whether it is a query.
 pub fn is_query(kind: Kind) -> bool
     ensures { λ r. ⌜ r ≡ isKind kind ⌝ }
 {
@@ -120,7 +120,7 @@ fn parse_next(s: &[u8]) -> Queried
     parse_starts(part_before(rest, b')'))
 }
 
-// The ask of a column.
+// The query of a column.
 pub fn parse_query(s: &[u8]) -> Queried
     ensures { λ r. ⌜ r ≡ parsedQuery (now (s .entry)) ⌝ }
 {

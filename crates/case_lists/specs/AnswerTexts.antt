@@ -44,7 +44,7 @@ abbrev pub listText : List (List Start) → List ℕ
 listText [] = text "none"
 listText (q ∷ qs) = placementText q ++ placementsAfter maxAfter qs
 
--- ---- refusals, and the answer to one ask
+-- ---- refusals, and the answer to one query
 
 abbrev pub refusedText : Refusal → List ℕ
 refusedText r = text "refused " ++ decimal (numberOf r)

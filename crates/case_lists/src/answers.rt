@@ -1,4 +1,4 @@
-// The answer to one ask: a placement, none, or a refusal.
+// The answer to one query: a placement, none, or a refusal.
 ghost use Rattle.write_bytes.specs.Puts.{Puts};
 ghost use Rattle.case_lists.specs.AnswerTexts.{refusedText, answerText};
 use crate::placement_text::put_placement;

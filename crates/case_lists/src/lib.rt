@@ -1,4 +1,4 @@
-// The text of an answer to one ask, and of the whole list of placements, put into a lent buffer.
+// The text of an answer to one query, and of the whole list of placements, put into a lent buffer.
 pub mod answers;
 pub mod lists;
 mod placement_text;

@@ -64,7 +64,7 @@ fn put_after<'a>(
     put_word(out, next, b";...")
 }
 
-// By a datagram's facts and payload: refusal 35, or the list.
+// By a datagram's header fields and payload: refusal 35, or the list.
 fn put_seen<'a>(
     out: &mut [u8],
     at: usize,

@@ -15,7 +15,7 @@ use Rattle.definitions.specs.Refusals.{readNumber, readPlace}
 use Rattle.definitions.specs.Reading.{read}
 use Rattle.definitions.specs.Computing.{computing}
 
--- a refusal's number, and an option behind its two dashes
+-- a refusal's number, and an option after its two dashes
 pub record LeftOut : Type 0 where
   pub number : ℕ
   pub option : String
@@ -48,7 +48,7 @@ leftOut =
     row 6 "distance 5,lasttag;" ∷
     []
 
--- the option stands behind these
+-- the option stands after these
 pub front : List ℕ
 front = text "F-SBID(--name \"n\";--protocol 6;"
 

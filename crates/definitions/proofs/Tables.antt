@@ -130,7 +130,7 @@ broken =
     counted 2 ∷
     counted 4 ∷
     counted 25 ∷
-    -- pattern parts that don't lie one behind the other
+    -- pattern parts that don't lie one after the other
     onFirst (withLen 0) ∷
     onFirst (withLen 1) ∷
     onFirst (withLen 3) ∷

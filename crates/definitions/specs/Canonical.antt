@@ -1,4 +1,4 @@
--- House text. Section "House text": the entries of a table in their order, and the text of each.
+-- Canonical text. Section "House text": the options of a table in their order, and the text of each.
 use Prim.Native.Nat.{ℕ, zero, suc, _+_, _/_, _%_}
 use mathlib.Core.Bool.{Bool, true, false, not}
 use mathlib.Core.List.{List, [], _∷_, _++_}
@@ -42,7 +42,7 @@ use Rattle.definitions.specs.Forms.{maxField, plainBytes}
 use Rattle.definitions.specs.Items.{Kind, unused, addressed, patterned, plainTest, kindOf, slotsOf, afterItem}
 use Rattle.definitions.specs.Options.{opening}
 
--- ---- the entries. Order: name, protocol, flow if given, then the items; after a pattern: context, no_case, distance, within.
+-- ---- the options. Order: name, protocol, flow if given, then the items; after a pattern: context, no_case, distance, within.
 -- Left out: context packet
 
 abbrev pub flowOption : flows.Flow → List OptionValue
@@ -85,7 +85,7 @@ itemOptions (addressed a) sl b = Test (sl .item) (take (a .count) (sl .addresses
 itemOptions (patterned p) sl b = patternOptions p b
 itemOptions plainTest sl b = Test (sl .item) [] ∷ []
 
--- the entries of some slots; b are the pattern bytes from theirs on
+-- the options of some slots; b are the pattern bytes from theirs on
 unfoldable pub slotOptions : List Slot → List ℕ → List OptionValue
 slotOptions [] b = []
 slotOptions (sl ∷ sls) b = itemOptions (kindOf (sl .item)) sl b ++ slotOptions sls (afterItem (kindOf (sl .item)) b)
@@ -129,7 +129,7 @@ abbrev pub sideName : Side → List ℕ
 sideName side.Source = text "src_addr"
 sideName side.Destination = text "dst_addr"
 
--- address bits behind the prefix as read
+-- address bits after the prefix as read
 abbrev pub octets : ℕ → List ℕ
 octets n =
     decimal (n / 16777216 % 256)
@@ -250,6 +250,6 @@ unfoldable pub optionsText : List OptionValue → List ℕ
 optionsText [] = []
 optionsText (e ∷ es) = optionText e ++ optionsText es
 
--- THE HOUSE TEXT of a table: `F-SBID(`, the options, then one space and `)`
+-- THE CANONICAL TEXT of a table: `F-SBID(`, the options, then one space and `)`
 unfoldable pub canonicalText : Table → List ℕ
 canonicalText t = opening ++ (optionsText (canonicalOptions t) ++ text " )")

@@ -51,7 +51,7 @@ packetWith payload =
 unfoldable pub uriOnly : FieldSpan → FieldMap
 uriOnly u = record { uri = u; header = Absent; body = Absent; banner = Absent; host = Absent; file = Absent }
 
--- A case: a text, a payload, uri, the starts held at first and the asks; the text's refusal and place (0 and 0: it reads), and the answers
+-- A case: a text, a payload, uri, the starts held at first and the queries; the text's refusal and place (0 and 0: it reads), and the answers
 pub record Case : Type 0 where
   pub source : List ℕ
   pub payload : List ℕ

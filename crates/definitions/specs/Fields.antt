@@ -85,7 +85,7 @@ sizeContext sizeField.Uri = context.Uri
 sizeContext sizeField.Header = context.Header
 sizeContext sizeField.Body = context.Body
 
--- ALL THAT A VERDICT SEES where nothing is refused, besides the table, the direction and an earlier placement: the datagram's facts,
+-- ALL THAT A VERDICT SEES where nothing is refused, besides the table, the direction and an earlier placement: the datagram's header fields,
 -- which fields are present, and the bytes of each; an absent field has none
 pub record View : Type 0 where
   pub header : PacketHeader

@@ -1,4 +1,4 @@
--- The form and the limits of each option behind its name. Section "Text", the table's second column, a definition for each row.
+-- The form and the limits of each option after its name. Section "Text", the table's second column, a definition for each row.
 use Prim.Native.Nat.{ℕ, _+_, _*_}
 use mathlib.Core.Bool.{Bool, true, false}
 use mathlib.Core.List.{List, [], _∷_, _++_}
@@ -40,7 +40,7 @@ spaces = many (literal 32)
 abbrev pub gap : Form (List ℕ)
 gap = some (literal 32)
 
--- any spaces and `;` behind a value; one or more spaces before it
+-- any spaces and `;` after a value; one or more spaces before it
 abbrev pub closed : Form OptionValue → Form OptionValue
 closed f = terminated f (preceded spaces (literal 59))
 
@@ -195,7 +195,7 @@ patternForm =
     valued (fmap (λ (p : Bool × List ℕ). Pattern (p .0) (p .1))
     (pair negation (preceded (literal 34) (terminated patternBytes (literal 34)))))
 
--- context: `packet`, `uri`, `header`, `body`, `banner`, `host`, `file`; words with the same first letter are parted behind it
+-- context: `packet`, `uri`, `header`, `body`, `banner`, `host`, `file`; words with the same first letter are parted after it
 abbrev pub contextForm : Form OptionValue
 contextForm =
     valued (fmap (λ (c : contexts.Context). Modified (Context c))

@@ -24,7 +24,7 @@ pub data OptionsText : List ℕ → List OptionValue → Type 1 where
   space : {l : List ℕ} {es : List OptionValue} → OptionsText l es → OptionsText (32 ∷ l) es
   more : {x l : List ℕ} {e : OptionValue} {es : List OptionValue} → OptionText x e → OptionsText l es → OptionsText (x ++ l) (e ∷ es)
 
--- each entry may stand behind those before it
+-- each option may stand after those before it
 pub data Occurrences : List OptionValue → List OptionValue → Type 0 where
   none : {before : List OptionValue} → Occurrences before []
   more : {before es : List OptionValue} {e : OptionValue} → occurrenceCheck before e ≡ Pass → Occurrences (before ++ (e ∷ [])) es → Occurrences before (e ∷ es)

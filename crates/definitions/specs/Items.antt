@@ -41,7 +41,7 @@ unfoldable pub patternsOf : List Slot → List Pattern
 patternsOf [] = []
 patternsOf (sl ∷ sls) = patternFirst (kindOf (sl .item)) (patternsOf sls)
 
--- the pattern bytes behind those of an item
+-- the pattern bytes after those of an item
 abbrev pub afterItem : Kind → List ℕ → List ℕ
 afterItem unused b = b
 afterItem (addressed a) b = b

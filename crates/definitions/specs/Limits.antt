@@ -1,7 +1,7 @@
 -- The limits of document 01, each said once.
 use Prim.Native.Nat.{ℕ}
 
--- Section "Text": bytes of a text, bytes of a house text, pattern bytes of a table. Reading and writing take them as a parameter.
+-- Section "Text": bytes of a text, bytes of a canonical text, pattern bytes of a table. Reading and writing take them as a parameter.
 pub record Limits : Type 0 where
   pub text : ℕ
   pub canonical : ℕ

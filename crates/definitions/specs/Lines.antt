@@ -20,7 +20,7 @@ use Rattle.definitions.specs.Writing.{writingCheck}
 abbrev pub refusedLine : Refusal → ℕ → List ℕ
 refusedLine r place = decimal (numberOf r) ++ (text "\t" ++ decimal place)
 
--- `ok`, tab, house text; or the writer's refusal at place 0, its buffer being as long as a house text may be
+-- `ok`, tab, canonical text; or the writer's refusal at place 0, its buffer being as long as a canonical text may be
 abbrev pub canonicalLine : Check → Table → List ℕ
 canonicalLine Pass t = text "ok\t" ++ canonicalText t
 canonicalLine (Refuse r) t = refusedLine r 0

@@ -1,4 +1,4 @@
--- Lists: tests over their elements, and an array with room behind what it holds.
+-- Lists: tests over their elements, and an array with room after what it holds.
 use Prim.Native.Nat.{ℕ, _-_}
 use mathlib.Core.Bool.{Bool, true, false, _&&_, _||_}
 use mathlib.Core.List.{List, [], _∷_, _++_}

@@ -17,7 +17,7 @@ hexDigits = (48, 57) ∷ (65, 70) ∷ (97, 102) ∷ []
 unfoldable pub digitValue : ℕ → ℕ
 digitValue b = if leb b 57 then b - 48 else if leb b 70 then b - 55 else b - 87
 
--- the number that digits write in a base, behind digits that wrote a
+-- the number that digits write in a base, after digits that wrote a
 unfoldable pub valueOf : ℕ → ℕ → List ℕ → ℕ
 valueOf base a [] = a
 valueOf base a (b ∷ l) = valueOf base (a * base + digitValue b) l

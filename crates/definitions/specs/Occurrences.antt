@@ -1,4 +1,4 @@
--- What an option may stand behind: once, a modifier behind a pattern, and the counts. Section "Text", and "Numbers of refusal", 8, 9 and 11.
+-- What an option may stand after: once, a modifier after a pattern, and the counts. Section "Text", and "Numbers of refusal", 8, 9 and 11.
 use Prim.Native.Nat.{ℕ}
 use mathlib.Core.Bool.{Bool, _||_}
 use mathlib.Core.List.{List, [], _∷_}
@@ -39,7 +39,7 @@ modifierNumber (Within w) = 3
 abbrev pub sameModifier : Modifier → Modifier → Bool
 sameModifier m n = eqb (modifierNumber m) (modifierNumber n)
 
--- the modifiers behind the last pattern; ms are those that were met
+-- the modifiers after the last pattern; ms are those that were met
 unfoldable pub latest : List Modifier → List OptionValue → List Modifier
 latest ms [] = ms
 latest ms (Name n ∷ es) = latest ms es
@@ -53,7 +53,7 @@ latest ms (Modified m ∷ es) = latest (m ∷ ms) es
 abbrev pub once : List OptionValue → OptionValue → Check
 once es e = refuseIf (any? (sameKind e) es) refusal.Repeated Pass
 
--- what is due for an entry behind the entries es: 8, 9 or 11
+-- what is due for an option after the options es: 8, 9 or 11
 unfoldable pub occurrenceCheck : List OptionValue → OptionValue → Check
 occurrenceCheck es (Name n) = once es (Name n)
 occurrenceCheck es (Protocol p) = once es (Protocol p)

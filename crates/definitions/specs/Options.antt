@@ -14,7 +14,7 @@ use Rattle.definitions.specs.declared.table.HeaderField.the-variants as 
 use Rattle.definitions.specs.OptionValues.{OptionValue}
 use Rattle.definitions.specs.Forms.{nameForm, protocolForm, flowForm, addressForm, sameIpForm, numberForm, ttlForm, fieldForm, sizeForm, atForm, patternForm, contextForm, noCaseForm, distanceForm, withinForm}
 
--- a row of the table: an option's name, and its form behind the name
+-- a row of the table: an option's name, and its form after the name
 pub record Option : Type 1 where
   pub name : List ℕ
   pub form : Form OptionValue
@@ -57,7 +57,7 @@ pub data NamedOption : Type 0 where
   unlisted : NamedOption
   listed : Read OptionValue → NamedOption
 
--- the option with the name n, read behind its name; letter case is ignored
+-- the option with the name n, read after its name; letter case is ignored
 unfoldable pub namedOption : List Option → List ℕ → List ℕ → ℕ → NamedOption
 namedOption [] n s at = unlisted
 namedOption (o ∷ os) n s at = if sameWord n (o .name) then listed (readAt (o .form) s at) else namedOption os n s at

@@ -1,4 +1,4 @@
--- One IPv4 packet: datagram, header facts, payload, and refusals 30 to 34. Sections "Packet and fields" and "Numbers of refusal".
+-- One IPv4 packet: datagram, header header fields, payload, and refusals 30 to 34. Sections "Packet and fields" and "Numbers of refusal".
 -- Headers are those of RFC 791, 9293, 768 and 792. Checksums and the UDP length are not verified.
 use Prim.Native.Nat.{ℕ, zero, suc, _+_, _*_, _/_, _%_}
 use mathlib.Core.Bool.{Bool, not, _&&_, _||_}
@@ -45,7 +45,7 @@ protocolOf d = bigEndian 1 d 9
 abbrev pub datagramOf : List ℕ → List ℕ
 datagramOf p = take (totalLength p) p
 
--- ---- behind the IP header of a datagram
+-- ---- after the IP header of a datagram
 
 abbrev pub afterHeader : List ℕ → List ℕ
 afterHeader d = drop (headerLength d) d
@@ -124,6 +124,6 @@ abbrev pub packetBy : Check → List ℕ → PacketAnswer
 packetBy Pass d = Seen (headerOf d)
 packetBy (Refuse r) d = Refused r
 
--- the facts of a lent packet, or 30 to 34
+-- the header fields of a lent packet, or 30 to 34
 unfoldable pub packetAnswer : List ℕ → List ℕ → PacketAnswer
 packetAnswer p decoded = packetBy (packetCheck p decoded) (datagramOf p)

@@ -23,7 +23,7 @@ use Rattle.definitions.specs.Occurrences.{isPattern, occurrenceCheck, mi
 
 -- ---- options left to right, the first bad one deciding, with its lowest number among 4 to 9 and 11
 
--- an entry and the first dash of its option
+-- an option and the first dash of its option
 pub record Located : Type 0 where
   pub dash : ℕ
   pub value : OptionValue
@@ -31,7 +31,7 @@ pub record Located : Type 0 where
 abbrev pub optionValuesOf : List Located → List OptionValue
 optionValuesOf located = map (λ (d : Located). d .value) located
 
--- the last `)` was met behind these options; or a refusal and its place
+-- the last `)` was met after these options; or a refusal and its place
 pub data Options : Type 0 where
   ended : List Located → Options
   refused : Refusal → ℕ → Options
@@ -40,7 +40,7 @@ abbrev pub unlessRefused : Check → ℕ → Options → Options
 unlessRefused check.Pass at k = k
 unlessRefused (check.Refuse r) at k = refused r at
 
--- the option whose first dash stands at a place, behind the entries es: 5, then 6, then 7, then 8, 9 or 11, all at that dash
+-- the option whose first dash stands at a place, after the options es: 5, then 6, then 7, then 8, 9 or 11, all at that dash
 abbrev pub optionStep : NamedOption → List OptionValue → ℕ → (OptionValue → ℕ → Options) → Options
 optionStep unlisted es at k = refused refusal.NotListed at
 optionStep (listed (Failed p)) es at k = refused refusal.Form at

@@ -87,6 +87,6 @@ unfoldable pub usableRun : LastMatch → List Pattern → ℕ
 usableRun last [] = 0
 usableRun last (p ∷ ps) = if usable last p then 1 + usableRun (lastAfter last p (startAt 0)) ps else 0
 
--- how many of the entries' patterns from the first on have usable references
+-- how many of the options' patterns from the first on have usable references
 abbrev pub usableIn : List OptionValue → ℕ
 usableIn es = usableRun None (patternsOf (slotsIn es))

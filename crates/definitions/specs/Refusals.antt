@@ -66,7 +66,7 @@ abbrev pub writeLength : Writing → ℕ
 writeLength (writing.Written n) = n
 writeLength (writing.Refused r) = 0
 
--- a packet's facts: number
+-- a packet's header fields: number
 abbrev pub packetNumber : PacketAnswer → ℕ
 packetNumber (packet.Seen f) = 0
 packetNumber (packet.Refused r) = numberOf r

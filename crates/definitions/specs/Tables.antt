@@ -1,4 +1,4 @@
--- The table that entries make. Section "Text", the paragraphs behind the table of options; unused room is zero.
+-- The table that options make. Section "Text", the paragraphs after the table of options; unused room is zero.
 use Prim.Native.Nat.{ℕ}
 use mathlib.Core.Bool.{Bool, true, false}
 use mathlib.Core.List.{List, [], _∷_, _++_}
@@ -18,7 +18,7 @@ use Rattle.definitions.specs.Limits.{maxName, maxItems, maxAddresses}
 use Rattle.definitions.specs.Lists.{padded}
 use Rattle.definitions.specs.OptionValues.{Modifier, Context, NoCase, Distance, Within, OptionValue, Name, Protocol, Flow, Test, Pattern, Modified}
 
--- ---- name, protocol and flow: of the first entry that says it
+-- ---- name, protocol and flow: of the first option that says it
 
 unfoldable pub nameIn : List OptionValue → List ℕ
 nameIn [] = []
@@ -59,7 +59,7 @@ with NoCase p = record { negated = p .negated; len = p .len; context = p .contex
 with (Distance d) p = record { negated = p .negated; len = p .len; context = p .context; nocase = p .nocase; distance = distance.Given d; within = p .within }
 with (Within w) p = record { negated = p .negated; len = p .len; context = p .context; nocase = p .nocase; distance = p .distance; within = within.Given w }
 
--- the pattern p with the modifiers among the entries behind it, up to the next pattern
+-- the pattern p with the modifiers among the options after it, up to the next pattern
 unfoldable pub modified : List OptionValue → patterns.Pattern → patterns.Pattern
 modified [] p = p
 modified (Name n ∷ es) p = modified es p
@@ -89,7 +89,7 @@ slotsIn (Test it al ∷ es) = slotOf it al ∷ slotsIn es
 slotsIn (Pattern n b ∷ es) = slotOf (item.Pattern (modified es (bare n (length b)))) [] ∷ slotsIn es
 slotsIn (Modified m ∷ es) = slotsIn es
 
--- the pattern bytes, one pattern's behind the other's
+-- the pattern bytes, one pattern's after the other's
 unfoldable pub bytesIn : List OptionValue → List ℕ
 bytesIn [] = []
 bytesIn (Name n ∷ es) = bytesIn es
@@ -99,7 +99,7 @@ bytesIn (Test it al ∷ es) = bytesIn es
 bytesIn (Pattern n b ∷ es) = b ++ bytesIn es
 bytesIn (Modified m ∷ es) = bytesIn es
 
--- THE TABLE of the entries, with room for so many pattern bytes; of no entries it is the empty table of a refusal
+-- THE TABLE of the options, with room for so many pattern bytes; of no options it is the empty table of a refusal
 unfoldable pub tableOf : ℕ → List OptionValue → Table
 tableOf room es =
     record {

@@ -43,7 +43,7 @@ flowHolds flow.FromClient Server = false
 flowHolds flow.FromServer Client = false
 flowHolds flow.FromServer Server = true
 
--- ---- tests of the header, by the facts of the datagram
+-- ---- tests of the header, by the header fields of the datagram
 
 -- Address: equal in the first n bits to one in the list; `!` turns the whole answer
 abbrev pub packetAddress : PacketHeader → Side → ℕ
@@ -120,7 +120,7 @@ module _ (v : View) where
       v .present (atContext (t .relative) l)
       && atExists (t .number) (atStart (t .relative) l) (length (v .field (atContext (t .relative) l)))
 
-  -- a test, behind the last positive pattern; a slot that is not in use, and a pattern, are no tests
+  -- a test, after the last positive pattern; a slot that is not in use, and a pattern, are no tests
   unfoldable pub testHolds : Item → List Address → LastMatch → Bool
   testHolds item.Unused al l = false
   testHolds (item.Address a) al l = addressHolds (v .header) a al

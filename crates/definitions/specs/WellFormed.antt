@@ -111,7 +111,7 @@ unfoldable pub bytesOf : List Pattern → ℕ
 bytesOf [] = 0
 bytesOf (p ∷ ps) = p .len + bytesOf ps
 
--- the patterns' bytes lie one behind the other from 0 on
+-- the patterns' bytes lie one after the other from 0 on
 unfoldable pub bytesFit : Table → Bool
 bytesFit t =
     eqb (t .used) (bytesOf (patternsOf (slotsOf t)))

@@ -1,4 +1,4 @@
--- Writing a table into a lent buffer. Section "Numbers of refusal", 20 to 22; after writing, bytes behind the text are untouched.
+-- Writing a table into a lent buffer. Section "Numbers of refusal", 20 to 22; after writing, bytes after the text are untouched.
 use Prim.Native.Nat.{ℕ}
 use mathlib.Core.Bool.{not}
 use mathlib.Core.List.{List, _++_}

@@ -47,13 +47,13 @@ pub struct Reading {
     pub table: Table,
 }
 
-// The writer's answer: the length of the house text, or a refusal.
+// The writer's answer: the length of the canonical text, or a refusal.
 pub enum Writing {
     Written(usize),
     Refused(Refusal),
 }
 
-// A packet's facts, or a refusal.
+// A packet's header fields, or a refusal.
 pub enum PacketAnswer {
     Seen(PacketHeader),
     Refused(Refusal),
@@ -79,7 +79,7 @@ pub struct Answer {
     pub placement: Placement,
 }
 
-// One ask of a list of asks.
+// One query of a list of queries.
 pub enum Query {
     First,
     Next,

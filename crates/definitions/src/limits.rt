@@ -1,6 +1,6 @@
 // The limits of document 01 that the types and the code go by, each named once. specs/Limits.antt has them for the definitions.
 
-// Bytes of a text, and of a house text.
+// Bytes of a text, and of a canonical text.
 pub const TEXT_BYTES: usize = 1024;
 
 pub const CANONICAL_BYTES: usize = 1024;

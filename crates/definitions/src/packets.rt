@@ -8,7 +8,7 @@ pub enum Direction {
     Server,
 }
 
-// The facts of a datagram by value: its length, where its payload starts, and the header fields that tests compare.
+// The header fields of a datagram by value: its length, where its payload starts, and the header fields that tests compare.
 // The ports are 0 where the protocol has none.
 pub struct PacketHeader {
     pub total: usize,

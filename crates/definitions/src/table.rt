@@ -141,7 +141,7 @@ pub enum Within {
     Given(WithinValue),
 }
 
-// A pattern with its modifiers. Its bytes are the next `len` of the table's, behind those of the patterns before it.
+// A pattern with its modifiers. Its bytes are the next `len` of the table's, after those of the patterns before it.
 pub struct Pattern {
     pub negated: bool,
     pub len: usize,
@@ -164,7 +164,7 @@ pub enum Item {
     Pattern(Pattern),
 }
 
-// An address of a test: its bits behind the prefix are kept as read.
+// An address of a test: its bits after the prefix are kept as read.
 pub struct Address {
     pub number: u32,
     pub prefix: u8,

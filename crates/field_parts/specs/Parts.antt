@@ -6,7 +6,7 @@ use denote.Ref.{RefT, ptr, now}
 use Rattle.definitions.specs.declared.packets.Span.{Span}
 use Rattle.definitions.specs.Fields.{cut}
 
--- r refers to the span's bytes of what b refers to: in the same block of memory, so many bytes behind b's first, and of these values
+-- r refers to the span's bytes of what b refers to: in the same block of memory, so many bytes after b's first, and of these values
 pub record PartOf (b : RefT (List ℕ)) (sp : Span) (r : RefT (List ℕ)) : Type 0 where
   pub block : ptr r .0 ≡ ptr b .0
   pub offset : ptr r .1 ≡ ptr b .1 + sp .start

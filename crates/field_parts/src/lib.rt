@@ -17,7 +17,7 @@ pub fn is_at(f: FieldSpan) -> bool
     }
 }
 
-// Whether `len` bytes from `start` on end behind `n`. The sum is not formed, so it can't wrap.
+// Whether `len` bytes from `start` on end after `n`. The sum is not formed, so it can't wrap.
 fn beyond(n: usize, start: usize, len: usize) -> bool
     ensures { λ r. ⌜ r ≡ ltb n (start + len) ⌝ }
 {

@@ -51,7 +51,7 @@ one-begun c w (b ∷ l) r e =
     (λ t. let q : Got b l ≡ Stop r = rw t at e in never (cc))
     (λ t. let q : _≡_ {A = Scan ℕ} (Stop (b ∷ l)) (Stop r) = rw t at e in let y : b ∷ l ≡ r = cc in ([], h .0 ∷ [], h .0, y, (refl, h .1)))
 
--- behind a text of P
+-- after a text of P
 after : (x p l m r : List ℕ) → l ≡ x ++ m → m ≡ p ++ r → l ≡ (x ++ p) ++ r
 after x p l m r e g = rw (e, g) (sym (append-assoc x p r))
 
@@ -109,7 +109,7 @@ begun (fmap h f) w l r e =
     (λ q. let z = q .3 in never (cc))
     (stop-split (scan f l) _ r e)
 
--- ---- one byte decides: nothing depends on what stands behind the first byte that is left
+-- ---- one byte decides: nothing depends on what stands after the first byte that is left
 
 abbrev rest : {A : Type 0} → Scan A → List ℕ
 rest (Got v r) = r

@@ -15,7 +15,7 @@ has [] b = false
 has (r ∷ c) b = between (r .0) (r .1) b || has c b
 
 -- nothing, with a value; a byte of a class; one after the other; either; any number of them, one after the other;
--- a value made of a form's; a bound on a form's value, and behind how many bytes of its text a broken bound is placed
+-- a value made of a form's; a bound on a form's value, and after how many bytes of its text a broken bound is placed
 pub data Form : Type 0 → Type 1 where
   pure : {A : Type 0} → A → Form A
   byte : Class → Form ℕ

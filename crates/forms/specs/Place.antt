@@ -7,7 +7,7 @@ use Rattle.forms.specs.Bytes.{if_then_else_}
 use Rattle.forms.specs.Form.{Form}
 use Rattle.forms.specs.Scan.{Scan, Got, Stop, scan, over}
 
--- the value and the place behind it; the place of the first broken bound, and the place behind all; the first place at which the form
+-- the value and the place after it; the place of the first broken bound, and the place after all; the first place at which the form
 -- cannot go on, bounds ignored
 pub data Read (A : Type 0) : Type 0 where
   Parsed : A → ℕ → Read A
@@ -37,7 +37,7 @@ farther p (Parsed a n) = OutOfRange p n
 farther p (OutOfRange q n) = OutOfRange p n
 farther p (Failed q) = Failed q
 
--- the one, and from behind it the other
+-- the one, and from the end of it the other
 abbrev pub both-read : {A B C : Type 0} → (A → B → C) → Read A → (ℕ → Read B) → Read C
 both-read h (Parsed a n) k = mapRead (h a) (k n)
 both-read h (OutOfRange p n) k = farther p (k n)

@@ -8,7 +8,7 @@ use lib.Dec.{ltb, leb}
 use Rattle.forms.specs.Bytes.{if_then_else_}
 use Rattle.forms.specs.Form.{Class, has, Form, pure, byte, pair, alt, many, fmap, bound}
 
--- the value and what is left behind it; or what is left where the form cannot go on
+-- the value and what is left after it; or what is left where the form cannot go on
 pub data Scan (A : Type 0) : Type 0 where
   Got : A → List ℕ → Scan A
   Stop : List ℕ → Scan A

@@ -37,7 +37,7 @@ use Rattle.laws.proofs.Keep.{keep-none}
 
 -- ---- what the statements say
 
--- the fields that a test looks at, behind the last positive pattern: data_size its field, data_at the payload or, with relative, the pattern's
+-- the fields that a test looks at, after the last positive pattern: data_size its field, data_at the payload or, with relative, the pattern's
 -- field; tests of the header none
 abbrev pub fieldsTested : Item → LastMatch → List Context
 fieldsTested item.Unused l = []
@@ -56,13 +56,13 @@ fieldsRead (matched p b) l = p .context ∷ []
 fieldsRead (unmatched p b) l = p .context ∷ []
 fieldsRead (tested it al) l = fieldsTested it l
 
--- the item holds behind the last positive pattern, a pattern without `!` at the start s
+-- the item holds after the last positive pattern, a pattern without `!` at the start s
 abbrev pub itemHolds : View → Constraint → LastMatch → Start → Bool
 itemHolds v (matched p b) l s = liesIn v p b l s
 itemHolds v (unmatched p b) l s = unmatchedHolds v p b l
 itemHolds v (tested it al) l s = testHolds v it al l
 
--- the last positive pattern behind some items; where it lies plays no part for the field
+-- the last positive pattern after some items; where it lies plays no part for the field
 unfoldable pub lastAfterAll : List Constraint → LastMatch → LastMatch
 lastAfterAll [] l = l
 lastAfterAll (matched p b ∷ ws) l = lastAfterAll ws (lastAfter l p (startAt 0))
@@ -109,7 +109,7 @@ absent-never v (matched p b) l s c m e = absent-first v (p .context) c _ m e
 absent-never v (unmatched p b) l s c m e = absent-first v (p .context) c _ m e
 absent-never v (tested it al) l s c m e = absent-test v it al l c m e
 
--- `fieldsRead` leaves none out: besides the datagram's facts an item depends on those fields only
+-- `fieldsRead` leaves none out: besides the datagram's header fields an item depends on those fields only
 pub looks-only : (v v′ : View) (w : Constraint) (l : LastMatch) (s : Start) → v .header ≡ v′ .header
     → ((c : Context) → Mem c (fieldsRead w l) → (v .present c ≡ v′ .present c) × (v .field c ≡ v′ .field c)) → itemHolds v w l s ≡ itemHolds v′ w l s
 unfolding liesIn unmatchedHolds starts testHolds sizeHolds atHolds
@@ -140,7 +140,7 @@ only-none true l e = e
 only-none false l e = refl
 
 module _ (v : View) where
-  -- an item that never holds has no placements, whatever stands behind it
+  -- an item that never holds has no placements, whatever stands after it
   never-none : (w : Constraint) (ws : List Constraint) (l : LastMatch) → ((s : Start) → itemHolds v w l s ≡ false) → placements v (w ∷ ws) l ≡ []
   unfolding placements starts spread
   never-none (matched p b) ws l h = rw (keep-none (liesIn v p b l) (startsTo (length (v .field (p .context)))) h)
@@ -179,7 +179,7 @@ module _ (v : View) where
     after-none (unmatched p b ∷ us) k l h m = only-none (unmatchedHolds v p b k) _ (after-none us k l h m)
     after-none (tested it al ∷ us) k l h m = only-none (testHolds v it al k) _ (after-none us k l h m)
 
-  -- A LIST OF ITEMS ONE OF WHICH LOOKS AT AN ABSENT FIELD HAS NO PLACEMENTS: the item w between the items us and ws, behind the last pattern l
+  -- A LIST OF ITEMS ONE OF WHICH LOOKS AT AN ABSENT FIELD HAS NO PLACEMENTS: the item w between the items us and ws, after the last pattern l
   pub absent-after : (us : List Constraint) (w : Constraint) (ws : List Constraint) (l : LastMatch) (c : Context) → Mem c (fieldsRead w (lastAfterAll us l)) → v .present c ≡ false
       → placements v (us ++ (w ∷ ws)) l ≡ []
   absent-after us w ws l c m e = after-none w ws c e us l l refl m
@@ -253,7 +253,7 @@ module _ (t : Table) (sl : Slot) (c : Context) (inUse : Mem sl (slotsOf t)) (loo
 
 -- ---- data_at
 
--- the last positive pattern behind some items is one of them, or the one before them
+-- the last positive pattern after some items is one of them, or the one before them
 abbrev Among : List Constraint → Context → Type 0
 Among us x = (p : Pattern) × (b : List ℕ) × Mem (matched p b) us × (x ≡ p .context)
 

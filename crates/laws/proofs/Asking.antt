@@ -1,5 +1,5 @@
 -- Where none of 20 and 30 to 35 is due and the list has m placements, "first" and then m times "next" answer these m in their order, then
--- none (`all-listed`): of a rising list, those after one of it are those that follow it. Where one is due, each ask of every list gets the first due
+-- none (`all-listed`): of a rising list, those after one of it are those that follow it. Where one is due, each query of every list gets the first due
 -- (`all-refused`).
 use mathlib.Core.Path.{_≡_, refl, sym, ap, _∙_, subst}
 use mathlib.Core.Bool.{true, false≢true}

@@ -1,5 +1,5 @@
 -- A refused reading has a place at most the text's length (`place-within`), and never beyond the limit of a text (`place-most`), and a number from 1 to 12. The options are read left to right, each
--- place is where the reading stands or an option's first dash before it, and it never stands behind the text.
+-- place is where the reading stands or an option's first dash before it, and it never stands after the text.
 use mathlib.Core.Path.{_≡_, refl, ap, subst}
 use mathlib.Core.Bool.{Bool, true, false, not, _&&_, _||_, false≢true}
 use mathlib.Core.List.{List, [], _∷_, _++_, map}
@@ -36,7 +36,7 @@ readCauses = 0 ∷ 1 ∷ 2 ∷ 3 ∷ 4 ∷ 5 ∷ 6 ∷ 7 ∷ 8 ∷ 9 ∷ 10 ∷ 
 abbrev Fits : ℕ → Refusal → ℕ → Type 0
 Fits n r p = (among readCauses (numberOf r) ≡ true) × (p ≤ n)
 
--- ---- what is due for an entry
+-- ---- what is due for an option
 
 check-for-among : (es : List OptionValue) (e : OptionValue) → CheckAmong readCauses (occurrenceCheck es e)
 unfolding occurrenceCheck any?

@@ -62,7 +62,7 @@ module _ (limit : ℕ) where
   too-large [] h = not-number [] refl
   too-large (b ∷ l) h = not-number (b ∷ l) (rw (lt-leb (valueOf 10 0 (b ∷ l)) limit h) (and-false (all? (has decimalDigits) (b ∷ l))))
 
--- ---- the loop: what is still to come behind i digits that wrote v
+-- ---- the loop: what is still to come after i digits that wrote v
 
 pub record Kept (limit : ℕ) (s : List ℕ) (v i : ℕ) : Type 0 where
   pub some : none? s ≡ false

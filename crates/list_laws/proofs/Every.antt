@@ -1,4 +1,4 @@
--- A test of every element, as a loop goes about it: one that passes leaves those behind it, one that fails decides, and behind the last all have passed.
+-- A test of every element, as a loop goes about it: one that passes leaves those after it, one that fails decides, and after the last all have passed.
 use mathlib.Core.Path.{_≡_, refl, _∙_}
 use mathlib.Core.Bool.{Bool, true, false}
 use mathlib.Core.List.{List, [], _∷_}
@@ -9,7 +9,7 @@ use lib.Seq.{drop-cons}
 use Rattle.definitions.specs.Lists.{all?}
 use Rattle.list_laws.proofs.Firsts.{first-here, first-out}
 
--- the element at a place, and those behind it
+-- the element at a place, and those after it
 pub drop-here : {A : Type 0} (l : List A) (i : ℕ) (d : A) → i < length l → drop i l ≡ getD l i d ∷ drop (i + 1) l
 drop-here l i d h = rw add-one (drop-cons l i d h)
 

@@ -1,4 +1,4 @@
--- The first n elements of a list, as a loop goes through them: the one at a place with those behind it, and nothing behind the last.
+-- The first n elements of a list, as a loop goes through them: the one at a place with those after it, and nothing after the last.
 use mathlib.Core.Path.{_≡_}
 use mathlib.Core.List.{List, [], _∷_}
 use Prim.Native.Nat.{ℕ, _+_, _≤_, _<_}

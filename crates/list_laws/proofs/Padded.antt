@@ -1,4 +1,4 @@
--- Storing behind what a padded array holds makes the padded array of the longer list: by where the stored element meets the padding. And its length.
+-- Storing after what a padded array holds makes the padded array of the longer list: by where the stored element meets the padding. And its length.
 use mathlib.Core.Path.{_≡_, sym, ap, _∙_}
 use mathlib.Core.List.{List, [], _∷_, _++_, append-nil}
 use Prim.Native.Nat.{ℕ, suc, _+_, _-_, _≤_, _<_}

@@ -20,7 +20,7 @@ fn packet_address(f: PacketHeader, side: Side) -> u32
     }
 }
 
-// How many bits of an address stand behind a prefix.
+// How many bits of an address stand after a prefix.
 fn bits_after(prefix: u8) -> u64
     ensures { λ r. ⌜ r ≡ maxPrefix - prefix ⌝ }
 {

@@ -1,4 +1,4 @@
--- The facts of a packet for which neither 20 nor any of 30 to 34 is due. Document 01, section "Numbers of refusal".
+-- The header fields of a packet for which neither 20 nor any of 30 to 34 is due. Document 01, section "Numbers of refusal".
 use mathlib.Core.Bool.{not}
 use mathlib.Core.List.{List}
 use Prim.Native.Nat.{ℕ}
@@ -14,6 +14,6 @@ use Rattle.definitions.specs.Packet.{datagramOf, packetCheck, packetBy}
 abbrev pub tableAndPacketCheck : Table → List ℕ → List ℕ → Check
 tableAndPacketCheck t p decoded = refuseIf (not (wellFormed t)) refusal.IllFormed (packetCheck p decoded)
 
--- the facts of the datagram, or the first due of these
+-- the header fields of the datagram, or the first due of these
 abbrev pub inputHeader : Table → List ℕ → List ℕ → PacketAnswer
 inputHeader t p decoded = packetBy (tableAndPacketCheck t p decoded) (datagramOf p)

@@ -7,7 +7,7 @@ use definitions::table::Table;
 use packet::packet_header;
 use table_well_formed::well_formed;
 
-// The facts of the packet's datagram, or the first refusal that is due.
+// The header fields of the packet's datagram, or the first refusal that is due.
 pub fn check_input<'a>(t: Table, p: &'a [u8], decoded: &'a [u8]) -> PacketAnswer
     ensures { λ r. ⌜ r ≡ inputHeader t (now (p .entry)) (now (decoded .entry)) ⌝ }
 {

@@ -19,7 +19,7 @@ use match_number_tests::field_holds;
 use match_number_tests::number_holds;
 use match_number_tests::ttl_holds;
 
-// Whether a test holds behind the last positive pattern. A slot that is not in use, and a pattern, are no tests.
+// Whether a test holds after the last positive pattern. A slot that is not in use, and a pattern, are no tests.
 pub fn test_holds<'a>(
     f: PacketHeader,
     payload: &'a [u8],

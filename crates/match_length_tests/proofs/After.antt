@@ -1,4 +1,4 @@
--- A byte behind a start: no sum is needed to see whether it exists.
+-- A byte after a start: no sum is needed to see whether it exists.
 use mathlib.Core.Path.{_≡_}
 use Prim.Native.Nat.{ℕ, _+_, _-_, _<_}
 use native.Mathlib.Omega.{arith}

@@ -1,3 +1,3 @@
--- Bytes behind a start, and tests by whether a field is present.
+-- Bytes after a start, and tests by whether a field is present.
 pub mod After
 pub mod Presence

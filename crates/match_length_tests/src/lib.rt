@@ -75,7 +75,7 @@ fn at_start(relative: bool, last: LastMatch) -> usize
     }
 }
 
-// The byte at n behind a start exists in a field of so many bytes; no sum of the two can wrap here.
+// The byte at n after a start exists in a field of so many bytes; no sum of the two can wrap here.
 fn at_exists(n: usize, start: usize, len: usize) -> bool
     ensures { λ r. ⌜ r ≡ atExists n start len ⌝ }
 {

@@ -1,4 +1,4 @@
--- What a packet for which neither 20 nor any of 30 to 34 is due hands on: small lengths, 35 as all that is still due, and a list that needs its facts and
+-- What a packet for which neither 20 nor any of 30 to 34 is due hands on: small lengths, 35 as all that is still due, and a list that needs its header fields and
 -- payload alone.
 use mathlib.Core.Path.{_≡_, refl, sym, ap, _∙_}
 use mathlib.Core.Bool.{Bool, true, false, not, _||_}
@@ -45,7 +45,7 @@ refused-first true i r w v e = e
 refused-first false i r Pass v e = cc
 refused-first false i r (Refuse s) v e = e
 
--- neither 20 nor any of 30 to 34 is due, and f and s are the datagram's facts and payload
+-- neither 20 nor any of 30 to 34 is due, and f and s are the datagram's header fields and payload
 pub record CheckedInput (t : Table) (p d : List ℕ) (f : PacketHeader) (s : List ℕ) : Type 0 where
   pub formed : wellFormed t ≡ true
   pub packet : packetCheck p d ≡ Pass

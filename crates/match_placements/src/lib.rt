@@ -1,4 +1,4 @@
-// The list of placements by a datagram's facts and payload: its first, and the least after a placement held. Refusals 35 and 36 come first, in this
+// The list of placements by a datagram's header fields and payload: its first, and the least after a placement held. Refusals 35 and 36 come first, in this
 // order; those before them the caller has tested.
 pub mod answers;
 mod positives;

@@ -1,4 +1,4 @@
--- DEMAND 3 BY THE CONTRACTS ALONE: whatever answers the contracts of the matcher's "first" and "next" allow, ask by ask, the whole list of them is the
+-- DEMAND 3 BY THE CONTRACTS ALONE: whatever answers the contracts of the matcher's "first" and "next" allow, query by query, the whole list of them is the
 -- model's. `first.Post` and `next.Post` are these contracts as the check reads them.
 use mathlib.Core.Path.{_≡_, refl, ap, _∙_}
 use mathlib.Core.List.{List, [], _∷_}
@@ -21,7 +21,7 @@ use Rattle.matcher.proofs.next.Reads as next
 use Rattle.matcher.proofs.next.Kinds as next-kinds
 
 module _ (κs : Lfts 1) (t : Table) (p d : RefT (List ℕ)) (dir : Direction) (m : FieldMap) where
-  -- the answers rs to the asks, where a "next" is handed the placement of the answer before, at the start h
+  -- the answers rs to the queries, where a "next" is handed the placement of the answer before, at the start h
   pub data Allowed : Placement → List Query → List Answer → Type 0 where
     done : {h : Placement} → Allowed h [] []
     by-first : {h : Placement} {queries : List Query} {r : Answer} {rs : List Answer} (s : AtExit (endedOf 1 first-kinds.ps first-kinds.r) κs)

@@ -70,7 +70,7 @@ module _ (κs : Lfts 3) (t : Table) (p d : RefT (List ℕ)) (dir : Direction) (m
   abbrev pub after : List ℕ
   after = now (s .1 .1 .1 .1 .1 .1 .1 .0)
 
-  -- it answers true, and the buffer has the numbers of these answers, and behind them what stood there
+  -- it answers true, and the buffer has the numbers of these answers, and after them what stood there
   abbrev pub Answers : List Answer → Type 0
   Answers rs = (r ≡ true) × (after ≡ allNumbers rs ++ drop (length rs * numbersOfOne) (now out))
 

@@ -1,4 +1,4 @@
--- A run of asks, turn by turn: the buffer with some asks answered, and the others still to come, is what is written in the end.
+-- A run of queries, turn by turn: the buffer with some queries answered, and the others still to come, is what is written in the end.
 use mathlib.Core.Path.{_≡_, refl, sym, ap, _∙_}
 use mathlib.Core.Bool.{true, false}
 use mathlib.Core.List.{List, [], _∷_, _++_, map, append-assoc, append-nil}
@@ -32,7 +32,7 @@ module _ (t : Table) (p d : List ℕ) (dir : Direction) (m : FieldMap) where
   unfolding written
   no-room h queries out k = rw (lt-leb (length queries * numbersOfOne) (length out) k) (refl, refl)
 
-  -- an answer for each ask
+  -- an answer for each query
   pub answers-length : (h : Placement) (queries : List ℕ) → length (answers t p d dir m h (map queryOfByte queries)) ≡ length queries
   unfolding answers
   answers-length h [] = refl

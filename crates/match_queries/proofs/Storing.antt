@@ -1,4 +1,4 @@
--- Numbers stored one behind the other.
+-- Numbers stored one after the other.
 use mathlib.Core.Path.{_≡_, sym, ap, _∙_}
 use mathlib.Core.List.{List, _∷_, _++_, map}
 use Prim.Native.Nat.{ℕ, suc, _+_, _≤_, _<_}
@@ -23,7 +23,7 @@ stores-start out at ss j n h e =
 pub stores-all : (out : List ℕ) (at : ℕ) (vs : List ℕ) (j : ℕ) → length vs ≤ j → sets out (at + j) (drop j vs) ≡ out
 stores-all out at vs j h = rw (drop-of-length-le vs h)
 
--- ---- three numbers and a list behind them
+-- ---- three numbers and a list after them
 
 pub three-and-more : (out : List ℕ) (at x y z n : ℕ) (vs : List ℕ) → 3 + length vs ≡ n → at + n ≤ length out
     → sets (set (set (set out at x) (at + 1) y) (at + 2) z) (at + 3) vs ≡ take at out ++ (x ∷ y ∷ z ∷ vs) ++ drop (at + n) out

@@ -1,2 +1,2 @@
--- What a run of asks writes.
+-- What a run of queries writes.
 pub mod Runs

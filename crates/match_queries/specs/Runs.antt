@@ -1,4 +1,4 @@
--- A run of asks over a lent buffer: the answers of the model, as numbers, one answer behind the other. Section "Meaning", its last paragraph.
+-- A run of queries over a lent buffer: the answers of the model, as numbers, one answer after the other. Section "Meaning", its last paragraph.
 use Prim.Native.Nat.{ℕ, zero, suc, _+_, _*_}
 use mathlib.Core.Bool.{Bool}
 use mathlib.Core.List.{List, [], _∷_, _++_, map}
@@ -15,7 +15,7 @@ use Rattle.definitions.specs.declared.answers.Query.the-variants.{First, Next}
 use Rattle.definitions.specs.Limits.{maxPatterns}
 use Rattle.definitions.specs.Queries.{answerNumbers, answers}
 
--- an ask is a byte: 0 is "first", any other "next"
+-- a query is a byte: 0 is "first", any other "next"
 abbrev pub queryOfByte : ℕ → Query
 queryOfByte zero = First
 queryOfByte (suc a) = Next
@@ -32,7 +32,7 @@ allNumbers (a ∷ rest) = answerNumbers a ++ allNumbers rest
 abbrev pub room : List ℕ → List ℕ → Bool
 room queries out = leb (length queries * numbersOfOne) (length out)
 
--- the buffer afterwards: all answers, and behind them what stood there; with no room for them all as it was
+-- the buffer afterwards: all answers, and after them what stood there; with no room for them all as it was
 unfoldable pub written : Table → List ℕ → List ℕ → Direction → FieldMap → Placement → List ℕ → List ℕ → List ℕ
 written t p decoded dir m h queries out =
     if room queries out

@@ -13,7 +13,7 @@ use definitions::packets::FieldMap;
 use definitions::packets::Placement;
 use definitions::table::Table;
 
-// One ask, a byte: 0 is "first", any other "next" after the placement held.
+// One query, a byte: 0 is "first", any other "next" after the placement held.
 fn answer_to<'a>(
     t: Table,
     p: &'a [u8],
@@ -31,7 +31,7 @@ fn answer_to<'a>(
     matcher::next(t, p, decoded, dir, m, held)
 }
 
-// Runs the asks. Each "next" is handed the placement of the answer before it, at the start `held`. Where `out` has no room for the numbers of all
+// Runs the queries. Each "next" is handed the placement of the answer before it, at the start `held`. Where `out` has no room for the numbers of all
 // answers, nothing is written and the answer is false.
 pub fn run<'a>(
     t: Table,

@@ -1,4 +1,4 @@
--- From the refusal that is due, or the answer by facts and payload, to the answer of an entry.
+-- From the refusal that is due, or the answer by header fields and payload, to the answer of an entry.
 use mathlib.Core.Path.{_≡_, refl}
 use mathlib.Core.List.{List, [], _∷_}
 use Prim.Native.Nat.{ℕ}
@@ -37,7 +37,7 @@ module _ (t : Table) (p d : List ℕ) (dir : Direction) (m : FieldMap) {a : Pack
   unfolding nextAnswer
   next-refused h g = rw (refused-check t p d e k dir m) g
 
--- ---- the packet is cleared: f and s are its facts and payload
+-- ---- the packet is cleared: f and s are its header fields and payload
 
 verdict-head : (w : Check) (l : List (List Start)) → verdictOf (unless w (headOf l) .found) ≡ verdictBy w l
 verdict-head Pass [] = refl

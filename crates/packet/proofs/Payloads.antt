@@ -68,7 +68,7 @@ transport-inside d h e = by-cases (isTcp (protocolOf d)) tcp other
     other : isTcp (protocolOf d) ≡ false → headerLength d + transportLength d ≤ length d
     other t = eight _ refl t
 
--- facts whose numbers lie in the packet
+-- header fields whose numbers lie in the packet
 part-inside : (p : List ℕ) (f : PacketHeader) → f .payload ≤ f .total → f .total ≤ length p → payloadPart p f ≡ drop (f .payload) (take (f .total) p)
 unfolding payloadPart
 part-inside p f h k =
@@ -115,7 +115,7 @@ module _ (p decoded : List ℕ) where
   seen-header Pass d f e = cc
   seen-header (Refuse r) d f e = cc
 
-  -- the same of the facts that a caller has been given
+  -- the same of the header fields that a caller has been given
   pub seen-payload : (f : PacketHeader) → packetAnswer p decoded ≡ Seen f → payloadPart p f ≡ payloadOf (datagramOf p)
   unfolding packetAnswer
   seen-payload f e = rw (seen-header (packetCheck p decoded) (datagramOf p) f e) (payload-part (seen (packetCheck p decoded) (datagramOf p) f e))

@@ -1,4 +1,4 @@
-// One IPv4 packet: refusals 30 to 34 in order, the datagram's facts by value, and its payload as a part of the packet.
+// One IPv4 packet: refusals 30 to 34 in order, the datagram's header fields by value, and its payload as a part of the packet.
 ghost use mathlib.Core.Path.{_≡_};
 ghost use Rattle.definitions.specs.Packet.{headerOf, packetAnswer};
 ghost use Rattle.definitions.specs.Fields.{shown};
@@ -24,7 +24,7 @@ use packet_transport::protocol_of;
 use packet_transport::transport_length;
 use packet_transport::transport_short;
 
-// The facts of a datagram.
+// The header fields of a datagram.
 fn header_of(d: &[u8]) -> PacketHeader
     ensures { λ r. ⌜ r ≡ headerOf (now (d .entry)) ⌝ }
 {
@@ -54,7 +54,7 @@ fn header_of(d: &[u8]) -> PacketHeader
     }
 }
 
-// Refusals 33 and 34, which look at the datagram alone, or its facts.
+// Refusals 33 and 34, which look at the datagram alone, or its header fields.
 fn datagram_header(d: &[u8]) -> PacketAnswer
     ensures { λ r. ⌜ r ≡ datagramAnswer (now (d .entry)) ⌝ }
 {
@@ -67,7 +67,7 @@ fn datagram_header(d: &[u8]) -> PacketAnswer
     PacketAnswer::Seen(header_of(d))
 }
 
-// THE PACKET: the facts of the datagram in a lent packet, or the first due of 30 to 34.
+// THE PACKET: the header fields of the datagram in a lent packet, or the first due of 30 to 34.
 pub fn packet_header(p: &[u8], decoded: &[u8]) -> PacketAnswer
     ensures { λ r. ⌜ r ≡ packetAnswer (now (p .entry)) (now (decoded .entry)) ⌝ }
 {
@@ -97,7 +97,7 @@ fn span_between(start: usize, end: usize) -> FieldSpan
     })
 }
 
-// The payload: the bytes from its start up to the total length, at their own place in the packet; padding is not payload. For facts that are not
+// The payload: the bytes from its start up to the total length, at their own place in the packet; padding is not payload. For header fields that are not
 // this packet's: the same numbers' bytes where they lie in the packet, else the empty part at its start.
 pub fn payload_of<'a>(p: &'a [u8], f: PacketHeader) -> &'a [u8]
     ensures bytes { λ r. ⌜ now r ≡ payloadPart (now (p .entry)) f ⌝ }

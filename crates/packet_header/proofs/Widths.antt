@@ -33,7 +33,7 @@ be-take (suc n) k d at h =
     let front : at + n ≤ k = omega arith in
     rw (be-take n k d at front, getD-take k d (at + n) 0 (omega arith))
 
--- what is read behind a header is what is read so many bytes later
+-- what is read after a header is what is read so many bytes later
 pub be-drop : (n k : ℕ) (d : List ℕ) (at : ℕ) → bigEndian n (drop k d) at ≡ bigEndian n d (k + at)
 unfolding bigEndian
 be-drop zero k d at = refl

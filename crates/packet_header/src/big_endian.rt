@@ -1,4 +1,4 @@
-// Header fields are read by one function over their width; behind the bytes' end stand zeros, as in the definitions.
+// Header fields are read by one function over their width; after the bytes' end stand zeros, as in the definitions.
 ghost use mathlib.Core.Path.{_≡_};
 ghost use Prim.Native.Nat.{_≤_};
 ghost use lib.ListN.{getD};

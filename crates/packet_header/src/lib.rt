@@ -1,4 +1,4 @@
-// The IP header: its numbers, its checks (refusals 30 to 33), and the protocols behind it.
+// The IP header: its numbers, its checks (refusals 30 to 33), and the protocols after it.
 pub mod big_endian;
 pub mod ip;
 pub mod protocols;

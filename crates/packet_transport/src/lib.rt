@@ -1,4 +1,4 @@
-// What stands behind the IP header of a datagram: the transport header's length, ports, and refusal 34.
+// What stands after the IP header of a datagram: the transport header's length, ports, and refusal 34.
 ghost use mathlib.Core.Path.{_≡_};
 ghost use Prim.Native.Nat.{_≤_};
 ghost use lib.ListN.{length};
@@ -18,7 +18,7 @@ pub fn protocol_of(d: &[u8]) -> u8
     be8(d, 9)
 }
 
-// How many bytes stand behind the IP header.
+// How many bytes stand after the IP header.
 fn left_after(d: &[u8]) -> usize
     ensures { λ r. ⌜ r ≡ length (afterHeader (now (d .entry))) ⌝ }
 {
@@ -53,7 +53,7 @@ pub fn transport_length(d: &[u8]) -> usize
     0
 }
 
-// The port at a place behind the IP header; 0 where the protocol has none.
+// The port at a place after the IP header; 0 where the protocol has none.
 pub fn port_at(d: &[u8], at: usize) -> u16
     requires { ⌜ at ≤ 2 ⌝ }
     ensures { λ r. ⌜ r ≡ portAt (now (d .entry)) at ⌝ }

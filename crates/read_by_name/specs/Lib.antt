@@ -1,2 +1,2 @@
--- What is read of an option behind its name.
+-- What is read of an option after its name.
 pub mod Parsing

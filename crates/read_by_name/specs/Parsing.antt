@@ -1,4 +1,4 @@
--- An option read behind its name: the entry that its value stands for, and what stands beside the value.
+-- An option read after its name: the option that its value stands for, and what stands beside the value.
 use Prim.Native.Nat.{ℕ, _+_, _≤_}
 use mathlib.Core.Path.{_≡_}
 use mathlib.Core.List.{List}
@@ -19,7 +19,7 @@ use Rattle.read_by_name.specs.declared.parsed.ParsedOption.{ParsedOption
 abbrev pub plainOption : Valued → ℕ → ParsedOption
 plainOption v used = record { value = v .value; list = replicate maxAddresses noAddress; used = used; cursor = v .cursor }
 
--- the option of the form f behind its name at a place, the pattern bytes before it in the room, and those behind it
+-- the option of the form f after its name at a place, the pattern bytes before it in the room, and those after it
 pub record Parses (f : Form OptionValue) (s : List ℕ) (at : ℕ) (room to : PatternBytes) (r : ParsedOption) : Type 0 where
   pub al : List Address
   pub b : List ℕ

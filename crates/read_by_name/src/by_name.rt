@@ -1,4 +1,4 @@
-// The option that a name stands for, read behind that name.
+// The option that a name stands for, read after that name.
 ghost use Prim.Native.Nat.{_≤_};
 ghost use mathlib.Core.Path.{_≡_};
 ghost use lib.ListN.{length};
@@ -30,7 +30,7 @@ use read_options::tests::same_ip_option;
 use read_options::tests::size_option;
 use read_options::tests::ttl_option;
 
-// An option read behind its name, by the option's form.
+// An option read after its name, by the option's form.
 pub fn option_by_name(
     s: &[u8],
     at: usize,

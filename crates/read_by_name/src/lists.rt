@@ -61,7 +61,7 @@ pub fn address_option(s: &[u8], at: usize, side: Side, used: usize) -> ParsedOpt
     }
 }
 
-// The option pattern; its bytes are stored behind those in use.
+// The option pattern; its bytes are stored after those in use.
 pub fn pattern_option(s: &[u8], at: usize, bytes: &mut [u8], used: usize) -> ParsedOption
     requires { ⌜ (at ≤ length (now s)) × (length (now s) ≤ documentLimits .text) × (used ≤ at) × (length (now bytes) ≡ documentLimits .room) ⌝ }
     ensures { λ r. ⌜ Parses patternForm (now (s .entry)) at (patternBytesOf (now (bytes .entry)) used) (patternBytesOf (now (bytes .exit)) (r .used)) r ⌝ }

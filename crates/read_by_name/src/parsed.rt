@@ -1,4 +1,4 @@
-// What is read of an option behind its name.
+// What is read of an option after its name.
 ghost use mathlib.Core.Path.{_≡_};
 ghost use Rattle.read_by_name.specs.Parsing.{plainOption};
 use definitions::limits::ADDRESSES;
@@ -8,7 +8,7 @@ use read_value::Value;
 use read_value::no_addresses;
 use scan_cursors::Cursor;
 
-// An option's value, the addresses beside it, how many pattern bytes are in use behind it, and where scanning stands.
+// An option's value, the addresses beside it, how many pattern bytes are in use after it, and where scanning stands.
 pub struct ParsedOption {
     pub value: Value,
     pub list: [Address; ADDRESSES],

@@ -1,4 +1,4 @@
--- The byte at a place and those behind it; `--` by its two bytes.
+-- The byte at a place and those after it; `--` by its two bytes.
 use mathlib.Core.Path.{_≡_, refl, sym, ap}
 use mathlib.Core.Bool.{Bool, true, false, _&&_}
 use mathlib.Core.List.{List, [], _∷_}

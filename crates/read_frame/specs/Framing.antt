@@ -20,11 +20,11 @@ use Rattle.read_frame.specs.declared.Ended.the-variants as ended
 abbrev pub isOpened : List ℕ → Bool
 isOpened s = sameBytes (take (length opening) s) opening
 
--- what the definition makes of the options of a text, from behind `F-SBID(` on
+-- what the definition makes of the options of a text, from the end of `F-SBID(` on
 abbrev pub optionsRead : List ℕ → Reading
 optionsRead s = finished (documentLimits .room) s (options s (drop (length opening) s) 0 (length opening) [])
 
--- a refusal is the definition's; behind an opened front it reads the options, and the text is no longer than it may be
+-- a refusal is the definition's; after an opened front it reads the options, and the text is no longer than it may be
 abbrev pub Fronts : List ℕ → Front → Type 0
 Fronts s (front.Refused q p) = read documentLimits s ≡ refusedReading (documentLimits .room) q p
 Fronts s front.Opened = (read documentLimits s ≡ optionsRead s) × (length opening ≤ length s) × (length s ≤ documentLimits .text)

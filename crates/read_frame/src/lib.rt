@@ -21,7 +21,7 @@ pub enum Front {
     Refused(Refusal, usize),
 }
 
-// How reading an option behind its name ends: on to a place, or a refusal.
+// How reading an option after its name ends: on to a place, or a refusal.
 pub enum Ended {
     Next(usize),
     Refused(Refusal),
@@ -87,7 +87,7 @@ pub fn dashes_at(s: &[u8], at: usize) -> bool
     false
 }
 
-// A cursor that goes on is the place behind the option; one over a limit is 7, one that stopped 6.
+// A cursor that goes on is the place after the option; one over a limit is 7, one that stopped 6.
 pub fn ended_by(c: Cursor) -> Ended
     ensures { λ r. ⌜ r ≡ endedBy c ⌝ }
 {

@@ -1,4 +1,4 @@
--- What one entry more, or some more, do to what the definitions take from the entries: by cases on the entries before.
+-- What one option more, or some more, do to what the definitions take from the options: by cases on the options before.
 use mathlib.Core.Path.{_≡_, refl, sym, ap, _∙_}
 use mathlib.Core.Bool.{Bool, true, false, _||_, true≢false}
 use mathlib.Core.List.{List, [], _∷_, _++_, append-assoc}
@@ -105,7 +105,7 @@ flow-first (Test it al ∷ es) t h = flow-first es t h
 flow-first (Pattern n b ∷ es) t h = flow-first es t h
 flow-first (Modified m ∷ es) t h = flow-first es t h
 
--- ---- pattern bytes and items: one behind the other
+-- ---- pattern bytes and items: one after the other
 
 pub bytes-append : (es t : List OptionValue) → bytesIn (es ++ t) ≡ bytesIn es ++ bytesIn t
 unfolding bytesIn
@@ -117,7 +117,7 @@ bytes-append (Test it al ∷ es) t = bytes-append es t
 bytes-append (Pattern n b ∷ es) t = rw (bytes-append es t) (sym (append-assoc b (bytesIn es) (bytesIn t)))
 bytes-append (Modified m ∷ es) t = bytes-append es t
 
--- behind entries that change no pattern before them
+-- after options that change no pattern before them
 pub modified-after : (es t : List OptionValue) → ((p : patterns.Pattern) → modified t p ≡ p) → (p : patterns.Pattern) → modified (es ++ t) p ≡ modified es p
 unfolding modified
 modified-after [] t h p = h p
@@ -148,7 +148,7 @@ slots-length (Test it al ∷ es) = omega (arith, slots-length es)
 slots-length (Pattern n b ∷ es) = omega (arith, slots-length es)
 slots-length (Modified m ∷ es) = slots-length es
 
--- ---- the modifiers behind the last pattern, and its place
+-- ---- the modifiers after the last pattern, and its place
 
 pub latest-append : (ms : List Modifier) (es t : List OptionValue) → latest ms (es ++ t) ≡ latest (latest ms es) t
 unfolding latest

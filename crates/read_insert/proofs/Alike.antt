@@ -1,4 +1,4 @@
--- What two states, or what is given in two, have to agree in; and what one entry more leaves as it is.
+-- What two states, or what is given in two, have to agree in; and what one option more leaves as it is.
 use mathlib.Core.Path.{_≡_, _∙_}
 use mathlib.Core.Bool.{Bool, true, false}
 use mathlib.Core.List.{List, [], _∷_, _++_, append-nil}
@@ -60,7 +60,7 @@ givenBy n p f ms =
       within = modifierAmong 3 ms;
     }
 
--- ---- an entry e more, of whatever kind, at what it leaves as it is
+-- ---- an option e more, of whatever kind, at what it leaves as it is
 
 module _ (es : List OptionValue) (e : OptionValue) where
   pub any-same : (k : OptionValue → Bool) → any? k (e ∷ []) ≡ false → any? k (es ++ (e ∷ [])) ≡ any? k es
@@ -86,7 +86,7 @@ module _ (es : List OptionValue) (e : OptionValue) where
       → slotsIn (es ++ (e ∷ [])) ≡ slotsIn es ++ (sl ∷ [])
   slots-new sl h s = slots-append es (e ∷ []) h ∙ rw s
 
-  -- what is given, from whether name, protocol and flow are, and the modifiers behind the last pattern
+  -- what is given, from whether name, protocol and flow are, and the modifiers after the last pattern
   pub given-now : {n p f : Bool} (ms : List Modifier) → any? (sameKind (Name [])) (es ++ (e ∷ [])) ≡ n → any? (sameKind (Protocol 0)) (es ++ (e ∷ [])) ≡ p
       → any? (sameKind (Flow Any)) (es ++ (e ∷ [])) ≡ f → latest (latest [] es) (e ∷ []) ≡ ms → givenIn (es ++ (e ∷ [])) ≡ givenBy n p f ms
   given-now ms hn hp hf hm =

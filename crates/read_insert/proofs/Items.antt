@@ -1,4 +1,4 @@
--- The items beside the state, behind one entry more: it leaves them as they are, puts one behind them, or changes the last pattern's.
+-- The items beside the state, after one option more: it leaves them as they are, puts one after them, or changes the last pattern's.
 use mathlib.Core.Path.{_≡_, sym, ap, _∙_}
 use mathlib.Core.Bool.{true}
 use mathlib.Core.List.{List, [], _∷_, _++_}

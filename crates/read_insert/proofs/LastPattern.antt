@@ -1,4 +1,4 @@
--- A modifier changes the last pattern's slot and nothing else: by cases on whether a further pattern stands behind the one at hand.
+-- A modifier changes the last pattern's slot and nothing else: by cases on whether a further pattern stands after the one at hand.
 use mathlib.Core.Path.{_≡_, refl, ap, _∙_}
 use mathlib.Core.Bool.{true, false, false≢true, true≢false}
 use mathlib.Core.List.{List, [], _∷_, _++_}
@@ -15,7 +15,7 @@ use Rattle.definitions.specs.Tables.{slotsIn, slotOf, modified, bare, with}
 use Rattle.definitions.specs.Occurrences.{isPattern}
 use Rattle.read_state.specs.State.{lastPlace}
 
--- with no further pattern among the entries, a modifier behind them belongs to the pattern before them
+-- with no further pattern among the options, a modifier after them belongs to the pattern before them
 none-modified : (es : List OptionValue) (m : Modifier) → any? isPattern es ≡ false
     → (p : patterns.Pattern) → modified (es ++ (Modified m ∷ [])) p ≡ with m (modified es p)
 unfolding modified any?
@@ -48,7 +48,7 @@ some-modified (Test it al ∷ es) m h p = some-modified es m h p
 some-modified (Pattern n b ∷ es) m h p = refl
 some-modified (Modified k ∷ es) m h p = some-modified es m h (with k p)
 
--- the last pattern: its slot among the slots, and the slots behind one modifier more
+-- the last pattern: its slot among the slots, and the slots after one modifier more
 pub record LastIs (es : List OptionValue) (p : patterns.Pattern) : Type 0 where
   pub within : lastPlace es < length (slotsIn es)
   pub slot : (d : Slot) → getD (slotsIn es) (lastPlace es) d ≡ slotOf (item.Pattern p) []

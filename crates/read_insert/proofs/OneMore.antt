@@ -1,4 +1,4 @@
--- The options said and one more: their entries, the dashes of their patterns, and what holds of the state behind them.
+-- The options said and one more: their options, the dashes of their patterns, and what holds of the state after them.
 use mathlib.Core.Path.{_≡_, refl, sym, ap, subst, _∙_}
 use mathlib.Core.Bool.{Bool, true, false, not, _||_}
 use mathlib.Core.List.{List, [], _∷_, _++_, map, append-nil, map-append}
@@ -33,7 +33,7 @@ unfolding keep any?
 count-none f [] = refl
 count-none f (x ∷ l) = count-by (f x) x (keep f l) (any? f l) (count-none f l)
 
--- ---- entries and dashes
+-- ---- options and dashes
 
 pub options-also : (located : List Located) (dash : ℕ) (e : OptionValue) → optionValuesOf (locatedAlso located dash e) ≡ optionValuesOf located ++ (e ∷ [])
 options-also located dash e = map-append (λ (d : Located). d .value) located (record { dash = dash; value = e } ∷ [])
@@ -63,7 +63,7 @@ dashes-length (d ∷ located) = dash-kept (isPattern (d .value)) d _ _ (dashes-l
 
 -- ---- what holds
 
--- behind one option more: from the state with it, its name, bytes and items, and the counts
+-- after one option more: from the state with it, its name, bytes and items, and the counts
 pub holds-also : (s : List ℕ) (located : List Located) (dash : ℕ) (e : OptionValue) (ds : List ℕ) (st : State) (bytes : List ℕ) (items : List Slot)
     → dashesOf (locatedAlso located dash e) ≡ ds
     → st ≡ stateFrom (st .from) (optionValuesOf located ++ (e ∷ [])) ds

@@ -1,4 +1,4 @@
--- What is due for a value is what the definition says, and the state behind it is that of one option more: the code's tests are the
+-- What is due for a value is what the definition says, and the state after it is that of one option more: the code's tests are the
 -- definition's, and its changes are those of the steps.
 use mathlib.Core.Path.{_≡_, refl, sym, ap, _∙_}
 use mathlib.Core.Bool.{Bool, true, false}
@@ -41,7 +41,7 @@ use Rattle.list_laws.proofs.Padded.{padded-more}
 use Rattle.read_insert.proofs.Items.{itemsOf, items-same, items-new, items-changed}
 use Rattle.read_insert.proofs.OneMore.{count-none, dashes-same, dashes-new, dashes-length, holds-also}
 
--- r is right for the entry e behind the options said in the text s, where bytes are stored already and r has its own slot to put
+-- r is right for the option e after the options said in the text s, where bytes are stored already and r has its own slot to put
 pub record Outcome (s : List ℕ) (located : List Located) (dash : ℕ) (e : OptionValue) (bytes : List ℕ) (items : List Slot) (r : Inserted) : Type 0 where
   pub check : r .check ≡ occurrenceCheck (optionValuesOf located) e
   pub holds : r .check ≡ Pass → Holds s (locatedAlso located dash e) (r .state) bytes (set items (r .place) (r .slot))
@@ -74,7 +74,7 @@ module _ (s : List ℕ) (located : List Located) (dash from : ℕ) (bytes : List
   few : length (slotsIn es) ≤ maxItems
   few = let p = h .patterns in let t = h .tests in omega (arith, slots-length es, p, t)
 
-  -- an entry that says no name leaves it where it was
+  -- an option that says no name leaves it where it was
   same-name : (e : OptionValue) → nameIn (e ∷ []) ≡ [] → NameAt s from (length (nameIn es)) (nameIn (es ++ (e ∷ [])))
   unfolding stateFrom
   same-name e n = rw (name-after es (e ∷ []) n) (h .named)
@@ -82,7 +82,7 @@ module _ (s : List ℕ) (located : List Located) (dash from : ℕ) (bytes : List
   same-bytes : (e : OptionValue) → bytesIn (e ∷ []) ≡ [] → bytes ≡ padded (documentLimits .room) 0 (bytesIn (es ++ (e ∷ [])))
   same-bytes e b = h .stored ∙ ap (padded (documentLimits .room) 0) (sym (bytes-same es e b))
 
-  -- an entry that is not counted
+  -- an option that is not counted
   uncounted : (e : OptionValue) (st : State) (after : List Slot) → isPattern e ≡ false → count isPattern (e ∷ []) ≡ 0 → count isTest (e ∷ []) ≡ 0
       → bytesIn (e ∷ []) ≡ [] → st ≡ stateFrom (st .from) (es ++ (e ∷ [])) (dashesOf located) → NameAt s (st .from) (st .len) (nameIn (es ++ (e ∷ [])))
       → after ≡ itemsOf (es ++ (e ∷ [])) → Holds s (locatedAlso located dash e) st bytes after

@@ -37,7 +37,7 @@ use Rattle.read_insert.proofs.OneMore.{count-none, dashes-length}
 use Rattle.read_insert.proofs.Outcomes.{Outcome, name-outcome, protocol-outcome, flow-outcome}
 use Rattle.read_insert.proofs.Outcomes.{test-outcome, addresses-outcome, pattern-outcome, modifier-outcome}
 
--- ---- entering
+-- ---- inserting
 
 no-addresses : (al list : List Address) → al ≡ [] → list ≡ padded maxAddresses noAddress (take maxAddresses al) → list ≡ padded maxAddresses noAddress []
 no-addresses al list e h = h ∙ ap (λ (l : List Address). padded maxAddresses noAddress (take maxAddresses l)) e

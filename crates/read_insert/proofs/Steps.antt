@@ -1,4 +1,4 @@
--- The state of one entry more is the state before it with the code's change: field by field, by what one entry more does.
+-- The state of one option more is the state before it with the code's change: field by field, by what one option more does.
 use mathlib.Core.Path.{_≡_, refl, ap, _∙_}
 use mathlib.Core.Bool.{Bool, true, false}
 use mathlib.Core.List.{List, [], _∷_, _++_, append-nil}

@@ -1,4 +1,4 @@
-// The judgement behind the last option: 10 by pattern, then 12.
+// The judgement after the last option: 10 by pattern, then 12.
 ghost use mathlib.Core.Path.{_≡_};
 ghost use Prim.Native.Nat.{_+_, _≤_, _<_};
 ghost use lib.ListN.{length, getD, take, drop};
@@ -21,7 +21,7 @@ use read_state::State;
 use read_state::no_slot;
 use table_references::counting::usable_count;
 
-// The `n` bytes of `s` from `from` on, with zeros behind them.
+// The `n` bytes of `s` from `from` on, with zeros after them.
 fn copied(s: &[u8], from: usize, n: usize) -> [u8; NAME_BYTES]
     requires { ⌜ (n ≤ maxName) × (from + n ≤ length (now s)) ⌝ }
     ensures { λ r. ⌜ r ≡ padded maxName 0 (take n (drop from (now (s .entry)))) ⌝ }
@@ -63,7 +63,7 @@ fn dash_of(dashes: [usize; PATTERNS], k: usize) -> usize
     dashes[k]
 }
 
-// The state behind the last option of the text, with the pattern bytes and items beside it.
+// The state after the last option of the text, with the pattern bytes and items beside it.
 pub fn judge(s: &[u8], st: State, bytes: [u8; PATTERN_BYTES], items: [Slot; ITEMS]) -> Reading
     requires { ⌜ Sound st × (st .len ≤ maxName) × (st .from + st .len ≤ length (now s)) ⌝ }
     ensures { λ r. ⌜ r ≡ checkedIn (now (s .entry)) st bytes items ⌝ }

@@ -1,4 +1,4 @@
-// One more option's value is entered into the state, and at the end the whole is judged. The contracts go by the options that were
+// One more option's value is inserted into the state, and at the end the whole is judged. The contracts go by the options that were
 // said, whatever these were.
 pub mod checking;
 mod once;

@@ -44,7 +44,7 @@ addressesInserted st a list =
     if ltb maxAddresses (a .count) then refusedIn st refusal.CountExceeded
     else testInserted st (item.Address a) list
 
--- no modifier is given behind a new pattern
+-- no modifier is given after a new pattern
 abbrev pub noModifiers : Given → Given
 noModifiers g = record { name = g .name; protocol = g .protocol; flow = g .flow; context = false; nocase = false; distance = false; within = false }
 

@@ -17,7 +17,7 @@ use read_state::State;
 use read_state::bare_pattern;
 use read_state::no_item;
 
-// A test goes behind the items so far, with its addresses beside it; 11 where there is no room for one more.
+// A test goes after the items so far, with its addresses beside it; 11 where there is no room for one more.
 pub fn insert_test(st: State, item: Item, list: [Address; ADDRESSES]) -> Inserted
     requires { ⌜ Sound st ⌝ }
     ensures { λ r. ⌜ r ≡ testInserted st item list ⌝ }
@@ -53,7 +53,7 @@ pub fn insert_addresses(st: State, a: AddressTest, list: [Address; ADDRESSES]) -
     insert_test(st, Item::Address(a), list)
 }
 
-// Its bytes are the last of the `used`. No modifier is given behind it yet.
+// Its bytes are the last of the `used`. No modifier is given after it yet.
 pub fn insert_pattern(
     st: State,
     dash: usize,

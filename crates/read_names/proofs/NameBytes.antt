@@ -13,7 +13,7 @@ use Rattle.definitions.specs.Options.{inName}
 use Rattle.scan_bytes.specs.Classes.{classOf}
 use Rattle.scan_bytes.specs.declared.bytes.Class.the-variants.{NameByte}
 
--- 32 behind a capital stands its small letter
+-- 32 after a capital stands its small letter
 small-letter : (b : ℕ) → between 65 90 b ≡ true → between 97 122 (b + 32) ≡ true
 small-letter b t =
     let low = leb-true 65 b (both-left (leb 65 b) (leb b 90) t) in

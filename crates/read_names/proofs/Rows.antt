@@ -30,7 +30,7 @@ order-count = refl
 
 -- ---- the first row with a name, row by row
 
--- what is still to come behind the first k rows
+-- what is still to come after the first k rows
 abbrev pub Left : List OptionName → List (List ℕ) → List ℕ → ℕ → Type 0
 Left os ws n k = optionNamed os ws n ≡ optionNamed (drop k os) (drop k ws) n
 

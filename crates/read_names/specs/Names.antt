@@ -44,7 +44,7 @@ optionOrder =
     option.Within ∷
     []
 
--- an option's form behind its name
+-- an option's form after its name
 unfoldable pub formOf : OptionName → Form OptionValue
 formOf option.Name = nameForm
 formOf option.Protocol = protocolForm
@@ -85,7 +85,7 @@ optionNamed [] ws n = Unlisted
 optionNamed (o ∷ os) [] n = Unlisted
 optionNamed (o ∷ os) (w ∷ ws) n = if sameWord n w then Found o else optionNamed os ws n
 
--- what the definition makes of an option that was looked up, behind its name
+-- what the definition makes of an option that was looked up, after its name
 abbrev pub parsedAs : Lookup → List ℕ → ℕ → NamedOption
 parsedAs (Found o) s at = listed (readAt (formOf o) s at)
 parsedAs Unlisted s at = unlisted

@@ -15,7 +15,7 @@ use scan_case::lower_of;
 
 pub mod options;
 
-// The place behind the longest run of a name's bytes.
+// The place after the longest run of a name's bytes.
 pub fn name_end(s: &[u8], at: usize) -> usize
     requires { ⌜ at ≤ length (now s) ⌝ }
     ensures { λ r. ⌜ r ≡ at + run inName (drop at (now (s .entry))) ⌝ }

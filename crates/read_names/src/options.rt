@@ -1,6 +1,6 @@
 // The options of document 01's table, told apart by name and not by number.
 
-// One option of the table. Lookup::Found has it, and what reads behind the name goes by it.
+// One option of the table. Lookup::Found has it, and what reads after the name goes by it.
 pub enum OptionName {
     Name,
     Protocol,

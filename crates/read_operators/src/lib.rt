@@ -15,13 +15,13 @@ use scan_steps::signs::next_is;
 use scan_steps::signs::then_literal;
 use scan_steps::signs::then_spaces;
 
-// An order, and where scanning stands behind it.
+// An order, and where scanning stands after it.
 pub struct OrderAt {
     pub order: Order,
     pub cursor: Cursor,
 }
 
-// An operator, and where scanning stands behind it.
+// An operator, and where scanning stands after it.
 pub struct OperatorAt {
     pub operator: Operator,
     pub cursor: Cursor,

@@ -1,4 +1,4 @@
--- An option is put together: one or more spaces, the value, any spaces and `;`; and a part behind an optional comma.
+-- An option is put together: one or more spaces, the value, any spaces and `;`; and a part after an optional comma.
 use mathlib.Core.Path.{_≡_}
 use mathlib.Core.Bool.{Bool, true, false}
 use mathlib.Core.List.{List, [], _∷_}
@@ -23,7 +23,7 @@ pub bare-reads : {s : List ℕ} {at : ℕ} {d : Cursor} (v : OptionValue) → at
     → Reads (closed (pure v)) s (Parsed at) v d
 bare-reads {s} {at} v h q = before-reads h (tell-reads v s (Parsed at) h) (q .1)
 
--- behind an optional comma
+-- after an optional comma
 module _ {A : Type 0} {f : Form A} {s : List ℕ} {c d e : Cursor} {v : A} {t : Bool} (a : A) (i : Inside s c) where
   pub comma-reads : t ≡ nextIn ((44, 44) ∷ []) s c → t ≡ true → Reads (literal 44) s c 44 d → Reads f s d v e → Reads (comma a f) s c v e
   comma-reads n y r q = first-reads n y (skip-reads i r q)

@@ -1,4 +1,4 @@
--- A number of 16 bits behind an optional minus, in signed numbers of 32 bits.
+-- A number of 16 bits after an optional minus, in signed numbers of 32 bits.
 use mathlib.Core.Path.{_≡_, refl, ap}
 use mathlib.Core.Bool.{Bool, true, false}
 use Prim.Native.Nat.{ℕ, zero, suc, _-_, _≤_}

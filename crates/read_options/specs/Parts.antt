@@ -18,7 +18,7 @@ use Rattle.definitions.specs.declared.table.Reference.the-variants as reference
 use Rattle.read_words.specs.Words.{sizeWord}
 use Rattle.read_operators.specs.Operators.{masked}
 
--- ---- behind an optional comma
+-- ---- after an optional comma
 
 abbrev pub sizeField : Form SizeField
 sizeField = comma sizeFields.Payload sizeWord

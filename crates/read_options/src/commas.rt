@@ -1,4 +1,4 @@
-// What may follow a number behind a comma.
+// What may follow a number after a comma.
 ghost use Rattle.scan_cursors.specs.Reads.{Inside, Reads};
 ghost use Rattle.read_options.specs.Parts.{sizeField, relative, reference, reversed, directed};
 use definitions::table::Reference;
@@ -13,7 +13,7 @@ use scan_steps::signs::next_is;
 use scan_steps::signs::then_literal;
 use scan_steps::words::then_word;
 
-// A reference, whether `reverse` follows it, and where scanning stands behind them.
+// A reference, whether `reverse` follows it, and where scanning stands after them.
 pub struct DirectedAt {
     pub reference: Reference,
     pub reverse: bool,

@@ -1,4 +1,4 @@
-// Options behind their names: each option's value, with the place behind its `;`.
+// Options after their names: each option's value, with the place after its `;`.
 pub mod commas;
 pub mod heads;
 pub mod modifiers;

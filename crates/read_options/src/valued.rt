@@ -2,7 +2,7 @@
 use read_value::Value;
 use scan_cursors::Cursor;
 
-// An option's value, and where scanning stands behind it.
+// An option's value, and where scanning stands after it.
 pub struct Valued {
     pub value: Value,
     pub cursor: Cursor,

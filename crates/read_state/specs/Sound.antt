@@ -25,6 +25,6 @@ withoutItem check st = record { check = check; state = st; place = maxItems; slo
 abbrev pub refusedIn : State → Refusal → Inserted
 refusedIn st r = withoutItem (Refuse r) st
 
--- one item more, behind those that there are in st
+-- one item more, after those that there are in st
 abbrev pub itemAlso : State → State → Slot → Inserted
 itemAlso st next sl = record { check = Pass; state = next; place = st .count; slot = sl }

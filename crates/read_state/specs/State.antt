@@ -32,7 +32,7 @@ use Rattle.read_state.specs.declared.Inserted.{Inserted}
 abbrev pub dashesOf : List Located → List ℕ
 dashesOf located = map (λ (d : Located). d .dash) (keep (λ (d : Located). isPattern (d .value)) located)
 
--- a place among the items behind one item more, if a pattern stands there
+-- a place among the items after one item more, if a pattern stands there
 abbrev pub onePast : Bool → ℕ → ℕ
 onePast more k = if more then suc k else 0
 
@@ -46,7 +46,7 @@ lastPlace (Test it al ∷ es) = onePast (any? isPattern es) (lastPlace es)
 lastPlace (Pattern n b ∷ es) = onePast (any? isPattern es) (lastPlace es)
 lastPlace (Modified m ∷ es) = lastPlace es
 
--- a modifier of this number stands among some, and behind the last pattern
+-- a modifier of this number stands among some, and after the last pattern
 abbrev pub modifierAmong : ℕ → List Modifier → Bool
 modifierAmong k ms = any? (λ (m : Modifier). eqb k (modifierNumber m)) ms
 
@@ -65,7 +65,7 @@ givenIn es =
       within = modifierGiven 3 es;
     }
 
--- the state of the entries es, whose patterns have these first dashes and whose name begins at a place
+-- the state of the options es, whose patterns have these first dashes and whose name begins at a place
 unfoldable pub stateFrom : ℕ → List OptionValue → List ℕ → State
 stateFrom from es dashes =
     record {
@@ -124,7 +124,7 @@ Apart s value.NoCase al b = Alone al b
 Apart s (value.Distance d) al b = Alone al b
 Apart s (value.Within w) al b = Alone al b
 
--- of the addresses the first eight are kept; the pattern bytes are counted behind those of the state
+-- of the addresses the first eight are kept; the pattern bytes are counted after those of the state
 pub record Beside (s : List ℕ) (st : State) (v : Value) (list : List Address) (used : ℕ) (al : List Address) (b : List ℕ) : Type 0 where
   pub addresses : list ≡ padded maxAddresses noAddress (take maxAddresses al)
   pub counted : used ≡ st .used + length b
@@ -133,7 +133,7 @@ pub record Beside (s : List ℕ) (st : State) (v : Value) (list : List Address) 
 
 -- ---- the entries' contracts
 
--- what one option more stands behind and brings: some options make the state, `last` is the slot of the last pattern among them, and some addresses and
+-- what one option more stands after and brings: some options make the state, `last` is the slot of the last pattern among them, and some addresses and
 -- pattern bytes stand beside the value
 pub record After (st : State) (last : Slot) (v : Value) (list : List Address) (used : ℕ) : Type 0 where
   pub text : List ℕ
@@ -146,7 +146,7 @@ pub record After (st : State) (last : Slot) (v : Value) (list : List Address) (u
   pub latest : last ≡ lastSlot items st
   pub beside : Beside text st v list used al b
 
--- the entry that the value stands for
+-- the option that the value stands for
 abbrev pub optionIn : {st : State} {last : Slot} {v : Value} {list : List Address} {used : ℕ} → After st last v list used → OptionValue
 optionIn {v = v} k = optionValueOf (k .text) v (k .al) (k .b)
 

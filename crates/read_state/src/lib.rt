@@ -19,7 +19,7 @@ use definitions::table::Slot;
 use definitions::table::Within;
 use read_value::no_addresses;
 
-// Which options were given that may stand once; of the modifiers, behind the last pattern.
+// Which options were given that may stand once; of the modifiers, after the last pattern.
 pub struct Given {
     pub name: bool,
     pub protocol: bool,
@@ -46,7 +46,7 @@ pub struct State {
     pub dashes: [usize; PATTERNS],
 }
 
-// What is due for a value, the state behind it, and the slot that it puts at a place among the items; a place past their end is none. Where something is
+// What is due for a value, the state after it, and the slot that it puts at a place among the items; a place past their end is none. Where something is
 // due the others say nothing.
 pub struct Inserted {
     pub check: Check,

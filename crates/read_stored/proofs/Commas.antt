@@ -1,4 +1,4 @@
--- Lists of addresses: an address behind a comma is one turn of `many`, counted by one and kept where there is room.
+-- Lists of addresses: an address after a comma is one turn of `many`, counted by one and kept where there is room.
 use mathlib.Core.Path.{_≡_, refl, sym, ap, _∙_}
 use mathlib.Core.Bool.{Bool, true, false}
 use mathlib.Core.List.{List, [], _∷_, _++_}
@@ -63,7 +63,7 @@ comma = (44, 44) ∷ []
 abbrev next : Form Address
 next = preceded (literal 44) address
 
--- behind a first address, which ended at b and alone made the row: what is still to come, what is kept and what is counted
+-- after a first address, which ended at b and alone made the row: what is still to come, what is kept and what is counted
 pub record Gathered (s : List ℕ) (b : Cursor) (row list : List Address) (count : ℕ) (c : Cursor) : Type 0 where
   pub values : List Address
   pub turns : Star (preceded (literal 44) address) refl s b values c

@@ -19,7 +19,7 @@ use Rattle.scan_cursors.proofs.Onward.{came-going, going-place, onward}
 use Rattle.read_stored.specs.Storing.{Ready, Stored, Stores}
 use Rattle.read_stored.proofs.Turns.{Some, some-start, some-on, some-last, some-stop}
 
--- ---- bytes behind bytes
+-- ---- bytes after bytes
 
 sets-append : (l : List ℕ) (i : ℕ) (a b : List ℕ) → sets (sets l i a) (i + length a) b ≡ sets l i (a ++ b)
 sets-append l i [] b = let e : i + 0 ≡ i = omega arith in rw e

@@ -32,7 +32,7 @@ pub record Ready (s : List ℕ) (c : Cursor) (room : PatternBytes) : Type 0 wher
   pub after : room .used ≤ placeOf c
   pub full : length (room .bytes) ≡ documentLimits .room
 
--- the bytes b are read, and stand in the room behind those that were in use
+-- the bytes b are read, and stand in the room after those that were in use
 pub record Stored (f : Form (List ℕ)) (s : List ℕ) (c : Cursor) (room : PatternBytes) (b : List ℕ) (to : PatternBytes) (d : Cursor) : Type 0 where
   pub read : Reads f s c b d
   pub kept : to ≡ appended room b

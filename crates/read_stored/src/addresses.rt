@@ -16,7 +16,7 @@ use scan_cursors::Cursor;
 use scan_steps::signs::next_is;
 use scan_steps::signs::then_literal;
 
-// The addresses that are kept, how many there are, and where scanning stands behind them.
+// The addresses that are kept, how many there are, and where scanning stands after them.
 pub struct AddressesAt {
     pub list: [Address; ADDRESSES],
     pub count: usize,
@@ -28,7 +28,7 @@ pub struct Row {
     pub list: [Address; ADDRESSES],
 }
 
-// An address behind the `count` that there are, if there is room.
+// An address after the `count` that there are, if there is room.
 fn kept(row: Row, count: usize, a: Address) -> Row
     ensures { λ r. ⌜ r .list ≡ set (row .list) count a ⌝ }
 {

@@ -14,7 +14,7 @@ use scan_steps::numbers::then_number;
 use scan_steps::signs::next_is;
 use scan_steps::signs::then_literal;
 
-// A byte that digits write, and where scanning stands behind it.
+// A byte that digits write, and where scanning stands after it.
 pub struct ByteAt {
     pub value: u8,
     pub cursor: Cursor,
@@ -68,7 +68,7 @@ fn number_of(a: u8, b: u8, c: u8, d: u8) -> u32
     ((a as u32 * 256 + b as u32) * 256 + c as u32) * 256 + d as u32
 }
 
-// An address, and where scanning stands behind it.
+// An address, and where scanning stands after it.
 pub struct AddressAt {
     pub address: Address,
     pub cursor: Cursor,

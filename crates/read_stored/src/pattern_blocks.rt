@@ -1,4 +1,4 @@
-// Pattern bytes in hex, stored as they are read in a lent buffer, behind those in use.
+// Pattern bytes in hex, stored as they are read in a lent buffer, after those in use.
 ghost use mathlib.Core.Path.{_≡_};
 ghost use mathlib.Core.List.{_∷_, []};
 ghost use Prim.Native.Nat.{_≤_, _<_};
@@ -26,7 +26,7 @@ pub struct BytesAt {
     pub cursor: Cursor,
 }
 
-// The byte behind those in use; the answer counts it with them.
+// The byte after those in use; the answer counts it with them.
 pub fn put(bytes: &mut [u8], used: usize, b: u8) -> usize
     requires { ⌜ used < length (now bytes) ⌝ }
     ensures { λ r. ⌜ patternBytesOf (now (bytes .exit)) r ≡ appended (patternBytesOf (now (bytes .entry)) used) (b ∷ []) ⌝ }
@@ -47,7 +47,7 @@ fn is_hex_at(s: &[u8], at: usize) -> bool
     }
 }
 
-// The byte that a pair writes, and where scanning stands behind it.
+// The byte that a pair writes, and where scanning stands after it.
 pub struct PairAt {
     pub byte: u8,
     pub cursor: Cursor,
@@ -77,7 +77,7 @@ fn pair_at(s: &[u8], at: usize) -> PairAt
     }
 }
 
-// One or more pairs, spaces behind each. The loop goes from place to place: a cursor for each pair would be tested at each.
+// One or more pairs, spaces after each. The loop goes from place to place: a cursor for each pair would be tested at each.
 fn pairs_at(s: &[u8], at: usize, bytes: &mut [u8], used: usize) -> BytesAt
     requires { ⌜ Ready (now s) (Parsed at) (patternBytesOf (now bytes) used) ⌝ }
     ensures { λ r. ⌜ Stores hexPairs (now (s .entry)) (Parsed at) (patternBytesOf (now (bytes .entry)) used) (patternBytesOf (now (bytes .exit)) (r .used)) (r .cursor) ⌝ }

@@ -1,2 +1,2 @@
--- How the code's values stand for the definitions' entries.
+-- How the code's values stand for the definitions' options.
 pub mod Values

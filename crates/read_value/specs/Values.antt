@@ -1,4 +1,4 @@
--- The entry that a value stands for, and pattern bytes behind those in use.
+-- The option that a value stands for, and pattern bytes after those in use.
 use Prim.Native.Nat.{ℕ, _+_}
 use mathlib.Core.List.{List, []}
 use lib.ListN.{length, take, drop}
@@ -30,7 +30,7 @@ pub record PatternBytes : Type 0 where
 abbrev pub patternBytesOf : List ℕ → ℕ → PatternBytes
 patternBytesOf bytes used = record { bytes = bytes; used = used }
 
--- the bytes b behind those in use; past the end nothing is kept
+-- the bytes b after those in use; past the end nothing is kept
 abbrev pub appended : PatternBytes → List ℕ → PatternBytes
 appended r b = record { bytes = sets (r .bytes) (r .used) b; used = r .used + length b }
 

@@ -1,4 +1,4 @@
-// What the reader's scanning hands to its entering, by value: an option's value, and the addresses beside it.
+// What the reader's scanning hands to its inserting, by value: an option's value, and the addresses beside it.
 ghost use mathlib.Core.Path.{_≡_};
 ghost use lib.ListN.{replicate};
 ghost use Rattle.definitions.specs.Limits.{maxAddresses};

@@ -1,5 +1,5 @@
 // The words of options' values, from a cursor on. The first letter decides which word must stand; where two words begin alike, the
-// letter behind does.
+// letter after does.
 ghost use Prim.Native.Nat.{_≤_};
 ghost use Rattle.scan_cursors.specs.Reads.{Inside, Reads};
 ghost use Rattle.definitions.specs.Limits.{maxByte};
@@ -17,25 +17,25 @@ use scan_steps::signs::next_is_letter;
 use scan_steps::words::then_either_word;
 use scan_steps::words::then_word;
 
-// A flow, and where scanning stands behind it.
+// A flow, and where scanning stands after it.
 pub struct FlowAt {
     pub flow: Flow,
     pub cursor: Cursor,
 }
 
-// A context, and where scanning stands behind it.
+// A context, and where scanning stands after it.
 pub struct ContextAt {
     pub context: Context,
     pub cursor: Cursor,
 }
 
-// A field of data_size, and where scanning stands behind it.
+// A field of data_size, and where scanning stands after it.
 pub struct SizeFieldAt {
     pub field: SizeField,
     pub cursor: Cursor,
 }
 
-// A reference, and where scanning stands behind it.
+// A reference, and where scanning stands after it.
 pub struct ReferenceAt {
     pub reference: Reference,
     pub cursor: Cursor,

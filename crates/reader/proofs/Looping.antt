@@ -1,4 +1,4 @@
--- One turn of the loop over a text, as the definition takes it.
+-- One step of the loop over a text, as the definition takes it.
 use mathlib.Core.Path.{_≡_, refl, sym, ap, _∙_, subst}
 use mathlib.Core.Bool.{true, false}
 use mathlib.Core.List.{List, _∷_, _++_}
@@ -80,7 +80,7 @@ module _ (s : List ℕ) (at : ℕ) (h : at < length s) (located : List Located) 
     goes-option after items e Done u w = absurd w
     goes-option after items e (Refused q p) u w = to-option e ∙ w _
 
--- what a turn promises, at the turn that it is
+-- what a step promises, at the step that it is
 pub goes-told : (s bytes : List ℕ) (st : State) (last : Slot) (at : ℕ) (after : List ℕ) (r : Stepped) → Goes s bytes st last at after r
     → (t : Step) → r .step ≡ t → (located : List Located) (items : List Slot) → Holds s located st bytes items → last ≡ lastSlot items st → st .used ≤ at
     → GoesTo s located at bytes t (r .state) after (set items (r .place) (r .slot))

@@ -1,4 +1,4 @@
--- What an option's reading and entering say of the definition's turn.
+-- What an option's reading and inserting say of the definition's step.
 use mathlib.Core.Path.{_≡_, refl, sym, ap, _∙_, subst}
 use mathlib.Core.List.{List, [], _∷_, _++_, append-nil}
 use Prim.Native.Nat.{ℕ, _+_, _≤_}
@@ -78,7 +78,7 @@ used-also {s} {located} dash v al b a h g =
     ∙ length-append (bytesIn (optionValuesOf located)) b
     ∙ ap (λ (n : ℕ). n + length b) (sym (used-is h))
 
--- the option is read: what its value stands behind and brings
+-- the option is read: what its value stands after and brings
 unfoldable pub read-after : {f : Form OptionValue} {s : List ℕ} {to : ℕ} {bytes after : List ℕ} {st : State} {items : List Slot} {last : Slot}
     (located : List Located) (r : ParsedOption)
     → Parses f s to (patternBytesOf bytes (st .used)) (patternBytesOf after (r .used)) r → Holds s located st bytes items → last ≡ lastSlot items st
@@ -102,7 +102,7 @@ read-after {s = s} {bytes = bytes} {items = items} located r p h l n q after ins
       };
     }
 
--- the option is read and entered: on behind it, unless something is due
+-- the option is read and inserted: on after it, unless something is due
 module _ (s : List ℕ) (located : List Located) (st u : State) (bytes after : List ℕ) (items put : List Slot) (at n : ℕ) (v : Value)
     (al : List Address) (b : List ℕ)
     (apart : Apart s v al b) (held : Holds s located st bytes items)
@@ -115,7 +115,7 @@ module _ (s : List ℕ) (located : List Located) (st u : State) (bytes after : L
       (optionValueOf s v al b, (λ K. rw (is, sym e)), g, (let q = used-also at v al b apart held g in omega (arith, q, grown)), onward, inside)
   stepped (Not r) e h = λ K. rw (is, sym e)
 
--- the place behind a cursor that goes on
+-- the place after a cursor that goes on
 pub going-inside : (s : List ℕ) (d : Cursor) (n : ℕ) → placeOf d ≤ length s → d ≡ cursor.Parsed n → n ≤ length s
 going-inside s d n h e = subst (λ (x : Cursor). placeOf x ≤ length s) e h
 

@@ -24,7 +24,7 @@ abbrev pub stepBy : Check → ℕ → ℕ → Step
 stepBy Pass at next = Next next
 stepBy (Refuse r) at next = Refused r at
 
--- a turn that enters nothing
+-- a step that inserts nothing
 abbrev pub stepOnly : Step → State → Stepped
 stepOnly t st = record { step = t; state = st; place = maxItems; slot = noSlot }
 
@@ -38,7 +38,7 @@ pub record Steppable (s bytes : List ℕ) (st : State) (last : Slot) (at : ℕ) 
   pub inside : at + 2 ≤ length s
   pub short : length s ≤ documentLimits .text
 
--- a refusal is the definition's, and so is the way on: to an entry and a place behind it, with its bytes stored and its slot put
+-- a refusal is the definition's, and so is the way on: to an option and a place after it, with its bytes stored and its slot put
 abbrev pub StepsTo : List ℕ → List Located → ℕ → Step → State → List ℕ → List Slot → Type 0
 StepsTo s located at (Refused q p) u bytes items = (K : OptionValue → ℕ → Options) → optionStep (optionAt s at) (optionValuesOf located) at K ≡ refused q p
 StepsTo s located at Done u bytes items = ⊥
@@ -51,7 +51,7 @@ Steps s bytes st last at after r =
     (located : List Located) (items : List Slot) → Holds s located st bytes items → last ≡ lastSlot items st
     → StepsTo s located at (r .step) (r .state) after (set items (r .place) (r .slot))
 
--- ---- a turn of the loop over a text
+-- ---- a step of the loop over a text
 
 abbrev pub closingStep : ℕ → ℕ → Step
 closingStep after len = if eqb after len then Done else Refused refusal.NeitherOptionNorEnd after

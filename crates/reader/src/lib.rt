@@ -22,7 +22,7 @@ use read_state::no_slot;
 
 mod steps;
 
-// The options of a text, from behind `F-SBID(` on. The pattern bytes and items stand here, and nowhere by value on the way of an option.
+// The options of a text, from the end of `F-SBID(` on. The pattern bytes and items stand here, and nowhere by value on the way of an option.
 fn read_options(s: &[u8]) -> Reading
     requires { ⌜ (length opening ≤ length (now s)) × (length (now s) ≤ documentLimits .text) ⌝ }
     ensures { λ r. ⌜ r ≡ optionsRead (now (s .entry)) ⌝ }

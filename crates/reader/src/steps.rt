@@ -23,7 +23,7 @@ pub enum Step {
     Refused(Refusal, usize),
 }
 
-// The turn, the state behind it, and the slot that it puts at a place among the items; a place past their end is none.
+// The step, the state after it, and the slot that it puts at a place among the items; a place past their end is none.
 pub struct Stepped {
     pub step: Step,
     pub state: State,
@@ -31,7 +31,7 @@ pub struct Stepped {
     pub slot: Slot,
 }
 
-// A turn that enters nothing.
+// A step that inserts nothing.
 fn step_only(step: Step, state: State) -> Stepped
     ensures { λ r. ⌜ r ≡ stepOnly step state ⌝ }
 {
@@ -44,7 +44,7 @@ fn step_only(step: Step, state: State) -> Stepped
     }
 }
 
-// The option whose first dash stands at the place. Its pattern bytes are stored behind those in use; `last` is the last pattern's slot.
+// The option whose first dash stands at the place. Its pattern bytes are stored after those in use; `last` is the last pattern's slot.
 fn option_step(s: &[u8], bytes: &mut [u8], st: State, last: Slot, at: usize) -> Stepped
     requires { ⌜ Steppable (now s) (now bytes) st last at ⌝ }
     ensures { λ r. ⌜ Steps (now (s .entry)) (now (bytes .entry)) st last at (now (bytes .exit)) r ⌝ }
@@ -102,7 +102,7 @@ pub fn step_at(s: &[u8], bytes: &mut [u8], st: State, last: Slot, at: usize) -> 
     step_only(Step::Refused(Refusal::NeitherOptionNorEnd, at), st)
 }
 
-// Behind a `)`: the end, or a byte too many.
+// After a `)`: the end, or a byte too many.
 fn closing_step(after: usize, len: usize) -> Step
     ensures { λ r. ⌜ r ≡ closingStep after len ⌝ }
 {

@@ -1,5 +1,5 @@
--- The entries of a well-formed table make the table again: slot by slot, each with the pattern bytes from its own on, then name, protocol, flow and what
--- is behind them in the arrays.
+-- The options of a well-formed table make the table again: slot by slot, each with the pattern bytes from its own on, then name, protocol, flow and what
+-- is after them in the arrays.
 use mathlib.Core.Path.{_≡_, refl, sym, ap, ap₂, _∙_}
 use mathlib.Core.Bool.{true, _&&_}
 use mathlib.Core.List.{List, [], _∷_, _++_}
@@ -35,7 +35,7 @@ use Rattle.roundtrip.proofs.Shape.{wholeSlot, slots-shaped}
 
 -- ---- slots
 
--- no pattern's modifiers are found behind the entries before the next pattern
+-- no pattern's modifiers are found after the options before the next pattern
 unmodified : (sls : List Slot) (b : List ℕ) (p : patterns.Pattern) → modified (slotOptions sls b) p ≡ p
 unfolding slotOptions modified
 unmodified [] b p = refl
@@ -67,7 +67,7 @@ after-length (addressed a) b = omega arith
 after-length (patterned p) b = length-drop (p .len) b
 after-length plainTest b = omega arith
 
--- the slot of an item's entries
+-- the slot of an item's options
 module _ (al : List Address) (b : List ℕ) (rest : List OptionValue) (whole : length al ≡ maxAddresses) (alone : (p : patterns.Pattern) → modified rest p ≡ p) where
   plain-back : (it : Item) → (itemFits it && addressesFit 0 al) ≡ true → slotOf it [] ∷ slotsIn rest ≡ record { item = it; addresses = al } ∷ slotsIn rest
   plain-back it t = ap (λ l. record { item = it; addresses = l } ∷ slotsIn rest) (addresses-refilled 0 al whole (both-right (itemFits it) (addressesFit 0 al) t))

@@ -1,5 +1,5 @@
--- WHAT IS WRITTEN into a buffer reads as the table that was written: a text is written only if the table is well formed and its house text is short
--- enough, and the front of the buffer is then the house text. And a writer that writes nothing is ruled out (`canonical-written`).
+-- WHAT IS WRITTEN into a buffer reads as the table that was written: a text is written only if the table is well formed and its canonical text is short
+-- enough, and the front of the buffer is then the canonical text. And a writer that writes nothing is ruled out (`canonical-written`).
 use mathlib.Core.Path.{_≡_, refl, ap}
 use mathlib.Core.Bool.{Bool, true, false, not}
 use mathlib.Core.List.{List, _++_}
@@ -51,7 +51,7 @@ nothing-check : (lim : Limits) (t : Table) (n : ℕ) → wellFormed t ≡ true �
 unfolding writingCheck
 nothing-check lim t n w h g = rw (w, le-ltb (lim .canonical) (length (canonicalText t)) h, le-ltb n (length (canonicalText t)) g)
 
--- every well-formed table whose house text is short enough is written into every buffer that has room for it
+-- every well-formed table whose canonical text is short enough is written into every buffer that has room for it
 pub canonical-written : (lim : Limits) (t : Table) (out : List ℕ) → wellFormed t ≡ true → length (canonicalText t) ≤ lim .canonical → length (canonicalText t) ≤ length out
     → (writes lim t out ≡ Written (length (canonicalText t))) × (bufferAfter lim t out ≡ canonicalText t ++ drop (length (canonicalText t)) out)
 unfolding writes bufferAfter

@@ -1,5 +1,5 @@
--- THE HOUSE TEXT of a well-formed table is a text of that table, so that it reads as it; two tables have two house texts; and the tables that have a text
--- are the well-formed ones. The entries of the table are written option by option, stand, and make the table again.
+-- THE CANONICAL TEXT of a well-formed table is a text of that table, so that it reads as it; two tables have two canonical texts; and the tables that have a text
+-- are the well-formed ones. The options of the table are written option by option, stand, and make the table again.
 use mathlib.Core.Path.{_≡_, refl, sym, ap, subst, _∙_}
 use mathlib.Core.Bool.{true, false, _&&_}
 use mathlib.Core.List.{List, [], _∷_, _++_, append-assoc}
@@ -94,7 +94,7 @@ canonical-reads room t h w = syntax-exactly room (canonicalText t) t .1 (canonic
 pub readable-exactly : (room : ℕ) (t : Table) → Shaped room t → Readable room t ↔ (wellFormed t ≡ true)
 readable-exactly room t h = (λ r. read-formed room (r .0) t h (r .1), λ w. (canonicalText t, canonical-reads room t h w))
 
--- two tables, two house texts
+-- two tables, two canonical texts
 pub canonical-one : (room : ℕ) (t u : Table) → Shaped room t → Shaped room u → wellFormed t ≡ true → wellFormed u ≡ true → canonicalText t ≡ canonicalText u → t ≡ u
 canonical-one room t u h k v w e = one-table room (canonicalText u) t u (subst (λ s. Derives room s t) e (canonical-derives room t h v)) (canonical-derives room u k w)
 

@@ -1,5 +1,5 @@
--- Entries that may stand one behind the other are few: at most 16 tests and 8 patterns, and at most 8 addresses each. By induction on the entries, each
--- of which was not refused behind those before it.
+-- Options that may stand one after the other are few: at most 16 tests and 8 patterns, and at most 8 addresses each. By induction on the options, each
+-- of which was not refused after those before it.
 use mathlib.Core.Path.{_≡_, refl, ap, _∙_}
 use mathlib.Core.Bool.{Bool, true, false, _||_}
 use mathlib.Core.List.{List, [], _∷_, _++_}
@@ -52,7 +52,7 @@ fewAddresses (Test it al) = leb (length al) maxAddresses
 fewAddresses (Pattern n b) = true
 fewAddresses (Modified m) = true
 
--- behind the entries that came before
+-- after the options that came before
 record Few (before es : List OptionValue) : Type 0 where
   tests : count isTest before ≤ maxTests → count isTest before + count isTest es ≤ maxTests
   patterns : count isPattern before ≤ maxPatterns → count isPattern before + count isPattern es ≤ maxPatterns

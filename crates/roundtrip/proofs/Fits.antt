@@ -1,4 +1,4 @@
--- When an entry fits: its numbers are within the limits of its option, its name or pattern is not empty, a test's addresses are as many as it says.
+-- When an option fits: its numbers are within the limits of its option, its name or pattern is not empty, a test's addresses are as many as it says.
 -- What a text makes fits (Rows), and what fits has a text (Written).
 use mathlib.Core.Path.{_≡_}
 use mathlib.Core.Bool.{Bool, true, false, not, _&&_, _||_}
@@ -51,7 +51,7 @@ optionFits (Test it al) = testFits (kindOf it) it al
 optionFits (Pattern n b) = leb 1 (length b) && all? isByte b
 optionFits (Modified m) = modifierFits m
 
--- reverse is written behind a reference only, and match is left out: usable patterns have no such distance
+-- reverse is written after a reference only, and match is left out: usable patterns have no such distance
 abbrev pub shiftTold : DistanceValue → Bool
 shiftTold d = not (d .reverse) || not (sameReference (d .reference) reference.Match)
 
@@ -75,7 +75,7 @@ patternLength (Test it al) = 0
 patternLength (Pattern n b) = length b
 patternLength (Modified m) = 0
 
--- an entry of the text x fits and has no more pattern bytes than the text has bytes
+-- an option of the text x fits and has no more pattern bytes than the text has bytes
 pub record Fitting (x : List ℕ) (e : OptionValue) : Type 0 where
   pub fits : optionFits e ≡ true
   pub small : patternLength e ≤ length x

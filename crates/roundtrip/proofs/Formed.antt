@@ -1,4 +1,4 @@
--- The table of a text's entries is well formed if its room holds their pattern bytes: the entries fit, are few, and name and protocol are among them.
+-- The table of a text's options is well formed if its room holds their pattern bytes: the options fit, are few, and name and protocol are among them.
 -- A text has no more pattern bytes than bytes.
 use mathlib.Core.Path.{_≡_, refl, sym, _∙_}
 use mathlib.Core.Bool.{Bool, true, false, _&&_}
@@ -31,7 +31,7 @@ use Rattle.roundtrip.proofs.Fits.{optionFits, patternLength}
 use Rattle.roundtrip.proofs.Rows.{option-fits}
 use Rattle.roundtrip.proofs.Slots.{slots-fit, bytes-fit, lengths-in}
 
--- ---- the entries of a text
+-- ---- the options of a text
 
 pub options-fit : {l : List ℕ} {es : List OptionValue} → OptionsText l es → all? optionFits es ≡ true
 options-fit close = all-none optionFits
@@ -80,7 +80,7 @@ protocol-good (Modified m ∷ es) t = protocol-good es (all-tail optionFits (Mod
 
 -- ---- the table
 
--- what is known of a text's entries
+-- what is known of a text's options
 pub record Entries (es : List OptionValue) : Type 0 where
   pub fit : all? optionFits es ≡ true
   pub only : all? testOnly es ≡ true

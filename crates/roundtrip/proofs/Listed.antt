@@ -1,4 +1,4 @@
--- The rows of the table of options, each found in it by its place; and what stands behind two dashes and a row's own name is an option's text.
+-- The rows of the table of options, each found in it by its place; and what stands after two dashes and a row's own name is an option's text.
 use mathlib.Core.Path.{_≡_, refl}
 use mathlib.Core.Bool.{Bool, true}
 use mathlib.Core.List.{List, [], _∷_, _++_, List·Memᴰ as Mem, List·Memᴰ·head as first-one, List·Memᴰ·tail as later-one}

@@ -109,7 +109,7 @@ pub some-bytes : (c : Class) (l : List ℕ) → 1 ≤ length l → all? (has c) 
 some-bytes c [] h t = absurd (omega (arith, h))
 some-bytes c (b ∷ l) h t = somes (is-byte (all-head (has c) b l t)) (byte-row c l (all-tail (has c) b l t))
 
--- ---- an option's value, `;` behind it; one space before it
+-- ---- an option's value, `;` after it; one space before it
 
 pub closes : {f : Form OptionValue} {x : List ℕ} {e : OptionValue} → Of f x e → Of (closed f) (x ++ (59 ∷ [])) e
 closes m = befores m (skips (stars none) (signs 59))

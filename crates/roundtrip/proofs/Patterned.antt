@@ -1,4 +1,4 @@
--- A pattern's entries make the pattern again: each modifier that is not the default is set by its entry, and those of the next pattern are not reached.
+-- A pattern's options make the pattern again: each modifier that is not the default is set by its option, and those of the next pattern are not reached.
 use mathlib.Core.Path.{_≡_, refl, ap, _∙_}
 use mathlib.Core.Bool.{Bool, true, false}
 use mathlib.Core.List.{List, [], _∷_, _++_, append-assoc}
@@ -19,7 +19,7 @@ use Rattle.definitions.specs.Canonical.{contextOption, noCaseOption, distanceOp
 use Rattle.forms.proofs.Sound.{never}
 use Rattle.roundtrip.proofs.Alls.{all-none, all-more, all-head, all-tail, all-append}
 
--- the modifiers of a pattern, in house order
+-- the modifiers of a pattern, in canonical order
 abbrev pub modifierOptions : patterns.Pattern → List OptionValue
 modifierOptions p = contextOption (p .context) ++ (noCaseOption (p .nocase) ++ (distanceOption (p .distance) ++ withinOption (p .within)))
 

@@ -1,4 +1,4 @@
--- WHAT IS READ is well formed, and within the room it has the shape of a table: an accepted text is one of the grammar, whose entries make such a table.
+-- WHAT IS READ is well formed, and within the room it has the shape of a table: an accepted text is one of the grammar, whose options make such a table.
 -- A refused one has the empty table.
 use mathlib.Core.Path.{_≡_, refl, sym, ap, subst, _∙_}
 use mathlib.Core.Bool.{true}

@@ -1,4 +1,4 @@
--- An array with zeros behind what is in use is what its part in use fills: the rest is a list of one element, and as long as it has to be.
+-- An array with zeros after what is in use is what its part in use fills: the rest is a list of one element, and as long as it has to be.
 use mathlib.Core.Path.{_≡_, refl, sym, ap, ap₂, _∙_}
 use mathlib.Core.Bool.{Bool, true, _&&_}
 use mathlib.Core.List.{List, [], _∷_, _++_}

@@ -36,7 +36,7 @@ use Rattle.roundtrip.proofs.Values.{says-every, number-within, numeral-
 pub record Gives (f : Form OptionValue) : Type 0 where
   pub given : (x : List ℕ) (e : OptionValue) → Means true f x e → Fitting x e
 
--- an entry without pattern bytes
+-- an option without pattern bytes
 plain : (x : List ℕ) (e : OptionValue) → optionFits e ≡ true → patternLength e ≡ 0 → Fitting x e
 plain x e f z = record { fits = f; small = omega (arith, z) }
 

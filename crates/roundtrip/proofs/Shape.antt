@@ -1,4 +1,4 @@
--- The table of entries has the shape of a table if name, pattern bytes, slots and each test's addresses fit into their arrays: a list in an array with
+-- The table of options has the shape of a table if name, pattern bytes, slots and each test's addresses fit into their arrays: a list in an array with
 -- room for it fills the array exactly, and a list that does not fit makes it longer.
 use mathlib.Core.Path.{_≡_, refl}
 use mathlib.Core.Bool.{Bool, true}

@@ -1,5 +1,5 @@
--- The slots of entries that fit, fit: a test's numbers and addresses are its entry's, a pattern's modifiers are those behind it, and its length is its
--- bytes'. By induction on the entries.
+-- The slots of options that fit, fit: a test's numbers and addresses are its option's, a pattern's modifiers are those after it, and its length is its
+-- bytes'. By induction on the options.
 use mathlib.Core.Path.{_≡_, refl, ap, _∙_}
 use mathlib.Core.Bool.{Bool, true, false, _&&_}
 use mathlib.Core.List.{List, [], _∷_}
@@ -28,7 +28,7 @@ use Rattle.roundtrip.proofs.Fits.{testFits, isByte, modifierFits, optio
 
 -- ---- tests
 
--- so many addresses, and zeros behind them
+-- so many addresses, and zeros after them
 padded-fit : (al : List Address) → all? addressFits al ≡ true → addressesFit (length al) (padded maxAddresses noAddress al) ≡ true
 padded-fit al f =
     let z = replicate (maxAddresses - length al) noAddress in

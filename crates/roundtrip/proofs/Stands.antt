@@ -1,5 +1,5 @@
--- Each entry of a table's house text may stand behind those before it: tests and patterns by their counts, and a pattern's modifiers since they stand in
--- one order, so that none was met behind the pattern.
+-- Each option of a table's canonical text may stand after those before it: tests and patterns by their counts, and a pattern's modifiers since they stand in
+-- one order, so that none was met after the pattern.
 use mathlib.Core.Path.{_≡_, refl, sym, subst, _∙_}
 use mathlib.Core.Bool.{Bool, true, false}
 use mathlib.Core.List.{List, [], _∷_, _++_}
@@ -33,7 +33,7 @@ use Rattle.roundtrip.proofs.Alls.{all-none, all-more, all-head, all-tai
 use Rattle.roundtrip.proofs.Counts.{count-append, fewAddresses}
 use Rattle.roundtrip.proofs.Patterned.{modifierOptions, modifiers-joined}
 
--- ---- the modifiers behind the last pattern
+-- ---- the modifiers after the last pattern
 
 latest-pattern : (es : List OptionValue) (ms : List Modifier) (n : Bool) (b : List ℕ) → latest ms (es ++ (Pattern n b ∷ [])) ≡ []
 unfolding latest
@@ -55,7 +55,7 @@ latest-modifier (Test it al ∷ es) ms m = latest-modifier es ms m
 latest-modifier (Pattern n b ∷ es) ms m = latest-modifier es [] m
 latest-modifier (Modified n ∷ es) ms m = latest-modifier es (n ∷ ms) m
 
--- modifiers that stand before number k in house order
+-- modifiers that stand before number k in canonical order
 abbrev below : ℕ → Modifier → Bool
 below k m = ltb (modifierNumber m) k
 
@@ -66,7 +66,7 @@ none-again m (n ∷ ms) t =
     let h = ltb-true (modifierNumber n) (modifierNumber m) (all-head (below (modifierNumber m)) n ms t) in
     rw (ne-eqb (modifierNumber m) (modifierNumber n) (λ e. omega (arith, e, h))) (none-again m ms (all-tail (below (modifierNumber m)) n ms t))
 
--- ---- behind a pattern
+-- ---- after a pattern
 
 -- so many tests and patterns, one at least; the modifiers met stand before number k
 record After (tests patterns k : ℕ) (before : List OptionValue) : Type 0 where
@@ -141,7 +141,7 @@ modifiers-stand t n rest p before i k =
 
 -- ---- slots
 
--- what is asked of entries that are to stand behind others
+-- what is asked of options that are to stand after others
 record PatternBytes (before es : List OptionValue) : Type 0 where
   addresses : all? fewAddresses es ≡ true
   tests : count isTest before + count isTest es ≤ maxTests

@@ -1,5 +1,5 @@
--- The entries of a well-formed table's house text fit, and their texts say them: what the test of the table asks of each slot, name and protocol is what
--- each entry needs, and a usable pattern has no reverse without a reference.
+-- The options of a well-formed table's canonical text fit, and their texts say them: what the test of the table asks of each slot, name and protocol is what
+-- each option needs, and a usable pattern has no reverse without a reference.
 use mathlib.Core.Path.{_≡_, refl, sym, ap, subst, _∙_}
 use mathlib.Core.Bool.{Bool, true, false, not, _&&_, _||_}
 use mathlib.Core.List.{List, [], _∷_, _++_}
@@ -44,7 +44,7 @@ use Rattle.roundtrip.proofs.Parts.{formed}
 use Rattle.roundtrip.proofs.Patterned.{modifierOptions, modifiers-all}
 use Rattle.roundtrip.proofs.Shape.{wholeSlot, slots-shaped}
 
--- an entry that fits, has few addresses, and is said by its text
+-- an option that fits, has few addresses, and is said by its text
 abbrev pub good : OptionValue → Bool
 good e = optionFits e && (fewAddresses e && optionTold e)
 
@@ -169,7 +169,7 @@ module _ (room : ℕ) (t : Table) (h : Shaped room t) (w : wellFormed t ≡ true
       let e : length (take (t .len) (t .name)) ≡ t .len = omega (arith, l, length-take (t .len) (t .name), h .named) in
       rw e (both (both (f .name-length) (f .name-bytes)) refl)
 
-  -- behind the bytes in use there are zeros
+  -- after the bytes in use there are zeros
   all-bytes : all? isByte (t .bytes) ≡ true
   all-bytes =
       let f = formed t w in

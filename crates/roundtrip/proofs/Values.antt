@@ -79,7 +79,7 @@ addresses-fit =
 
 -- ---- patterns
 
--- a pair of digits, with any spaces behind it; a byte that stands for itself, or a block
+-- a pair of digits, with any spaces after it; a byte that stands for itself, or a block
 abbrev pub spacedPair : Form ℕ
 spacedPair = terminated hexPair spaces
 

@@ -1,4 +1,4 @@
--- An entry that fits is written as one space and an option's text of that entry. For each row the text of the value is put together as its form is.
+-- An option that fits is written as one space and an option's text of that option. For each row the text of the value is put together as its form is.
 use mathlib.Core.Path.{_≡_, sym, ap}
 use mathlib.Core.Bool.{Bool, true, false, not, _&&_, _||_}
 use mathlib.Core.List.{List, [], _∷_, _++_, append-assoc}
@@ -197,7 +197,7 @@ reverse-of : (r : Bool) → Of (comma false (keyword (text "reverse") true)) (te
 reverse-of true = lefts (skips (signs 44) (words (text "reverse") true))
 reverse-of false = rights tells
 
--- reverse stands behind a reference
+-- reverse stands after a reference
 shift-of : (r : Reference) (v : Bool) → (not v || not (sameReference r reference.Match)) ≡ true → Of (comma (reference.Match, false) (pair referenceWord (comma false (keyword (text "reverse") true)))) (referenceText r ++ textIf v (text ",reverse")) (r, v)
 shift-of reference.Match true t = never (cc)
 shift-of reference.Match false t = rights tells
@@ -219,7 +219,7 @@ unfolding modifierText
 within-written w t =
     row-written within-row (values (makes {h = λ (p : ℕ × Reference). Modified (Within (record { number = p .0; reference = p .1 }))} (joins (number-of maxWord (w .number) t) (reference-of (w .reference)))))
 
--- ---- all entries
+-- ---- all options
 
 pub option-written : (e : OptionValue) → optionFits e ≡ true → optionTold e ≡ true → Written (optionText e) e
 unfolding optionText modifierText

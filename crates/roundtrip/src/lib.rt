@@ -1,1 +1,1 @@
-// A table that is written as its house text reads as that table, and what is read can be written. No code.
+// A table that is written as its canonical text reads as that table, and what is read can be written. No code.

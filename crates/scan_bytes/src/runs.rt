@@ -8,7 +8,7 @@ ghost use Rattle.scan_bytes.specs.Classes.{classOf};
 use crate::bytes::Class;
 use crate::bytes::in_class;
 
-// The place behind the longest run of bytes of the class at a place.
+// The place after the longest run of bytes of the class at a place.
 pub fn run_of(s: &[u8], at: usize, k: Class) -> usize
     requires { ⌜ at ≤ length (now s) ⌝ }
     ensures { λ r. ⌜ r ≡ at + run (has (classOf k)) (drop at (now (s .entry))) ⌝ }

@@ -60,7 +60,7 @@ place-farther p (Parsed a n) = refl
 place-farther p (OutOfRange q n) = refl
 place-farther p (Failed q) = refl
 
--- what is left of the text from a place on, behind something
+-- what is left of the text from a place on, after something
 left-after : (s : List ℕ) (at : ℕ) (x r : List ℕ) → at ≤ length s → drop at s ≡ x ++ r → at + length x ≤ length s - length r
 left-after s at x r h e = omega (arith, length-drop at s, ap length e ∙ length-append x r)
 
@@ -108,7 +108,7 @@ module _ {A : Type 0} (f : Form A) (full : not (nullable f) ≡ true) (s : List 
     placed-ahead o (Stop m) e (cursor.OutOfRange p n) q = never (cc)
     placed-ahead o r e (cursor.Failed p) q = omega arith
 
-    -- the same behind a number beyond its limit
+    -- the same after a number beyond its limit
     far-ahead : (p : ℕ) (o : List (List ℕ)) (r : Scan A) → scan f (drop i s) ≡ r → (d : Cursor) → readBy v d ≡ farther {B = A} p (placed s o r)
         → Ahead (i + 1) d
     far-ahead p [] (Got a m) e (cursor.Parsed n) q = never (cc)
@@ -145,7 +145,7 @@ left-less k s (cursor.OutOfRange p n) (cursor.OutOfRange q m) t i a = omega (ari
 left-less k s (cursor.OutOfRange p n) (cursor.Failed q) t i a = omega arith
 left-less k s (cursor.Failed p) d t i a = never (cc)
 
--- less is left behind what is read where a byte was next
+-- less is left after what is read where a byte was next
 pub less-left : {A : Type 0} {f : Form A} {s : List ℕ} {c d : Cursor} {v : A} (k : Class) → nextIn k s c ≡ true → not (nullable f) ≡ true
     → Inside s c → Reads f s c v d → left s d < left s c
 less-left {A} {f} {s} {c} {d} k t full h r = left-less k s c d t (r .inside) (ahead-more h r full)

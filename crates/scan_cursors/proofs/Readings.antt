@@ -83,7 +83,7 @@ from-both h (cursor.Parsed n) j k = refl
 from-both h (cursor.OutOfRange p n) j k = farther-both h p (j n) k
 from-both h (cursor.Failed p) j k = refl
 
--- a form that reads as the one and from behind it the other
+-- a form that reads as the one and from the end of it the other
 both-reads : {A B C : Type 0} {f : Form A} {g : Form B} {s : List ℕ} {c d e : Cursor} {v : A} {w : B} (h : A → B → C) (F : Form C)
     → ((n : ℕ) → n ≤ length s → readAt F s n ≡ both-read h (readAt f s n) (λ m. readAt g s m))
     → Inside s c → Reads f s c v d → Reads g s d w e → Reads F s c (h v w) e

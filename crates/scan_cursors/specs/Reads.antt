@@ -28,7 +28,7 @@ farBy p (cursor.Parsed n) = cursor.OutOfRange p n
 farBy p (cursor.OutOfRange q n) = cursor.OutOfRange p n
 farBy p (cursor.Failed q) = cursor.Failed q
 
--- the cursor d, which a scanner answered from the place of c, behind all that c went through
+-- the cursor d, which a scanner answered from the place of c, after all that c went through
 abbrev pub joined : Cursor → Cursor → Cursor
 joined (cursor.Parsed n) d = d
 joined (cursor.OutOfRange p n) d = farBy p d
@@ -48,7 +48,7 @@ nextIn k s (cursor.Parsed n) = begins k (drop n s)
 nextIn k s (cursor.OutOfRange p n) = begins k (drop n s)
 nextIn k s (cursor.Failed p) = false
 
--- the cursor d behind a value that began at the place p and keeps its limit or not
+-- the cursor d after a value that began at the place p and keeps its limit or not
 abbrev pub limitedBy : Bool → ℕ → Cursor → Cursor
 limitedBy b p (cursor.Parsed n) = if b then cursor.Parsed n else cursor.OutOfRange p n
 limitedBy b p (cursor.OutOfRange q n) = cursor.OutOfRange q n

@@ -20,7 +20,7 @@ pub fn place(c: Cursor) -> usize
     }
 }
 
-// Behind a number beyond its limit at the place: where the form stops later, that comes first (6 before 7).
+// After a number beyond its limit at the place: where the form stops later, that comes first (6 before 7).
 fn far(place: usize, d: Cursor) -> Cursor
     ensures { λ r. ⌜ r ≡ farBy place d ⌝ }
 {
@@ -31,7 +31,7 @@ fn far(place: usize, d: Cursor) -> Cursor
     }
 }
 
-// The cursor d that a scanner answered from the place of c, behind all that c went through: once stopped, scanning stays there, and the
+// The cursor d that a scanner answered from the place of c, after all that c went through: once stopped, scanning stays there, and the
 // first number beyond its limit is kept.
 pub fn join(c: Cursor, d: Cursor) -> Cursor
     ensures { λ r. ⌜ r ≡ joined c d ⌝ }
@@ -43,7 +43,7 @@ pub fn join(c: Cursor, d: Cursor) -> Cursor
     }
 }
 
-// The cursor d behind a value from the cursor c on that keeps its limit or not; one beyond its limit is told by its first byte.
+// The cursor d after a value from the cursor c on that keeps its limit or not; one beyond its limit is told by its first byte.
 pub fn limited(c: Cursor, kept: bool, d: Cursor) -> Cursor
     ensures { λ r. ⌜ r ≡ limitedBy kept (placeOf c) d ⌝ }
 {

@@ -31,7 +31,7 @@ module _ (c : Class) (s : List ℕ) (at : ℕ) where
       (λ t. ltb-true at (length s) t)
       (λ t. absurd (false≢true (sym (begins-out (ltb-false at (length s) t)) ∙ e)))
 
-  -- a byte that stands there leaves a place behind it
+  -- a byte that stands there leaves a place after it
   pub begun-in : begins c (drop at s) ≡ true → at + 1 ≤ length s
   begun-in e = let h = begins-in e in omega arith
 

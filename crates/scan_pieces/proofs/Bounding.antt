@@ -27,7 +27,7 @@ capped-high x v limit e h =
     (λ t. let q : x ≡ v = e ∙ rw t in omega (arith, q))
     (λ t. let q : x ≡ farAbove = e ∙ rw t in omega (arith, q, ltb-false v farAbove t))
 
--- a run of digits by the place behind it
+-- a run of digits by the place after it
 module _ (k : Class) (base limit : ℕ) (s : List ℕ) (at end x : ℕ) (h : at ≤ length s) (e : end ≡ at + run (has k) (drop at s)) where
   abbrev fits : ℕ → Bool
   fits n = leb n limit

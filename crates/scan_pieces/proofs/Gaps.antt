@@ -43,7 +43,7 @@ module _ (c : Class) (s : List ℕ) (at : ℕ) (h : at ≤ length s) where
         inside = h;
       }
 
--- the same by the place behind the run
+-- the same by the place after the run
 module _ (c : Class) (s : List ℕ) (at end : ℕ) (h : at ≤ length s) (e : end ≡ at + run (has c) (drop at s)) where
   counted : run (has c) (drop at s) ≡ end - at
   counted = omega (arith, e)

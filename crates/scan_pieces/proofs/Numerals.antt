@@ -1,4 +1,4 @@
--- A numeral is what a run of hex digits is behind `0x`, and else what a decimal number is.
+-- A numeral is what a run of hex digits is after `0x`, and else what a decimal number is.
 use mathlib.Core.Path.{_≡_, refl, sym, ap, _∙_}
 use mathlib.Core.Bool.{Bool, true, false}
 use mathlib.Core.List.{List, [], _∷_}
@@ -131,7 +131,7 @@ module _ (s : List ℕ) (at : ℕ) where
 
 -- ---- the number
 
--- where a broken bound is placed, behind the first k bytes
+-- where a broken bound is placed, after the first k bytes
 abbrev after : List ℕ → ℕ → ℕ → ℕ
 after s at k = length s - length (drop k (drop at s))
 

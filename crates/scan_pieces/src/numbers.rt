@@ -66,7 +66,7 @@ fn is_hex_mark(s: &[u8], at: usize) -> bool
     }
 }
 
-// A number in decimal, or in hex behind `0x` or `0X`, up to a limit.
+// A number in decimal, or in hex after `0x` or `0X`, up to a limit.
 pub fn numeral_at(s: &[u8], at: usize, limit: u64) -> Numeric
     requires { ⌜ (at ≤ length (now s)) × (limit < farAbove) ⌝ }
     ensures { λ r. ⌜ Reads (numeral limit) (now (s .entry)) (Parsed at) (r .value) (r .cursor) × (r .value ≤ limit) ⌝ }

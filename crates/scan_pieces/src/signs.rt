@@ -62,7 +62,7 @@ pub struct Mark {
     pub cursor: Cursor,
 }
 
-// Whether the byte stands at the place, and the place behind it.
+// Whether the byte stands at the place, and the place after it.
 pub fn mark_at(s: &[u8], at: usize, b: u8) -> Mark
     requires { ⌜ at ≤ length (now s) ⌝ }
     ensures { λ r. ⌜ Reads (opt false (literalAs b true)) (now (s .entry)) (Parsed at) (r .yes) (r .cursor) ⌝ }
@@ -80,7 +80,7 @@ pub fn mark_at(s: &[u8], at: usize, b: u8) -> Mark
     }
 }
 
-// The place behind any spaces.
+// The place after any spaces.
 pub fn spaces_at(s: &[u8], at: usize) -> usize
     requires { ⌜ at ≤ length (now s) ⌝ }
     ensures { λ r. ⌜ Skips spaces (now (s .entry)) (Parsed at) (Parsed r) ⌝ }

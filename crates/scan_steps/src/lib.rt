@@ -1,4 +1,4 @@
-// The pieces of forms from cursor to cursor: each scanner goes on from any cursor, behind all that was read up to there. So an option
+// The pieces of forms from cursor to cursor: each scanner goes on from any cursor, after all that was read up to there. So an option
 // is scanned step by step, each step from the cursor of the one before.
 pub mod numbers;
 pub mod runs;

@@ -24,7 +24,7 @@ pub fn then_number(s: &[u8], c: Cursor, limit: u64) -> Numeric
     }
 }
 
-// A number in decimal, or in hex behind `0x` or `0X`, up to a limit.
+// A number in decimal, or in hex after `0x` or `0X`, up to a limit.
 pub fn then_numeral(s: &[u8], c: Cursor, limit: u64) -> Numeric
     requires { ⌜ Inside (now s) c × (limit < farAbove) ⌝ }
     ensures { λ r. ⌜ Reads (numeral limit) (now (s .entry)) c (r .value) (r .cursor) × (r .value ≤ limit) ⌝ }

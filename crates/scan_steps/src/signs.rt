@@ -49,7 +49,7 @@ pub fn then_literal(s: &[u8], c: Cursor, b: u8) -> Cursor
     join(c, d)
 }
 
-// Whether the byte stands there, and the cursor behind it.
+// Whether the byte stands there, and the cursor after it.
 pub fn then_optional_literal(s: &[u8], c: Cursor, b: u8) -> Mark
     requires { ⌜ Inside (now s) c ⌝ }
     ensures { λ r. ⌜ Reads (opt false (literalAs b true)) (now (s .entry)) c (r .yes) (r .cursor) ⌝ }

@@ -1,4 +1,4 @@
--- The items that the search has gone over: tests and negated patterns that hold leave the answer to the items behind them.
+-- The items that the search has gone over: tests and negated patterns that hold leave the answer to the items after them.
 use mathlib.Core.Path.{_≡_, refl, sym, ap, _∙_}
 use mathlib.Core.Bool.{Bool, true, false, not}
 use mathlib.Core.List.{List, [], _∷_}
@@ -74,13 +74,13 @@ module _ {q : SearchInput} {k : ℕ} {b s d : List ℕ} {l : LastMatch} {chosen 
   abbrev left : List ℕ
   left = drop from b
 
-  -- behind the last item
+  -- after the last item
   pub gone-out : q .count ≤ i → (r : Outcome) → r ≡ answer chosen on-bound passed ([] ∷ []) → r ≡ found q s d l chosen on-bound (constraints (itemsLeft q k) b)
   gone-out h r e =
       let none = ap (λ (sls : List Slot). found q s d l chosen on-bound (constraints sls left)) (stepping.left-out q i h) in
       e ∙ sym (g .same ∙ none ∙ stepping.after-last view l chosen on-bound passed left)
 
-  -- the i-th item, and those behind it
+  -- the i-th item, and those after it
   module _ (more : i < q .count) where
     abbrev sl : Slot
     sl = getD (q .items) i slot0

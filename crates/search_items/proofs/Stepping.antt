@@ -1,4 +1,4 @@
--- One item more: what is wanted of the items left, what the search rests on behind it, and what it answers.
+-- One item more: what is wanted of the items left, what the search rests on after it, and what it answers.
 use mathlib.Core.Path.{_≡_, refl, sym, ap, _∙_}
 use mathlib.Core.Bool.{Bool, true, false}
 use mathlib.Core.List.{List, [], _∷_, map}
@@ -144,7 +144,7 @@ module _ (all : List Slot) (sl : Slot) (sls : List Slot) (u : all ≡ sl ∷ sls
           room = omega (arith, rd .room, room);
         }
 
--- a pattern that is to be placed, and the items behind it with its start chosen
+-- a pattern that is to be placed, and the items after it with its start chosen
 module _ (sls : List Slot) (b : List ℕ) (p : Pattern) (own s d : List ℕ) (l : LastMatch) (chosen : Placement) (tr : Trying sls b p own s d l chosen) where
   pub trying-bounded : Bounded s d p own l
   trying-bounded = record { payload = tr .small .payload; decoded = tr .small .decoded; last = tr .small .last; pattern = tr .len; own = tr .own }
@@ -161,7 +161,7 @@ module _ (sls : List Slot) (b : List ℕ) (p : Pattern) (own s d : List ℕ) (l 
         room = rw ew (tr .room);
       }
 
--- ---- what it answers: an item that holds leaves the answer to those behind it
+-- ---- what it answers: an item that holds leaves the answer to those after it
 
 module _ (v : View) (l : LastMatch) (chosen : Placement) (on-bound : Bool) (q : List Start) (ws : List Constraint) where
   module _ (it : Item) (al : List Address) where

@@ -10,6 +10,6 @@ use Rattle.search_state.specs.declared.input.SearchInput.{SearchInput}
 abbrev pub itemsLeft : SearchInput → ℕ → List Slot
 itemsLeft q k = drop k (take (q .count) (q .items))
 
--- what the logic has behind the array's end
+-- what the logic has after the array's end
 abbrev pub slot0 : Slot
 slot0 = record { item = item.Unused; addresses = [] }

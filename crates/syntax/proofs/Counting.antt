@@ -1,5 +1,5 @@
--- As many patterns are usable as there are, or fewer: the entries of a text make one pattern item for each pattern option and no other, since no
--- option's form makes a test whose item is a pattern. That is shown row by row, of the function that makes the entry.
+-- As many patterns are usable as there are, or fewer: the options of a text make one pattern item for each pattern option and no other, since no
+-- option's form makes a test whose item is a pattern. That is shown row by row, of the function that makes the option.
 use mathlib.Core.Path.{_≡_, refl, sym, ap, subst, _∙_}
 use mathlib.Core.Bool.{Bool, true, false}
 use mathlib.Core.List.{List, [], _∷_, List·Memᴰ as Mem, List·Memᴰ·head as first-one, List·Memᴰ·tail as later-one}
@@ -54,7 +54,7 @@ valued-value : (f : Form OptionValue) (x : List ℕ) (e : OptionValue) → Means
 unfolding Means
 valued-value f x e m = closed-value f (m .2 .1) e (subst (λ v. Means true (closed f) (m .2 .1) v) (sym (m .1)) (m .2 .4))
 
--- an option with a value: by the function that makes its entry; an option without one: by its entry
+-- an option with a value: by the function that makes its option; an option without one: by its option
 by-value : {A : Type 0} {h : A → OptionValue} {f : Form A} → ((a : A) → testOnly (h a) ≡ true) → Makes (valued (fmap h f))
 unfolding Means
 by-value {A} {h} {f} t =

@@ -28,12 +28,12 @@ use Rattle.syntax.proofs.Frame.{printed-exactly, opened-exactly}
 use Rattle.syntax.proofs.Loop.{Told, options-read, ended-options}
 use Rattle.syntax.proofs.Counting.{testOnly, options-tests, usable-exactly}
 
--- ---- behind the options
+-- ---- after the options
 
 refused-never {ℓ} : {A : Type ℓ} (room : ℕ) (r : Refusal) (p : ℕ) (t : Table) → refusedReading room r p ≡ acceptedReading t → A
 refused-never room r p t e = let z : outcome.Refused r p ≡ outcome.Accepted = ap (λ x. x .outcome) e in impossible (cc)
 
--- what is left to ask of the entries
+-- what is left to ask of the options
 record Checked (room : ℕ) (es : List OptionValue) (t : Table) : Type 0 where
   usable : usableIn es ≡ count isPattern es
   complete : missing es ≡ false

@@ -18,11 +18,11 @@ use Rattle.definitions.specs.Options.{printable, opening}
 
 -- ---- places
 
--- behind x, which stands at a place
+-- after x, which stands at a place
 pub after : (s : List ℕ) (at : ℕ) (x r : List ℕ) → drop at s ≡ x ++ r → drop (at + length x) s ≡ r
 after s at x r d = sym (drop-drop (length x) at s) ∙ rw d (drop-append-seam x r)
 
--- the place behind x, told by what is left
+-- the place after x, told by what is left
 pub place-after : (s : List ℕ) (at : ℕ) (x r : List ℕ) → drop at s ≡ x ++ r → 0 < length x → length s - length r ≡ at + length x
 place-after s at x r d h = let l : length s - at ≡ length x + length r = sym (length-drop at s) ∙ ap length d ∙ length-append x r in omega (arith, l, h)
 

@@ -1,5 +1,5 @@
--- The options of a text: the reader's loop ends behind some entries exactly if the bytes are the text of these entries, each of which may stand
--- behind those before it. Complete by induction on the text, sound by induction on the bytes.
+-- The options of a text: the reader's loop ends after some options exactly if the bytes are the text of these options, each of which may stand
+-- after those before it. Complete by induction on the text, sound by induction on the bytes.
 use mathlib.Core.Path.{_≡_, refl, sym, ap, subst, _∙_}
 use mathlib.Core.Bool.{true}
 use mathlib.Core.List.{List, [], _∷_, _++_, append-assoc, append-nil}
@@ -26,7 +26,7 @@ use Rattle.syntax.proofs.Truths.{cases, impossible}
 use Rattle.syntax.proofs.Frame.{after, front-exactly}
 use Rattle.syntax.proofs.Single.{option-dashes, option-read, read-option}
 
--- one more entry, told with the place of its dash
+-- one more option, told with the place of its dash
 abbrev pub joined : List Located → ℕ → OptionValue → List Located
 joined located at e = located ++ (record { dash = at; value = e } ∷ [])
 
@@ -44,7 +44,7 @@ passed-over s (b ∷ x) l at located =
     let e : at + 1 + length x ≡ at + suc (length x) = omega arith in
     passed-over s x l (at + 1) located ∙ ap (λ n. options s l 0 n located) e
 
--- an option's text is read, and the loop goes on behind it
+-- an option's text is read, and the loop goes on after it
 pub option-taken : {x : List ℕ} {e : OptionValue} → OptionText x e → (s : List ℕ) (at : ℕ) (l : List ℕ) (located : List Located) → drop at s ≡ x ++ l → occurrenceCheck (optionValuesOf located) e ≡ check.Pass → options s (x ++ l) 0 at located ≡ options s l 0 (at + length x) (joined located at e)
 unfolding options sameBytes
 option-taken (option o n y {e} m q w) s at l located d f =
@@ -54,7 +54,7 @@ option-taken (option o n y {e} m q w) s at l located d f =
     let k : at + 1 + length x ≡ at + suc (length x) = omega arith in
     rw (p, f, g) (passed-over s x l (at + 1) (joined located at e) ∙ ap (λ i. options s l 0 i (joined located at e)) k)
 
--- the loop ends, with these entries behind those that were there
+-- the loop ends, with these options after those that were there
 abbrev pub Ends : List ℕ → List ℕ → ℕ → List Located → List OptionValue → Type 0
 Ends s l at located es = (told : List Located) × (options s l 0 at located ≡ ended told) × (optionValuesOf told ≡ optionValuesOf located ++ es)
 
@@ -82,7 +82,7 @@ taken-split (listed (Parsed e next)) es at k told q = let i = check-split (occur
 taken-split (listed (OutOfRange p next)) es at k told q = never (cc)
 taken-split (listed (Failed p)) es at k told q = never (cc)
 
--- the text of some entries, which may stand behind those that were there and are told at the end
+-- the text of some options, which may stand after those that were there and are told at the end
 abbrev pub Told : List ℕ → List Located → List Located → Type 1
 Told l located told = (es : List OptionValue) × OptionsText l es × Occurrences (optionValuesOf located) es × (optionValuesOf told ≡ optionValuesOf located ++ es)
 

@@ -59,7 +59,7 @@ abbrev pub noName : Class → Bool
 noName [] = true
 noName (r ∷ c) = (eqb (r .0) (r .1) && not (inName (r .0))) && noName c
 
--- one byte of look-ahead decides; the form begins with a byte that is not of a name, and nothing goes on behind it
+-- one byte of look-ahead decides; the form begins with a byte that is not of a name, and nothing goes on after it
 abbrev pub formAlone : Option → Bool
 formAlone o = isLL1 (o .form) && (not (nullable (o .form)) && (none? (followSet (o .form)) && noName (firstSet (o .form))))
 

@@ -1,4 +1,4 @@
--- One option: the reader's definition answers with an entry exactly if the bytes from the dashes on are a text of that entry. The name is the
+-- One option: the reader's definition answers with an option exactly if the bytes from the dashes on are a text of that option. The name is the
 -- longest run, its row is the one found, and the scanner at the row's form is complete and sound for the rest.
 use mathlib.Core.Path.{_≡_, refl, sym, ap, subst, _∙_}
 use mathlib.Core.Bool.{true}
@@ -22,7 +22,7 @@ use Rattle.syntax.proofs.Names.{no-name-front, name-run, named-parsed, 
 
 -- ---- a form at a place
 
--- what is of the form and stands at a place is read, whatever is behind it
+-- what is of the form and stands at a place is read, whatever is after it
 pub form-read : {f : Form OptionValue} → Alone f → (s : List ℕ) (at : ℕ) (y r : List ℕ) (e : OptionValue) → Means true f y e → drop at s ≡ y ++ r → readAt f s at ≡ Parsed e (at + length y)
 unfolding readAt
 form-read {f} a s at y r e w d =

@@ -41,7 +41,7 @@ fn quotable_to(s: &[u8], n: usize) -> bool
     true
 }
 
-// 1 to 64 bytes that may stand in a name, and zeros behind them.
+// 1 to 64 bytes that may stand in a name, and zeros after them.
 pub fn name_fits(name: [u8; NAME_BYTES], len: usize) -> bool
     ensures { λ r. ⌜ r ≡ nameFits name len ⌝ }
 {
@@ -58,7 +58,7 @@ pub fn name_fits(name: [u8; NAME_BYTES], len: usize) -> bool
     zero_from(all, len)
 }
 
-// So many bytes are in use, and the room behind them is zero.
+// So many bytes are in use, and the room after them is zero.
 pub fn room_fits(s: &[u8], used: usize) -> bool
     ensures { λ r. ⌜ r ≡ (leb used (length (now (s .entry))) && (all? (λ (b : ℕ). leb b maxByte) (take used (now (s .entry))) && all? isZero (drop used (now (s .entry))))) ⌝ }
 {

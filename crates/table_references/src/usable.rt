@@ -1,4 +1,4 @@
-// Which references of one pattern are usable, behind the last positive pattern before it.
+// Which references of one pattern are usable, after the last positive pattern before it.
 ghost use mathlib.Core.Path.{_≡_};
 ghost use lib.IntN.{pos};
 ghost use lib.Signed.{leZ};
@@ -37,7 +37,7 @@ fn reference_number(r: Reference) -> u8
     }
 }
 
-// The last positive pattern, behind `p`.
+// The last positive pattern, after `p`.
 pub fn last_after(last: LastMatch, p: Pattern) -> LastMatch
     ensures { λ r. ⌜ r ≡ lastAfter last p (startAt 0) ⌝ }
 {
@@ -147,7 +147,7 @@ fn references_alike(distance: Distance, within: Within) -> bool
     }
 }
 
-// The references of `p` behind the last positive pattern.
+// The references of `p` after the last positive pattern.
 pub fn is_usable(last: LastMatch, p: Pattern) -> bool
     ensures { λ r. ⌜ r ≡ usable last p ⌝ }
 {

@@ -33,7 +33,7 @@ sum-less left n m h =
     (λ t. rw t (eq-eqb left (n + m) (omega (arith, eqb-true (left - n) m t))))
     (λ f. rw f (ne-eqb left (n + m) (λ e. eqb-false (left - n) m f (omega (arith, e)))))
 
--- one pattern more: the patterns from it on are usable where it is and those behind it are
+-- one pattern more: the patterns from it on are usable where it is and those after it are
 module _ (last : LastMatch) (p : Pattern) (ps : List Pattern) where
   run-on : usable last p ≡ true → eqb (usableRun last (p ∷ ps)) (length (p ∷ ps)) ≡ eqb (usableRun (lastAfter last p (startAt 0)) ps) (length ps)
   unfolding usableRun

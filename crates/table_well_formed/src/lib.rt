@@ -15,7 +15,7 @@ use table_bytes::name_fits;
 use table_bytes::room_fits;
 use table_slots::slot_unused;
 
-// The slots in use, then those behind them, then what the walk ends with. Nothing called here takes the array: it would be copied at each call.
+// The slots in use, then those after them, then what the walk ends with. Nothing called here takes the array: it would be copied at each call.
 fn items_fit(items: [Slot; ITEMS], count: usize, used: usize) -> bool
     ensures { λ r. ⌜ r ≡ itemsWell items count used ⌝ }
 {

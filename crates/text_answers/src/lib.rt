@@ -1,4 +1,4 @@
-// The answer to a text, put into a lent buffer: its house text, or a refusal and its place.
+// The answer to a text, put into a lent buffer: its canonical text, or a refusal and its place.
 ghost use mathlib.Core.List.{_++_};
 ghost use lib.ListN.{take};
 ghost use Rattle.forms.specs.Bytes.{text};
@@ -28,7 +28,7 @@ fn put_refused(out: &mut [u8], at: usize, r: Refusal, place: usize) -> usize
     put_decimal(out, a2, place as u64)
 }
 
-// `ok`, tab, and the first `n` bytes of a house text's buffer.
+// `ok`, tab, and the first `n` bytes of a canonical text's buffer.
 fn put_ok(out: &mut [u8], at: usize, canonical: [u8; CANONICAL_BYTES], n: usize) -> usize
     ensures { λ r. ⌜ Puts (now (out .entry)) at (text "ok\t" ++ take n canonical) (now (out .exit)) r ⌝ }
 {
@@ -36,7 +36,7 @@ fn put_ok(out: &mut [u8], at: usize, canonical: [u8; CANONICAL_BYTES], n: usize)
     put_front(out, a1, &canonical[..], n)
 }
 
-// The house text, or the writer's refusal.
+// The canonical text, or the writer's refusal.
 fn put_table(out: &mut [u8], at: usize, t: Table) -> usize
     ensures { λ n. ⌜ Puts (now (out .entry)) at (canonicalLine (writingCheck documentLimits t (documentLimits .canonical)) t) (now (out .exit)) n ⌝ }
 {

@@ -65,7 +65,7 @@ abbrev isFine : Check → Bool
 isFine check.Pass = true
 isFine (check.Refuse r) = false
 
--- a house text that is written is not beyond the limit
+-- a canonical text that is written is not beyond the limit
 fine-short : (t : Table) → writingCheck documentLimits t 1024 ≡ check.Pass → length (canonicalText t) ≤ 1024
 unfolding writingCheck
 fine-short t e =

@@ -53,7 +53,7 @@ unfolding puts
 puts-append out at [] l = refl
 puts-append out at (b ∷ k) l = puts-append (set out at b) (counted at) k l
 
--- one behind the other
+-- one after the other
 pub then : {out : List ℕ} {at : ℕ} {k l : List ℕ} {o o' : List ℕ} {n n' : ℕ} → Puts out at k o n → Puts o n l o' n' → Puts out at (k ++ l) o' n'
 then {out = out} {at = at} {k = k} {l = l} e e' = record { is = e' .is ∙ ap (λ (p : List ℕ × ℕ). puts (p .0) (p .1) l) (e .is) ∙ sym (puts-append out at k l) }
 
@@ -61,7 +61,7 @@ then {out = out} {at = at} {k = k} {l = l} e e' = record { is = e' .is ∙ ap (�
 pub told : {out : List ℕ} {at : ℕ} {k l : List ℕ} {o : List ℕ} {n : ℕ} → l ≡ k → Puts out at k o n → Puts out at l o n
 told {out = out} {at = at} e p = record { is = p .is ∙ ap (puts out at) (sym e) }
 
--- what is still to be put behind a part
+-- what is still to be put after a part
 pub onward : {out : List ℕ} {at : ℕ} {k o : List ℕ} {n : ℕ} (l : List ℕ) → Puts out at k o n → puts out at (k ++ l) ≡ puts o n l
 onward {out = out} {at = at} {k = k} l e = puts-append out at k l ∙ ap (λ (p : List ℕ × ℕ). puts (p .0) (p .1) l) (sym (e .is))
 

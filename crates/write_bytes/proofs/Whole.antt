@@ -73,7 +73,7 @@ unfolding puts
 onward-at out at [] = le-refl at
 onward-at out at (b ∷ l) = le-trans (later at) (onward-at (set out at b) (counted at) l)
 
--- what was counted and has room stands behind it
+-- what was counted and has room stands after it
 pub placed-whole : (out : List ℕ) (at : ℕ) {l after : List ℕ} {n : ℕ} → Puts out at l after n → n < maxCounted → n ≤ length out
     → take n after ≡ take at out ++ l
 placed-whole out at {l = l} {after = after} {n = n} p few room =

@@ -1,4 +1,4 @@
--- Bytes put one behind the other into a lent buffer.
+-- Bytes put one after the other into a lent buffer.
 use Prim.Native.Nat.{ℕ, suc}
 use mathlib.Core.Path.{_≡_}
 use mathlib.Core.List.{List, [], _∷_}
@@ -10,11 +10,11 @@ use Rattle.forms.specs.Bytes.{if_then_else_}
 abbrev pub maxCounted : ℕ
 maxCounted = 4294967295
 
--- the place behind one byte more
+-- the place after one byte more
 unfoldable pub counted : ℕ → ℕ
 counted at = if ltb at maxCounted then suc at else at
 
--- the buffer and the next place behind some bytes; past the buffer's end none is kept
+-- the buffer and the next place after some bytes; past the buffer's end none is kept
 unfoldable pub puts : List ℕ → ℕ → List ℕ → List ℕ × ℕ
 puts out at [] = (out, at)
 puts out at (b ∷ l) = puts (set out at b) (counted at) l

@@ -1,4 +1,4 @@
-// Bytes put one behind the other into a lent buffer. A byte past its end is counted and not kept, so one pass both measures and writes.
+// Bytes put one after the other into a lent buffer. A byte past its end is counted and not kept, so one pass both measures and writes.
 pub mod limits;
 
 ghost use mathlib.Core.List.{[], _∷_};
@@ -12,7 +12,7 @@ use crate::limits::at_most;
 // So many bytes are counted: no sum wraps, whatever is put.
 pub const COUNTED: usize = 4294967295;
 
-// The place behind one byte more.
+// The place after one byte more.
 fn next_place(at: usize) -> usize
     ensures { λ r. ⌜ r ≡ counted at ⌝ }
 {

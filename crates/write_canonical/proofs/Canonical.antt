@@ -1,4 +1,4 @@
--- The text of a whole table: its entries, one behind the other.
+-- The text of a whole table: its options, one after the other.
 use mathlib.Core.Path.{_≡_, ap, _∙_}
 use mathlib.Core.List.{List, _++_, append-assoc}
 use Prim.Native.Nat.{ℕ}

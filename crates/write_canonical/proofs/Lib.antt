@@ -1,2 +1,2 @@
--- How the parts of house text go together.
+-- How the parts of canonical text go together.
 pub mod Canonical

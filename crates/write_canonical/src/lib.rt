@@ -1,4 +1,4 @@
-// House text of a table, put into a lent buffer: its entries between the opening and the end.
+// Canonical text of a table, put into a lent buffer: its options between the opening and the end.
 ghost use Rattle.definitions.specs.Canonical.{canonicalText};
 ghost use Rattle.write_bytes.specs.Puts.{Puts};
 use definitions::table::Table;
@@ -9,7 +9,7 @@ use write_options::put_name;
 use write_options::put_protocol;
 use write_options::put_table_items;
 
-// The house text at the front of the buffer; the answer is its length.
+// The canonical text at the front of the buffer; the answer is its length.
 pub fn put_canonical(out: &mut [u8], t: Table) -> usize
     ensures { λ r. ⌜ Puts (now (out .entry)) 0 (canonicalText t) (now (out .exit)) r ⌝ }
 {

@@ -1,2 +1,2 @@
--- What a keyword stands for among a table's entries.
+-- What a keyword stands for among a table's options.
 pub mod Options

@@ -1,4 +1,4 @@
--- Flow and context as entries are the options as keywords: by cases, each computes.
+-- Flow and context as options are the options as keywords: by cases, each computes.
 use mathlib.Core.Path.{_≡_, refl}
 use Rattle.definitions.specs.declared.table.Flow.{Flow}
 use Rattle.definitions.specs.declared.table.Flow.the-variants as flow

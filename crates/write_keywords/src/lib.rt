@@ -1,4 +1,4 @@
-// Keywords, as house text has them; what it leaves out is empty. They stand in one table, and one function puts any of them.
+// Keywords, as canonical text has them; what it leaves out is empty. They stand in one table, and one function puts any of them.
 ghost use Rattle.definitions.specs.Canonical.{sideName, numberName, orderText, fieldName, operatorText, sizeFieldText, referenceText};
 ghost use Rattle.write_keywords.specs.Keywords.{Listed, spelled, Spells, flowKeyword, contextKeyword};
 ghost use Rattle.write_bytes.specs.Puts.{Puts};
@@ -13,7 +13,7 @@ use definitions::table::Side;
 use definitions::table::SizeField;
 use write_bytes::put_word;
 
-// A keyword: where its bytes start in the table, and the place behind them.
+// A keyword: where its bytes start in the table, and the place after them.
 pub struct Keyword(pub usize, pub usize);
 
 // Any keyword.
@@ -103,7 +103,7 @@ pub fn operator_keyword(o: Operator) -> Keyword
     }
 }
 
-// The part whose size is tested, behind a comma; the payload is left out.
+// The part whose size is tested, after a comma; the payload is left out.
 pub fn size_field_keyword(f: SizeField) -> Keyword
     ensures { λ k. ⌜ Spells k (sizeFieldText f) ⌝ }
 {
@@ -115,7 +115,7 @@ pub fn size_field_keyword(f: SizeField) -> Keyword
     }
 }
 
-// What a place is counted from, behind a comma; the last match is left out.
+// What a place is counted from, after a comma; the last match is left out.
 pub fn reference_keyword(r: Reference) -> Keyword
     ensures { λ k. ⌜ Spells k (referenceText r) ⌝ }
 {

@@ -58,7 +58,7 @@ pub items-end : (l : List Slot) (n i : ℕ) (b : List ℕ) → n ≤ i → optio
 unfolding slotOptions optionsText
 items-end l n i b h = rw (first-out l n i h)
 
--- the pattern bytes behind an item
+-- the pattern bytes after an item
 pub after-is : (k : Kind) (bytes : List ℕ) (from : ℕ) → from ≤ length bytes
     → (afterItem k (drop from bytes) ≡ drop (placeAfter k from (length bytes)) bytes) × (placeAfter k from (length bytes) ≤ length bytes)
 after-is unused bytes from h = (refl, h)

@@ -1,4 +1,4 @@
-// House text of a table's entries, option by option: any table, whatever numbers stand in it.
+// Canonical text of a table's options, option by option: any table, whatever numbers stand in it.
 ghost use mathlib.Core.Path.{_≡_};
 ghost use Prim.Native.Nat.{_≤_};
 ghost use lib.ListN.{take};
@@ -75,7 +75,7 @@ fn place_after(slot: Slot, from: usize, len: usize) -> usize
     from + at_most(p.len, len - from)
 }
 
-// The options of the first `count` items, whose pattern bytes stand one behind the other.
+// The options of the first `count` items, whose pattern bytes stand one after the other.
 fn put_items(out: &mut [u8], at: usize, items: [Slot; ITEMS], count: usize, bytes: &[u8]) -> usize
     ensures { λ r. ⌜ Puts (now (out .entry)) at (optionsText (slotOptions (take count items) (now (bytes .entry)))) (now (out .exit)) r ⌝ }
 {

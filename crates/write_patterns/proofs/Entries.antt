@@ -1,4 +1,4 @@
--- The text of entries, one behind the other, and of a pattern's.
+-- The text of options, one after the other, and of a pattern's.
 use mathlib.Core.Path.{_≡_, refl, sym, ap, _∙_}
 use mathlib.Core.Bool.{Bool, true, false}
 use mathlib.Core.List.{List, [], _∷_, _++_, append-nil, append-assoc}

@@ -1,4 +1,4 @@
--- A signed number of 32 bits: how far it is from 0, and its digits behind its sign.
+-- A signed number of 32 bits: how far it is from 0, and its digits after its sign.
 use mathlib.Core.Path.{_≡_, refl, subst}
 use mathlib.Core.Bool.{true, false, true≢false}
 use mathlib.Core.List.{_++_}

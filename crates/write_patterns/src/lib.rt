@@ -1,4 +1,4 @@
-// House text of a pattern and its modifiers.
+// Canonical text of a pattern and its modifiers.
 ghost use mathlib.Core.Path.{_≡_};
 ghost use lib.IntN.{natAbs};
 ghost use Rattle.definitions.specs.OptionValues as entry;
@@ -95,7 +95,7 @@ fn put_quoted(out: &mut [u8], at: usize, negated: bool, b: &[u8]) -> usize
     put(out, a5, b';')
 }
 
-// A pattern, whose bytes stand at the front of `b`, and behind it context, no_case, distance and within.
+// A pattern, whose bytes stand at the front of `b`, and after it context, no_case, distance and within.
 pub fn put_pattern(out: &mut [u8], at: usize, p: Pattern, b: &[u8]) -> usize
     ensures { λ r. ⌜ Puts (now (out .entry)) at (optionsText (patternOptions p (now (b .entry)))) (now (out .exit)) r ⌝ }
 {

@@ -1,4 +1,4 @@
-// House text of the tests, each an option with its value.
+// Canonical text of the tests, each an option with its value.
 mod addresses;
 
 ghost use mathlib.Core.List.{[]};

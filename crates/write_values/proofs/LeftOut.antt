@@ -1,4 +1,4 @@
--- What house text leaves out: the prefix /32, and a full mask.
+-- What canonical text leaves out: the prefix /32, and a full mask.
 use mathlib.Core.Path.{_≡_, sym, _∙_}
 use mathlib.Core.List.{[], _++_, append-nil}
 use Prim.Native.Nat.{ℕ}

@@ -1,4 +1,4 @@
-// Values of tests as house text has them: an address and a mask. What it leaves out is empty.
+// Values of tests as canonical text has them: an address and a mask. What it leaves out is empty.
 ghost use Rattle.definitions.specs.Canonical.{octets, addressText};
 ghost use Rattle.write_values.specs.Parts.{maskText};
 ghost use Rattle.write_bytes.specs.Puts.{Puts};
@@ -23,7 +23,7 @@ fn put_octets(out: &mut [u8], at: usize, n: u32) -> usize
     put_decimal(out, a6, (n % 256) as u64)
 }
 
-// An address in dots, and its prefix behind a slash; the prefix /32 is left out.
+// An address in dots, and its prefix after a slash; the prefix /32 is left out.
 pub fn put_address(out: &mut [u8], at: usize, a: Address) -> usize
     ensures { λ r. ⌜ Puts (now (out .entry)) at (addressText a) (now (out .exit)) r ⌝ }
 {
@@ -35,7 +35,7 @@ pub fn put_address(out: &mut [u8], at: usize, a: Address) -> usize
     put_decimal(out, a2, a.prefix as u64)
 }
 
-// The mask of a field test behind `&`; a full mask is left out.
+// The mask of a field test after `&`; a full mask is left out.
 pub fn put_mask(out: &mut [u8], at: usize, t: FieldTest) -> usize
     ensures { λ r. ⌜ Puts (now (out .entry)) at (maskText t) (now (out .exit)) r ⌝ }
 {

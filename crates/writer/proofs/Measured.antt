@@ -23,11 +23,11 @@ use Rattle.write_bytes.specs.Puts.{maxCounted, Puts}
 use Rattle.write_bytes.specs.Clipped.{atMost}
 use Rattle.write_bytes.proofs.Whole.{most-of, most-full, puts-count, puts-buffer, placed-whole}
 
--- a house text is measured: its length, or the most that is counted
+-- a canonical text is measured: its length, or the most that is counted
 abbrev Measures : Table → ℕ → Type 0
 Measures t n = n ≡ atMost (length (canonicalText t)) maxCounted
 
--- put from the start on, a house text is counted, whatever the buffer holds
+-- put from the start on, a canonical text is counted, whatever the buffer holds
 pub measures : (t : Table) {out after : List ℕ} {n : ℕ} → Puts out 0 (canonicalText t) after n → Measures t n
 measures t {out = out} p =
     ap (λ (q : List ℕ × ℕ). q .1) (p .is)
@@ -93,7 +93,7 @@ module _ (t : Table) where
             let w = canonical-written documentLimits t out w fits room in
             (sym (w .0), sym (w .1))
 
-        -- the house text was put from the start on
+        -- the canonical text was put from the start on
         pub written : r ≤ length out → {after : List ℕ} {n : ℕ} → Puts out 0 (canonicalText t) after n
             → (Written n ≡ writes documentLimits t out) × (after ≡ bufferAfter documentLimits t out)
         written g p =

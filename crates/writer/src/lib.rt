@@ -1,4 +1,4 @@
-// Writing a table as house text into a lent buffer.
+// Writing a table as canonical text into a lent buffer.
 ghost use mathlib.Core.Path.{_≡_};
 ghost use Rattle.definitions.specs.Limits.{documentLimits};
 ghost use Rattle.definitions.specs.Writing.{writes, bufferAfter};
@@ -30,8 +30,8 @@ fn write_measured(t: Table, room: &mut [u8; CANONICAL_BYTES], out: &mut [u8]) ->
     Writing::Written(len)
 }
 
-// THE WRITER. Any table and any buffer: 20, 21 and 22 in this order, each leaving the buffer as it was; else the house text at its front, the
-// bytes behind it untouched, and the text's length.
+// THE WRITER. Any table and any buffer: 20, 21 and 22 in this order, each leaving the buffer as it was; else the canonical text at its front, the
+// bytes after it untouched, and the text's length.
 pub fn write(t: Table, out: &mut [u8]) -> Writing
     ensures { λ r. ⌜ r ≡ writes documentLimits t (now (out .entry)) ⌝ }
     ensures { λ _. ⌜ now (out .exit) ≡ bufferAfter documentLimits t (now (out .entry)) ⌝ }

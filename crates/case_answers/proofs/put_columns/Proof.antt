@@ -1,4 +1,4 @@
--- The ask, then the columns of the packet: `bad` where one is of another form.
+-- The query, then the columns of the packet: `bad` where one is of another form.
 use mathlib.Core.Path.{refl, sym, _∙_}
 use borrow.Author.Tests.{not-true, not-false}
 use Rattle.write_bytes.proofs.Putting.{told, same-length as same}

@@ -1,4 +1,4 @@
--- The start alone passes, or what is left behind it is compared with the length.
+-- The start alone passes, or what is left after it is compared with the length.
 use Rattle.field_parts.proofs.Spans.{start-past, end-past}
 use Rattle.field_parts.proofs.beyond.Statement.{statement}
 use Rattle.field_parts.proofs.beyond.Tie as tie

@@ -1,4 +1,4 @@
--- Byte by byte: so many bytes of the part stand behind those that were kept.
+-- Byte by byte: so many bytes of the part stand after those that were kept.
 use Prim.Native.Nat.{_-_}
 use native.Mathlib.Omega.{arith}
 use Rattle.line_stream.proofs.Keeping.{Copied, copied-none, copied-within, copied-room, copied-one, copied-all, keeps-length}

@@ -1,4 +1,4 @@
--- Each return rewrites with what the test of the table says; behind it the packet's own answer is the definition's.
+-- Each return rewrites with what the test of the table says; after it the packet's own answer is the definition's.
 use mathlib.Core.Path.{sym, _∙_}
 use borrow.Author.Tests.{not-true, not-false}
 use Rattle.definitions.specs.Packet.{packetAnswer}

@@ -1,4 +1,4 @@
--- The buffer with the asks so far answered, and the others still to come, is what is written in the end.
+-- The buffer with the queries so far answered, and the others still to come, is what is written in the end.
 use mathlib.Core.Path.{_≡_, refl, _∙_}
 use Prim.Native.Nat.{_-_, _≤_}
 use native.Mathlib.Omega.{arith}

@@ -1,4 +1,4 @@
--- A refusal is the first due of 20 and 30 to 34; else the first goes by facts and payload.
+-- A refusal is the first due of 20 and 30 to 34; else the first goes by header fields and payload.
 use mathlib.Core.Path.{_∙_}
 use Rattle.match_placements.proofs.CheckedInput.{seen-checked, searchable}
 use Rattle.matcher.proofs.Answering.{first-refused, first-here}

@@ -1,4 +1,4 @@
--- A refusal is the first due of 20 and 30 to 34; else the verdict is what the first by facts and payload comes to.
+-- A refusal is the first due of 20 and 30 to 34; else the verdict is what the first by header fields and payload comes to.
 use mathlib.Core.Path.{ap, _∙_}
 use Rattle.definitions.specs.declared.answers.Answer.{Answer}
 use Rattle.match_placements.proofs.CheckedInput.{seen-checked, searchable}

@@ -1,4 +1,4 @@
--- What is left of a list behind so many elements is the difference of the lengths.
+-- What is left of a list after so many elements is the difference of the lengths.
 use Rattle.definitions.specs.Packet.{headerLength}
 use lib.ListN.{length-drop}
 use native.Mathlib.Omega.{arith}

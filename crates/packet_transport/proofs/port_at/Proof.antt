@@ -1,4 +1,4 @@
--- Each return rewrites with the test of the protocol; behind the header is so many bytes later in the datagram.
+-- Each return rewrites with the test of the protocol; after the header is so many bytes later in the datagram.
 use native.Mathlib.Omega.{arith}
 use Rattle.definitions.specs.Packet.{headerLength}
 use Rattle.packet_header.proofs.Widths.{be-drop}

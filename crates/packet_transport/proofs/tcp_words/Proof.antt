@@ -1,4 +1,4 @@
--- Behind the header is so many bytes later in the datagram.
+-- After the header is so many bytes later in the datagram.
 use Rattle.definitions.specs.Packet.{headerLength}
 use Rattle.packet_header.proofs.Widths.{be-drop}
 use native.Mathlib.Omega.{arith}

@@ -1,4 +1,4 @@
--- Each `return` is the definition's refusal by the tests that led there; behind all of them it reads the options.
+-- Each `return` is the definition's refusal by the tests that led there; after all of them it reads the options.
 use mathlib.Core.Path.{_≡_, sym, ap, _∙_}
 use Prim.Native.Nat.{ℕ, _≤_}
 use native.Mathlib.Omega.{arith}

@@ -1,4 +1,4 @@
--- Each row is computed from the table; behind the match only the last row's number is left.
+-- Each row is computed from the table; after the match only the last row's number is left.
 use mathlib.Core.Path.{_≡_, refl}
 use native.Mathlib.Omega.{arith}
 use Rattle.definitions.specs.Options.{optionTable}

@@ -1,4 +1,4 @@
--- What is still to come from the loop's place on is what is to come from the start: spaces are passed, and each turn is the definition's.
+-- What is still to come from the loop's place on is what is to come from the start: spaces are passed, and each step is the definition's.
 use mathlib.Core.Path.{_≡_, refl, sym, ap, _∙_, subst}
 use native.Mathlib.Omega.{arith}
 use mathlib.Core.List.{List, []}

@@ -1,4 +1,4 @@
--- A table is answered with its house text, a refusal with its number and place, as the definition does by the outcome.
+-- A table is answered with its canonical text, a refusal with its number and place, as the definition does by the outcome.
 use Rattle.text_answers.proofs.Answers.{read-line, refused-line}
 use Rattle.write_bytes.proofs.Putting.{told}
 use borrow.Author.Needs.{needs}

@@ -1,4 +1,4 @@
--- Item by item: what is still to be put are the entries of the items from the loop's place on, with their pattern bytes.
+-- Item by item: what is still to be put are the options of the items from the loop's place on, with their pattern bytes.
 use mathlib.Core.Path.{_≡_, refl, sym, ap, _∙_}
 use mathlib.Core.List.{List, []}
 use Prim.Native.Nat.{ℕ, _+_, _-_, _≤_}

@@ -1,4 +1,4 @@
--- A refusal is the first due of 20 and 30 to 34; else what is still due and the list go by facts and payload.
+-- A refusal is the first due of 20 and 30 to 34; else what is still due and the list go by header fields and payload.
 use Rattle.write_bytes.proofs.Putting.{told, same-length as same}
 use Rattle.match_placements.proofs.CheckedInput.{refused-check, seen-checked, searchable, check-here, list-here}
 use Rattle.case_lists.proofs.lists.put_list.Statement.{statement}

@@ -1,4 +1,4 @@
--- Three stores, and the starts behind them.
+-- Three stores, and the starts after them.
 use mathlib.Core.Path.{_≡_, sym, ap, _∙_}
 use native.Mathlib.Omega.{arith}
 use mathlib.Core.List.{List, _∷_, _++_, map}

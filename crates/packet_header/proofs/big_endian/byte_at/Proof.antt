@@ -1,4 +1,4 @@
--- Behind the end `getD` gives 0.
+-- After the end `getD` gives 0.
 use mathlib.Core.Path.{sym}
 use lib.ListN.{List·getD-eq-default}
 use borrow.Author.Needs.{needs}

@@ -1,4 +1,4 @@
--- The table made anew computes to the table of no entries, with what `no_slot` ensures.
+-- The table made anew computes to the table of no options, with what `no_slot` ensures.
 use Rattle.definitions.specs.Tables.{nameIn, protocolIn, flowIn, bytesIn, slotsIn, tableOf}
 use Rattle.read_insert.proofs.checking.refused.Statement.{statement}
 use Rattle.read_insert.proofs.checking.refused.Tie as tie

@@ -1,4 +1,4 @@
--- The bar and spaces before the pairs and the bar behind them store nothing.
+-- The bar and spaces before the pairs and the bar after them store nothing.
 use mathlib.Core.Path.{refl}
 use Rattle.read_stored.proofs.Rooms.{ready-on, stored-after, stored-before}
 use borrow.Author.Needs.{needs}

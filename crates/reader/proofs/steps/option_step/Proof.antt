@@ -1,4 +1,4 @@
--- The option is unlisted or refused as the definition's is; else it is read, entered, and the definition goes on behind it (`stepped`).
+-- The option is unlisted or refused as the definition's is; else it is read, inserted, and the definition goes on after it (`stepped`).
 use mathlib.Core.Path.{sym, ap, _∙_, subst}
 use mathlib.Core.List.{List}
 use Prim.Native.Nat.{ℕ}

@@ -1,4 +1,4 @@
--- The loop keeps the sum of the patterns counted and those to come (`slot-on`); behind the last item nothing is to come.
+-- The loop keeps the sum of the patterns counted and those to come (`slot-on`); after the last item nothing is to come.
 use mathlib.Core.Path.{_≡_, sym, _∙_}
 use Prim.Native.Nat.{_+_, _-_, _≤_}
 use native.Mathlib.Omega.{arith}
