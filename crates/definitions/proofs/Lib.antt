@@ -2,6 +2,6 @@
 pub mod Starred
 pub mod LeftOut
 pub mod Tables
-pub mod Fair
+pub mod OneByteDecides
 pub mod Sample
 pub mod OtherItems

@@ -1,4 +1,4 @@
--- Canonical text. Section "House text": the options of a table in their order, and the text of each.
+-- Canonical text, which document 01 calls "house text". Section "House text": the options of a table in their order, and the text of each.
 use Prim.Native.Nat.{ℕ, zero, suc, _+_, _/_, _%_}
 use mathlib.Core.Bool.{Bool, true, false, not}
 use mathlib.Core.List.{List, [], _∷_, _++_}

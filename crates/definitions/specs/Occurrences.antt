@@ -53,7 +53,7 @@ latest ms (Modified m ∷ es) = latest (m ∷ ms) es
 abbrev pub once : List OptionValue → OptionValue → Check
 once es e = refuseIf (any? (sameKind e) es) refusal.Repeated Pass
 
--- what is due for an option after the options es: 8, 9 or 11
+-- whether an option may stand after the options es, or 8, 9 or 11
 unfoldable pub occurrenceCheck : List OptionValue → OptionValue → Check
 occurrenceCheck es (Name n) = once es (Name n)
 occurrenceCheck es (Protocol p) = once es (Protocol p)

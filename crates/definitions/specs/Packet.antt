@@ -1,4 +1,4 @@
--- One IPv4 packet: datagram, header header fields, payload, and refusals 30 to 34. Sections "Packet and fields" and "Numbers of refusal".
+-- One IPv4 packet: datagram, header fields, payload, and refusals 30 to 34. Sections "Packet and fields" and "Numbers of refusal".
 -- Headers are those of RFC 791, 9293, 768 and 792. Checksums and the UDP length are not verified.
 use Prim.Native.Nat.{ℕ, zero, suc, _+_, _*_, _/_, _%_}
 use mathlib.Core.Bool.{Bool, not, _&&_, _||_}

@@ -1,4 +1,4 @@
--- The model of a list of queries. Section "Meaning", its last paragraph.
+-- The model of a list of queries, which document 01 calls "asks". Section "Meaning", its last paragraph.
 use mathlib.Core.List.{List, [], _∷_, map}
 use Prim.Native.Nat.{ℕ}
 use Rattle.definitions.specs.declared.table.Table.{Table}

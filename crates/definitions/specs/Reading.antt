@@ -23,7 +23,7 @@ use Rattle.definitions.specs.Occurrences.{isPattern, occurrenceCheck, mi
 
 -- ---- options left to right, the first bad one deciding, with its lowest number among 4 to 9 and 11
 
--- an option and the first dash of its option
+-- an option's value, and the option's first dash
 pub record Located : Type 0 where
   pub dash : ℕ
   pub value : OptionValue

@@ -43,7 +43,7 @@ flowHolds flow.FromClient Server = false
 flowHolds flow.FromServer Client = false
 flowHolds flow.FromServer Server = true
 
--- ---- tests of the header, by the header fields of the datagram
+-- ---- tests of the header
 
 -- Address: equal in the first n bits to one in the list; `!` turns the whole answer
 abbrev pub packetAddress : PacketHeader → Side → ℕ

@@ -29,7 +29,7 @@ pub enum Refusal {
     EarlierCount,
 }
 
-// Nothing is due, or a refusal.
+// A check: it passes, or a refusal.
 pub enum Check {
     Pass,
     Refuse(Refusal),

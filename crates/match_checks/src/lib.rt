@@ -1,4 +1,4 @@
-// What is due before any field or item is looked at: refusals 20 and 30 to 34, in this order.
+// What is checked before any field or item is looked at: refusals 20 and 30 to 34, in this order.
 ghost use mathlib.Core.Path.{_≡_};
 ghost use Rattle.match_checks.specs.InputChecks.{inputHeader};
 use definitions::answers::PacketAnswer;

@@ -1,3 +1,3 @@
 -- Bytes at a place, and the places of a list of starts.
-pub mod Standing
+pub mod BytesAtPlace
 pub mod Listing

@@ -18,7 +18,7 @@ use Rattle.read_state.specs.State.{lastPlace}
 use Rattle.read_insert_modifiers.specs.Modifying.{slotWith, patternOf}
 use Rattle.list_laws.proofs.Padded.{padded-one, padded-set, padded-at, padded-full}
 use Rattle.read_insert.proofs.LastPattern.{LastIs, last-is}
-use Rattle.read_insert.proofs.Alike.{slots-same, slots-new}
+use Rattle.read_insert.proofs.Agreement.{slots-same, slots-new}
 
 abbrev pub itemsOf : List OptionValue → List Slot
 itemsOf es = padded maxItems noSlot (slotsIn es)

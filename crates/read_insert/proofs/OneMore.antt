@@ -17,7 +17,7 @@ use Rattle.definitions.specs.Reading.{Located, optionValuesOf}
 use Rattle.read_state.specs.declared.State.{State}
 use Rattle.read_state.specs.State.{dashesOf, lastPlace, stateFrom, locatedAlso, NameAt, Holds}
 use Rattle.read_state.specs.Sound.{Sound}
-use Rattle.read_insert.proofs.After.{keep-append, slots-length, last-none}
+use Rattle.read_insert.proofs.OptionEffects.{keep-append, slots-length, last-none}
 use Rattle.read_insert.proofs.LastPattern.{last-is}
 use Rattle.list_laws.proofs.Padded.{padded-full}
 use Rattle.read_insert.proofs.Items.{itemsOf}

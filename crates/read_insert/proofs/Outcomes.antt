@@ -34,8 +34,8 @@ use Rattle.read_state.specs.Sound.{refusedIn, itemAlso}
 use Rattle.read_insert.specs.Inserting.{withName, withProtocol, withFlow, nameInserted, protocolInserted, flowInserted}
 use Rattle.read_insert_counted.specs.Counting.{withTest, withNewPattern, testInserted, addressesInserted, patternInserted}
 use Rattle.read_insert_modifiers.specs.Modifying.{withGiven, modifierBy, modifierInserted, already, givenAlso}
-use Rattle.read_insert.proofs.After.{slots-length, name-after, name-first}
-use Rattle.read_insert.proofs.Alike.{count-same, count-new, bytes-same}
+use Rattle.read_insert.proofs.OptionEffects.{slots-length, name-after, name-first}
+use Rattle.read_insert.proofs.Agreement.{count-same, count-new, bytes-same}
 use Rattle.read_insert.proofs.Steps.{bytes-also, name-step, protocol-step, flow-step, test-step, pattern-step, modifier-step}
 use Rattle.list_laws.proofs.Padded.{padded-more}
 use Rattle.read_insert.proofs.Items.{itemsOf, items-same, items-new, items-changed}

@@ -1,4 +1,4 @@
--- The state that options make, with the pattern bytes and items beside it, and what the entries promise of it.
+-- The state that options make, with the pattern bytes and items beside it, and what inserting promises of it.
 use Prim.Native.Nat.{ℕ, suc, _+_, _≤_}
 use mathlib.Core.Path.{_≡_}
 use mathlib.Core.Bool.{Bool}
@@ -131,7 +131,7 @@ pub record Beside (s : List ℕ) (st : State) (v : Value) (list : List Address) 
   pub fits : st .used + length b ≤ documentLimits .room
   pub apart : Apart s v al b
 
--- ---- the entries' contracts
+-- ---- the contracts of inserting
 
 -- what one option more stands after and brings: some options make the state, `last` is the slot of the last pattern among them, and some addresses and
 -- pattern bytes stand beside the value

@@ -22,7 +22,7 @@ use Rattle.scan_cursors.proofs.Onward.{ahead-more}
 use Rattle.scan_pieces.proofs.AtPlace.{begins-in, byte-begun}
 use Rattle.read_stored.specs.Storing.{spacedPair, hexPairs, element, Ready, Stores}
 use Rattle.read_stored.proofs.Halting.{halted}
-use Rattle.read_stored.proofs.Rooms.{appended-none, Writing, Writes, writes-ready, writes-on, writes-last, writes-stop}
+use Rattle.read_stored.proofs.Appended.{appended-none, Writing, Writes, writes-ready, writes-on, writes-last, writes-stop}
 
 -- ---- the pairs of a block
 

@@ -3,6 +3,6 @@ pub mod Halting
 pub mod Turns
 pub mod Quotes
 pub mod Hexes
-pub mod Rooms
+pub mod Appended
 pub mod Bytes
 pub mod Commas

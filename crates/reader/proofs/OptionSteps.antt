@@ -31,7 +31,7 @@ use Rattle.read_state.specs.declared.State.{State}
 use Rattle.read_state.specs.State.{Holds, lastSlot, Apart, After, locatedAlso, stateFrom, stateOf}
 use Rattle.read_by_name.specs.declared.parsed.ParsedOption.{ParsedOption}
 use Rattle.read_by_name.specs.Parsing.{Parses}
-use Rattle.read_insert.proofs.After.{bytes-append}
+use Rattle.read_insert.proofs.OptionEffects.{bytes-append}
 use Rattle.read_insert.proofs.OneMore.{options-also, used-is}
 use Rattle.reader.specs.Stepping.{stepBy, StepsTo}
 

@@ -20,7 +20,7 @@ use Rattle.definitions.specs.Numbers.{number}
 use Rattle.definitions.specs.Forms.{dotted, octet, address, addresses}
 use Rattle.definitions.specs.Canonical.{decimal, textIf, addressText, addressesText, bracketed}
 use Rattle.definitions.specs.WellFormed.{addressFits}
-use Rattle.roundtrip.proofs.Alls.{halves, all-head, all-tail}
+use Rattle.roundtrip.proofs.AllTests.{halves, all-head, all-tail}
 use Rattle.roundtrip.proofs.Decimals.{number-of}
 use Rattle.roundtrip.proofs.Making.{Of, retexts, revalues, tells, makes, skips, befores, joins, lefts, rights, stars, signs}
 

@@ -14,7 +14,7 @@ use Rattle.definitions.specs.Lists.{all?}
 use Rattle.definitions.specs.Numbers.{hexDigits, digitValue}
 use Rattle.definitions.specs.Forms.{block, plainBytes, concatenated, patternBytes}
 use Rattle.definitions.specs.Canonical.{hexDigit, patternText}
-use Rattle.roundtrip.proofs.Alls.{all-head, all-tail}
+use Rattle.roundtrip.proofs.AllTests.{all-head, all-tail}
 use Rattle.roundtrip.proofs.Fits.{isByte}
 use Rattle.roundtrip.proofs.Making.{Of, revalues, is-byte, makes, skips, befores, joins, lefts, rights, stars, somes, signs}
 use Rattle.roundtrip.proofs.Values.{spacedPair, part}

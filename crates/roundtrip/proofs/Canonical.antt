@@ -22,17 +22,17 @@ use Rattle.definitions.specs.Options.{printable, opening}
 use Rattle.definitions.specs.Grammar.{OptionsText, close, space, Derives}
 use Rattle.definitions.specs.WellFormed.{Shaped, Readable, wellFormed}
 use Rattle.definitions.specs.Canonical.{optionText, optionsText, canonicalOptions, canonicalText}
-use Rattle.syntax.proofs.Counting.{options-tests, patterns-counted}
+use Rattle.syntax.proofs.UsablePatterns.{options-tests, patterns-counted}
 use Rattle.syntax.proofs.Exact.{syntax-exactly, one-table}
-use Rattle.roundtrip.proofs.Alls.{halves, all-head, all-tail, all-append, all-so}
-use Rattle.roundtrip.proofs.Back.{canonical-slots, canonical-table}
+use Rattle.roundtrip.proofs.AllTests.{halves, all-head, all-tail, all-append, all-so}
+use Rattle.roundtrip.proofs.RebuiltTable.{canonical-slots, canonical-table}
 use Rattle.roundtrip.proofs.Counts.{slots-counted, fewAddresses}
 use Rattle.roundtrip.proofs.Fits.{optionFits, optionTold}
 use Rattle.roundtrip.proofs.Parts.{formed}
 use Rattle.roundtrip.proofs.Printed.{options-printed}
 use Rattle.roundtrip.proofs.Read.{read-formed}
-use Rattle.roundtrip.proofs.Stands.{canonical-stands}
-use Rattle.roundtrip.proofs.Told.{good, canonical-good}
+use Rattle.roundtrip.proofs.MayStand.{canonical-stands}
+use Rattle.roundtrip.proofs.CanonicalFits.{good, canonical-good}
 use Rattle.roundtrip.proofs.Written.{option-written}
 
 -- ---- the options

@@ -13,7 +13,7 @@ use Rattle.forms.proofs.Bools.{by-cases, both-left, both-right}
 use Rattle.forms.proofs.Sound.{never}
 use Rattle.definitions.specs.Lists.{all?}
 use Rattle.definitions.specs.Options.{printable}
-use Rattle.roundtrip.proofs.Alls.{both, all-none, all-more, all-append}
+use Rattle.roundtrip.proofs.AllTests.{both, all-none, all-more, all-append}
 
 pub record Inside (low high b : ℕ) : Type 0 where
   pub above : low ≤ b

@@ -21,7 +21,7 @@ use Rattle.definitions.specs.Tables.{slotsIn}
 use Rattle.definitions.specs.Refusals.{refuseIf}
 use Rattle.definitions.specs.Occurrences.{isTest, isPattern, occurrenceCheck}
 use Rattle.definitions.specs.Grammar.{Occurrences, none}
-use Rattle.roundtrip.proofs.Alls.{all-none, all-more}
+use Rattle.roundtrip.proofs.AllTests.{all-none, all-more}
 
 -- ---- counts of lists put together
 

@@ -14,7 +14,7 @@ use Rattle.forms.proofs.Bools.{by-cases}
 use Rattle.definitions.specs.Lists.{all?}
 use Rattle.definitions.specs.Numbers.{decimalDigits, digitValue, valueOf, number, eitherBase, numeral}
 use Rattle.definitions.specs.Canonical.{digitsOf, decimal}
-use Rattle.roundtrip.proofs.Alls.{all-none, all-more, all-append}
+use Rattle.roundtrip.proofs.AllTests.{all-none, all-more, all-append}
 use Rattle.roundtrip.proofs.Making.{Of, retexts, revalues, makes, bounds, skips, joins, lefts, rights, stars, signs, is-byte, byte-row, some-bytes}
 
 -- ---- digits

@@ -24,8 +24,8 @@ use Rattle.definitions.specs.References.{usableRun, usableIn}
 use Rattle.definitions.specs.Occurrences.{sameKind, isPattern, missing}
 use Rattle.definitions.specs.Grammar.{OptionsText, close, space, Occurrences}
 use Rattle.definitions.specs.WellFormed.{isZero, nameFits, slotUnused, itemsFit, bytesOf, bytesFit, wellFormed}
-use Rattle.syntax.proofs.Counting.{testOnly, patterns-counted}
-use Rattle.roundtrip.proofs.Alls.{both, all-none, all-more, all-head, all-tail, all-replicate}
+use Rattle.syntax.proofs.UsablePatterns.{testOnly, patterns-counted}
+use Rattle.roundtrip.proofs.AllTests.{both, all-none, all-more, all-head, all-tail, all-replicate}
 use Rattle.roundtrip.proofs.Counts.{neither, few-tests, few-patterns, few-addresses, slots-counted}
 use Rattle.roundtrip.proofs.Fits.{optionFits, patternLength}
 use Rattle.roundtrip.proofs.Rows.{option-fits}

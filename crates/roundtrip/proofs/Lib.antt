@@ -1,7 +1,7 @@
 -- What is written reads as the same table, and what is read can be written.
-pub mod Alls
+pub mod AllTests
 pub mod Classes
-pub mod Every
+pub mod EveryValue
 pub mod Fits
 pub mod Values
 pub mod Rows
@@ -13,15 +13,15 @@ pub mod Read
 pub mod Parts
 pub mod Refilled
 pub mod Patterned
-pub mod Back
+pub mod RebuiltTable
 pub mod Making
 pub mod Decimals
 pub mod Addressed
 pub mod Blocks
 pub mod Listed
 pub mod Written
-pub mod Stands
-pub mod Told
+pub mod MayStand
+pub mod CanonicalFits
 pub mod Printed
 pub mod Canonical
 pub mod Buffer

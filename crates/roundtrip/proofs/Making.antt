@@ -15,7 +15,7 @@ use Rattle.forms.proofs.Bools.{by-cases}
 use Rattle.definitions.specs.Lists.{all?}
 use Rattle.definitions.specs.OptionValues.{OptionValue}
 use Rattle.definitions.specs.Forms.{closed, valued}
-use Rattle.roundtrip.proofs.Alls.{both, all-head, all-tail}
+use Rattle.roundtrip.proofs.AllTests.{both, all-head, all-tail}
 
 -- the text x is of the form, within its bounds, with the value v
 pub record Of {A : Type 0} (f : Form A) (x : List ℕ) (v : A) : Type 0 where

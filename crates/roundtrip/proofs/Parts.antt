@@ -15,7 +15,7 @@ use Rattle.definitions.specs.Forms.{quotable}
 use Rattle.definitions.specs.Items.{patternsOf, slotsOf}
 use Rattle.definitions.specs.References.{usableRun}
 use Rattle.definitions.specs.WellFormed.{isZero, nameFits, slotFits, slotUnused, patternCount, itemsFit, bytesOf, bytesFit, wellFormed}
-use Rattle.roundtrip.proofs.Alls.{halves}
+use Rattle.roundtrip.proofs.AllTests.{halves}
 use Rattle.roundtrip.proofs.Fits.{isByte}
 
 pub record Formed (t : Table) : Type 0 where

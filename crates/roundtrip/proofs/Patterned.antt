@@ -17,7 +17,7 @@ use Rattle.definitions.specs.Tables.{flowIn, bare, modified, slotsIn, bytesIn}
 use Rattle.definitions.specs.Lists.{all?}
 use Rattle.definitions.specs.Canonical.{contextOption, noCaseOption, distanceOption, withinOption}
 use Rattle.forms.proofs.Sound.{never}
-use Rattle.roundtrip.proofs.Alls.{all-none, all-more, all-head, all-tail, all-append}
+use Rattle.roundtrip.proofs.AllTests.{all-none, all-more, all-head, all-tail, all-append}
 
 -- the modifiers of a pattern, in canonical order
 abbrev pub modifierOptions : patterns.Pattern → List OptionValue

@@ -15,7 +15,7 @@ use Rattle.definitions.specs.OptionValues.{OptionValue}
 use Rattle.definitions.specs.Options.{Option, optionTable, printable}
 use Rattle.definitions.specs.Grammar.{OptionText, option, OptionsText, close, space}
 use Rattle.syntax.proofs.Rows.{allRows, each-row}
-use Rattle.roundtrip.proofs.Alls.{halves, all-none, all-more, all-head, all-tail, all-append}
+use Rattle.roundtrip.proofs.AllTests.{halves, all-none, all-more, all-head, all-tail, all-append}
 use Rattle.roundtrip.proofs.Classes.{printedForm, inside-printed, form-printed}
 
 -- ---- names

@@ -20,7 +20,7 @@ use Rattle.definitions.specs.Options.{opening}
 use Rattle.definitions.specs.Grammar.{Derives}
 use Rattle.definitions.specs.WellFormed.{Shaped, wellFormed}
 use Rattle.laws.proofs.Refusing.{EmptyOrAccepted, unbounded-empty}
-use Rattle.syntax.proofs.Counting.{options-tests}
+use Rattle.syntax.proofs.UsablePatterns.{options-tests}
 use Rattle.syntax.proofs.Exact.{syntax-exactly, read-exactly}
 use Rattle.roundtrip.proofs.Counts.{few-addresses}
 use Rattle.roundtrip.proofs.Formed.{options-fit, options-bytes, Entries, options-formed, options-named, options-slotted}

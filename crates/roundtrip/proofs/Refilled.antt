@@ -17,7 +17,7 @@ use Rattle.definitions.specs.Lists.{all?, padded}
 use Rattle.definitions.specs.Tables.{noAddress, noSlot}
 use Rattle.definitions.specs.Items.{kindOf}
 use Rattle.definitions.specs.WellFormed.{isZero, addressFits, addressUnused, addressesFit, isUnused, slotUnused}
-use Rattle.roundtrip.proofs.Alls.{halves, all-head, all-tail, all-drop, all-both}
+use Rattle.roundtrip.proofs.AllTests.{halves, all-head, all-tail, all-drop, all-both}
 use Rattle.roundtrip.proofs.Shape.{wholeSlot}
 
 module _ {A : Type 0} (f : A → Bool) (x : A) (only : (a : A) → f a ≡ true → a ≡ x) where

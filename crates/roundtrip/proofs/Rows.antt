@@ -27,8 +27,8 @@ use Rattle.definitions.specs.Forms.{spaces, gap, closed, valued, quotable, addr
 use Rattle.definitions.specs.Options.{Option, optionTable}
 use Rattle.definitions.specs.WellFormed.{itemFits}
 use Rattle.definitions.specs.Grammar.{OptionText, option}
-use Rattle.roundtrip.proofs.Alls.{both, all-more, row-bytes}
-use Rattle.roundtrip.proofs.Every.{Every, every, known}
+use Rattle.roundtrip.proofs.AllTests.{both, all-more, row-bytes}
+use Rattle.roundtrip.proofs.EveryValue.{Every, every, known}
 use Rattle.roundtrip.proofs.Fits.{flowFits, optionFits, patternLength, Fitting}
 use Rattle.roundtrip.proofs.Values.{says-every, number-within, numeral-within, signed-abs, not-none, addresses-fit, pattern-fits}
 

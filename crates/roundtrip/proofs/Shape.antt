@@ -15,7 +15,7 @@ use Rattle.definitions.specs.OptionValues.{OptionValue, Name, Protocol, Flow, T
 use Rattle.definitions.specs.Tables.{nameIn, noAddress, slotOf, noSlot, slotsIn, bytesIn, tableOf}
 use Rattle.definitions.specs.WellFormed.{Shaped}
 use Rattle.list_laws.proofs.Padded.{padded-full}
-use Rattle.roundtrip.proofs.Alls.{all-none, all-more, all-head, all-tail, all-append, all-replicate, all-of, all-each}
+use Rattle.roundtrip.proofs.AllTests.{all-none, all-more, all-head, all-tail, all-append, all-replicate, all-of, all-each}
 use Rattle.roundtrip.proofs.Counts.{fewAddresses}
 
 -- ---- each slot has its addresses

@@ -21,8 +21,8 @@ use Rattle.definitions.specs.OptionValues.{Modifier, Context, NoCase, Distance,
 use Rattle.definitions.specs.Tables.{bare, with, modified, noAddress, slotOf, slotsIn, bytesIn}
 use Rattle.definitions.specs.Items.{kindOf, patternsOf}
 use Rattle.definitions.specs.WellFormed.{addressFits, addressUnused, distanceFits, withinFits, itemFits, addressesFit, slotFits, bytesOf}
-use Rattle.syntax.proofs.Counting.{testOnly, skipped}
-use Rattle.roundtrip.proofs.Alls.{both, all-none, all-more, all-head, all-tail, all-append, all-replicate}
+use Rattle.syntax.proofs.UsablePatterns.{testOnly, skipped}
+use Rattle.roundtrip.proofs.AllTests.{both, all-none, all-more, all-head, all-tail, all-append, all-replicate}
 use Rattle.roundtrip.proofs.Counts.{fewAddresses}
 use Rattle.roundtrip.proofs.Fits.{testFits, isByte, modifierFits, optionFits}
 

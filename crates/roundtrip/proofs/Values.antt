@@ -17,9 +17,9 @@ use Rattle.definitions.specs.Lists.{all?}
 use Rattle.definitions.specs.Numbers.{hexDigits, digitValue, valueOf, number, numeral}
 use Rattle.definitions.specs.Forms.{spaces, address, addresses, hexPair, block, plainBytes, concatenated, patternBytes, signed}
 use Rattle.definitions.specs.WellFormed.{addressFits}
-use Rattle.roundtrip.proofs.Alls.{both, all-none, all-more, all-append, all-row}
+use Rattle.roundtrip.proofs.AllTests.{both, all-none, all-more, all-append, all-row}
 use Rattle.roundtrip.proofs.Classes.{class-inside}
-use Rattle.roundtrip.proofs.Every.{Every, every, known}
+use Rattle.roundtrip.proofs.EveryValue.{Every, every, known}
 use Rattle.roundtrip.proofs.Fits.{isByte}
 
 -- ---- words and numbers

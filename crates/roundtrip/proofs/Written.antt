@@ -44,7 +44,7 @@ use Rattle.definitions.specs.References.{sameReference}
 use Rattle.definitions.specs.Canonical.{decimal, textIf, negatedText, orderText, operatorText, fieldText, sizeFieldText, contextText, referenceText, testText, modifierText, optionText}
 use Rattle.definitions.specs.WellFormed.{itemFits}
 use Rattle.syntax.proofs.Truths.{impossible}
-use Rattle.roundtrip.proofs.Alls.{halves}
+use Rattle.roundtrip.proofs.AllTests.{halves}
 use Rattle.roundtrip.proofs.Addressed.{addresses-of}
 use Rattle.roundtrip.proofs.Blocks.{pattern-of}
 use Rattle.roundtrip.proofs.Decimals.{number-of, numeral-of}

@@ -1,4 +1,4 @@
 -- Classes, runs and sums of digits.
 pub mod Tests
 pub mod Cases
-pub mod Counting
+pub mod Saturation

@@ -33,7 +33,7 @@ use Rattle.search_state.proofs.Answering.{startsFrom, starts-met, starts-past, 
 use Rattle.search_state.specs.Inputs.{itemsLeft}
 use Rattle.search_items.specs.Items.{ReadyItems, Trying}
 use Rattle.search_items.proofs.Stepping.{ready-next}
-use Rattle.search_items.proofs.Going.{found}
+use Rattle.search_items.proofs.PassedItems.{found}
 
 -- ---- before the loop
 

@@ -26,7 +26,7 @@ use Rattle.definitions.specs.Grammar.{Derives}
 use Rattle.syntax.proofs.Truths.{cases, impossible}
 use Rattle.syntax.proofs.Frame.{printed-exactly, opened-exactly}
 use Rattle.syntax.proofs.Loop.{Told, options-read, ended-options}
-use Rattle.syntax.proofs.Counting.{testOnly, options-tests, usable-exactly}
+use Rattle.syntax.proofs.UsablePatterns.{testOnly, options-tests, usable-exactly}
 
 -- ---- after the options
 

@@ -5,5 +5,5 @@ pub mod Rows
 pub mod Names
 pub mod Single
 pub mod Loop
-pub mod Counting
+pub mod UsablePatterns
 pub mod Exact

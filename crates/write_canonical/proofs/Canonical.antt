@@ -8,7 +8,7 @@ use Rattle.definitions.specs.declared.table.Table.{Table}
 use Rattle.definitions.specs.OptionValues.{Name, Protocol}
 use Rattle.definitions.specs.Items.{slotsOf}
 use Rattle.definitions.specs.Canonical.{flowOption, slotOptions, canonicalOptions, optionText, optionsText, canonicalText}
-use Rattle.write_patterns.proofs.Entries.{options-append}
+use Rattle.write_patterns.proofs.OptionTexts.{options-append}
 
 module _ (t : Table) where
   abbrev name : List ℕ

@@ -16,7 +16,7 @@ use Rattle.definitions.specs.Items.{Kind, unused, addressed, patterned, plainTe
 use Rattle.definitions.specs.Canonical.{patternOptions, itemOptions, slotOptions, testText, optionText, optionsText}
 use Rattle.write_bytes.specs.Clipped.{atMost}
 use Rattle.write_bytes.proofs.Clipping.{at-most-le, drop-most}
-use Rattle.write_patterns.proofs.Entries.{options-append, options-one}
+use Rattle.write_patterns.proofs.OptionTexts.{options-append, options-one}
 use Rattle.write_options.specs.Parts.{placeAfter}
 
 module _ (sl : Slot) (b : List ℕ) where

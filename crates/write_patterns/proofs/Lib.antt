@@ -1,3 +1,3 @@
 -- How the parts of a pattern's text go together.
 pub mod Signs
-pub mod Entries
+pub mod OptionTexts

@@ -25,7 +25,7 @@ use Rattle.definitions.specs.Reading.{acceptedReading, read}
 use Rattle.definitions.specs.WellFormed.{Shaped}
 use Rattle.definitions.proofs.table.Slot as slot-type
 use Rattle.definitions.proofs.table.Table as table-type
-use Rattle.roundtrip.proofs.Alls.{all-none, all-more, all-each}
+use Rattle.roundtrip.proofs.AllTests.{all-none, all-more, all-each}
 use Rattle.roundtrip.proofs.Shape.{wholeSlot}
 use Rattle.roundtrip.proofs.Buffer.{written-reads}
 use Rattle.writer.proofs.write.Reads as write

@@ -1,7 +1,7 @@
 -- What the code judges of the state is the judgement of any options that make it (`checked-right`).
 use mathlib.Core.Path.{_∙_}
 use Rattle.read_insert.proofs.OneMore.{sound}
-use Rattle.read_insert.proofs.Right.{checked-right}
+use Rattle.read_insert.proofs.Contracts.{checked-right}
 use Rattle.read_insert.proofs.finish.Statement.{statement}
 use Rattle.read_insert.proofs.finish.Tie as tie
 

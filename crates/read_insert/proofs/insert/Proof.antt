@@ -1,6 +1,6 @@
 -- What the code does is the definition by steps, and that is right for any options that make the state (`inserted-right`).
 use Rattle.read_insert.proofs.OneMore.{sound}
-use Rattle.read_insert.proofs.Right.{inserted-right}
+use Rattle.read_insert.proofs.Contracts.{inserted-right}
 use Rattle.read_insert.proofs.insert.Statement.{statement}
 use Rattle.read_insert.proofs.insert.Tie as tie
 

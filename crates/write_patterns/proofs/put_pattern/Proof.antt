@@ -6,7 +6,7 @@ use Rattle.definitions.specs.Canonical.{optionText}
 use Rattle.write_bytes.proofs.Clipping.{at-most-le, part-most}
 use Rattle.write_bytes.proofs.Putting.{then, told, same-length as same}
 use Rattle.write_keywords.proofs.Options.{context-option}
-use Rattle.write_patterns.proofs.Entries.{pattern-options, no-case-text}
+use Rattle.write_patterns.proofs.OptionTexts.{pattern-options, no-case-text}
 use borrow.Author.Needs.{needs}
 use Rattle.write_patterns.proofs.put_pattern.Statement.{statement}
 use Rattle.write_patterns.proofs.put_pattern.Tie as tie

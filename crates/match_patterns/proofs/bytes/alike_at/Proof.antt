@@ -6,7 +6,7 @@ use native.Mathlib.Omega.{arith}
 use borrow.Author.Tests.{not-true, not-false}
 use lib.ListN.{length, drop}
 use Rattle.definitions.specs.Windows.{standsAt}
-use Rattle.match_patterns.proofs.Standing.{left, stands-all, stands-done, stands-more, stands-not}
+use Rattle.match_patterns.proofs.BytesAtPlace.{left, stands-all, stands-done, stands-more, stands-not}
 use Rattle.match_patterns.proofs.bytes.alike_at.Statement.{statement}
 use Rattle.match_patterns.proofs.bytes.alike_at.Tie as tie
 

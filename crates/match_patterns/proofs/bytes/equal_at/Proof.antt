@@ -5,7 +5,7 @@ use Prim.Native.Nat.{_-_, _≤_}
 use native.Mathlib.Omega.{arith}
 use lib.ListN.{length, drop}
 use Rattle.definitions.specs.Windows.{standsAt}
-use Rattle.match_patterns.proofs.Standing.{left, stands-all, stands-done, stands-more, stands-not, equal-alike, differ-alike}
+use Rattle.match_patterns.proofs.BytesAtPlace.{left, stands-all, stands-done, stands-more, stands-not, equal-alike, differ-alike}
 use Rattle.match_patterns.proofs.bytes.equal_at.Statement.{statement}
 use Rattle.match_patterns.proofs.bytes.equal_at.Tie as tie
 

@@ -5,7 +5,7 @@ use Prim.Native.Nat.{_-_}
 use lib.ListN.{length}
 use borrow.Author.Tests.{not-true, not-false}
 use Rattle.read_value.specs.Values.{patternBytesOf}
-use Rattle.read_stored.proofs.Rooms.{stores-same, Writes, writes-start}
+use Rattle.read_stored.proofs.Appended.{stores-same, Writes, writes-start}
 use Rattle.read_stored.proofs.Bytes.{pairWriting, pairs-halt, pair-end, pair-room, pairs-less, pairs-on, pairs-last}
 use Rattle.read_stored.proofs.pattern_blocks.pairs_at.Statement.{statement}
 use Rattle.read_stored.proofs.pattern_blocks.pairs_at.Tie as tie

@@ -1,6 +1,6 @@
 -- The bar and spaces before the pairs and the bar after them store nothing.
 use mathlib.Core.Path.{refl}
-use Rattle.read_stored.proofs.Rooms.{ready-on, stored-after, stored-before}
+use Rattle.read_stored.proofs.Appended.{ready-on, stored-after, stored-before}
 use borrow.Author.Needs.{needs}
 use Rattle.read_stored.proofs.pattern_blocks.then_block.Statement.{statement}
 use Rattle.read_stored.proofs.pattern_blocks.then_block.Tie as tie

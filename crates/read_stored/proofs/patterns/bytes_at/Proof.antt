@@ -5,7 +5,7 @@ use Prim.Native.Nat.{_-_}
 use lib.ListN.{length}
 use borrow.Author.Tests.{not-true, not-false}
 use Rattle.read_value.specs.Values.{patternBytesOf}
-use Rattle.read_stored.proofs.Rooms.{stores-same, Writes, writes-start, writes-ready}
+use Rattle.read_stored.proofs.Appended.{stores-same, Writes, writes-start, writes-ready}
 use Rattle.read_stored.proofs.Bytes.{elementWriting, elements-halt, elements-less, elements-on, elements-last}
 use Rattle.read_stored.proofs.patterns.bytes_at.Statement.{statement}
 use Rattle.read_stored.proofs.patterns.bytes_at.Tie as tie

@@ -1,4 +1,4 @@
-use Rattle.read_stored.proofs.Rooms.{stored-step}
+use Rattle.read_stored.proofs.Appended.{stored-step}
 use borrow.Author.Needs.{needs}
 use Rattle.read_stored.proofs.patterns.then_bytes.Statement.{statement}
 use Rattle.read_stored.proofs.patterns.then_bytes.Tie as tie

@@ -2,7 +2,7 @@
 use mathlib.Core.Path.{refl, ap}
 use native.Mathlib.Omega.{arith}
 use Rattle.read_value.specs.Values.{PatternBytes}
-use Rattle.read_stored.proofs.Rooms.{ready-on, stored-after, stored-before}
+use Rattle.read_stored.proofs.Appended.{ready-on, stored-after, stored-before}
 use borrow.Author.Needs.{needs}
 use Rattle.read_stored.proofs.patterns.then_pattern.Statement.{statement}
 use Rattle.read_stored.proofs.patterns.then_pattern.Tie as tie

@@ -2,7 +2,7 @@ use lib.ListN.{getD}
 use mathlib.Core.Path.{refl, _∙_}
 use native.Mathlib.Omega.{arith}
 use Prim.Native.Nat.{_-_, _≤_}
-use Rattle.scan_bytes.proofs.Counting.{Sum, sum-on, sum-out, digit-le, product-fits}
+use Rattle.scan_bytes.proofs.Saturation.{Sum, sum-on, sum-out, digit-le, product-fits}
 use Rattle.scan_bytes.proofs.numbers.value_of.Statement.{statement}
 use Rattle.scan_bytes.proofs.numbers.value_of.Tie as tie
 

@@ -1,4 +1,4 @@
--- The entries' contracts of what the code does: a value by its kind, at any options that make the state; and the judgement at the end.
+-- The contracts of inserting, of what the code does: a value by its kind, at any options that make the state; and the judgement at the end.
 use mathlib.Core.Path.{_≡_, sym, ap, subst, _∙_}
 use mathlib.Core.Bool.{not}
 use mathlib.Core.List.{List, []}

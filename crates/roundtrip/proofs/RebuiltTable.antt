@@ -27,7 +27,7 @@ use Rattle.definitions.specs.Tables.{nameIn, protocolIn, flowIn, bare, modified
 use Rattle.definitions.specs.Items.{Kind, unused, addressed, patterned, plainTest, kindOf, slotsOf, patternFirst, patternsOf, afterItem}
 use Rattle.definitions.specs.Canonical.{flowOption, itemOptions, slotOptions, canonicalOptions}
 use Rattle.definitions.specs.WellFormed.{Shaped, addressesFit, itemFits, slotFits, bytesOf, wellFormed}
-use Rattle.roundtrip.proofs.Alls.{all-head, all-tail, all-take}
+use Rattle.roundtrip.proofs.AllTests.{all-head, all-tail, all-take}
 use Rattle.roundtrip.proofs.Parts.{Formed, formed}
 use Rattle.roundtrip.proofs.Patterned.{modifierOptions, pattern-set, slots-past, bytes-past, flow-past}
 use Rattle.roundtrip.proofs.Refilled.{bytes-refilled, addresses-refilled, slots-refilled}

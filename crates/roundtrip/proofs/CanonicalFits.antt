@@ -36,8 +36,8 @@ use Rattle.definitions.specs.Starts.{startAt}
 use Rattle.definitions.specs.References.{lastAfter, sameReference, referenceUsable, reverseUsable, distanceUsable, withinUsable, referencesAlike, usable, usableRun}
 use Rattle.definitions.specs.Canonical.{flowOption, itemOptions, slotOptions, canonicalOptions}
 use Rattle.definitions.specs.WellFormed.{Shaped, isZero, addressFits, addressUnused, distanceFits, withinFits, itemFits, addressesFit, slotFits, wellFormed}
-use Rattle.roundtrip.proofs.Alls.{both, halves, all-none, all-more, all-head, all-tail, all-append, all-take, all-drop, all-so}
-use Rattle.roundtrip.proofs.Back.{kindLength, Enough, enough}
+use Rattle.roundtrip.proofs.AllTests.{both, halves, all-none, all-more, all-head, all-tail, all-append, all-take, all-drop, all-so}
+use Rattle.roundtrip.proofs.RebuiltTable.{kindLength, Enough, enough}
 use Rattle.roundtrip.proofs.Counts.{fewAddresses}
 use Rattle.roundtrip.proofs.Fits.{isByte, optionFits, shiftTold, optionTold}
 use Rattle.roundtrip.proofs.Parts.{formed}

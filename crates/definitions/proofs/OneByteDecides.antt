@@ -9,6 +9,6 @@ unfoldable pub allFair : List Option → Bool
 allFair [] = true
 allFair (o ∷ os) = isLL1 (o .form) && allFair os
 
-pub options-fair : allFair optionTable ≡ true
+pub options-one-byte : allFair optionTable ≡ true
 unfolding allFair optionTable
-options-fair = refl
+options-one-byte = refl

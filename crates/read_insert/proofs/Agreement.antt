@@ -15,7 +15,7 @@ use Rattle.definitions.specs.Occurrences.{sameKind, latest}
 use Rattle.read_state.specs.declared.Given.{Given}
 use Rattle.read_state.specs.declared.State.{State}
 use Rattle.read_state.specs.State.{modifierAmong, givenIn}
-use Rattle.read_insert.proofs.After.{or-true, any-append, count-append, bytes-append, slots-append, latest-append}
+use Rattle.read_insert.proofs.OptionEffects.{or-true, any-append, count-append, bytes-append, slots-append, latest-append}
 
 -- ---- two states whose fields are equal
 

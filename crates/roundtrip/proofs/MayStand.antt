@@ -29,7 +29,7 @@ use Rattle.definitions.specs.Items.{Kind, unused, addressed, patterned, plainTe
 use Rattle.definitions.specs.Occurrences.{isTest, isPattern, modifierNumber, sameModifier, latest, occurrenceCheck}
 use Rattle.definitions.specs.Canonical.{flowOption, contextOption, noCaseOption, distanceOption, withinOption, itemOptions, slotOptions, canonicalOptions}
 use Rattle.definitions.specs.Grammar.{Occurrences, none}
-use Rattle.roundtrip.proofs.Alls.{all-none, all-more, all-head, all-tail, all-so, all-after}
+use Rattle.roundtrip.proofs.AllTests.{all-none, all-more, all-head, all-tail, all-so, all-after}
 use Rattle.roundtrip.proofs.Counts.{count-append, fewAddresses}
 use Rattle.roundtrip.proofs.Patterned.{modifierOptions, modifiers-joined}
 
