@@ -60,7 +60,8 @@ starting s n =
 
 module _ (s : List ℕ) (held starts : List Start) (count at : ℕ) (k : Starting s held starts count at) where
   -- e is the part from the place on, a what the code made of it
-  module _ (h : at ≤ length s) (e : List ℕ) (q : e ≡ partBefore 44 (take (length s - at) (drop at s))) (a : NumberResult) (p : a ≡ parsedNumber maxStart e) where
+  module _ (h : at ≤ length s) (e : List ℕ) (q : e ≡ partBefore 44 (take (length s - at) (drop at s))) (a : NumberResult)
+      (p : a ≡ parsedNumber maxStart e) where
     abbrev rest : List (List ℕ)
     rest = partsFrom 44 s (at + (length e + 1))
 
@@ -77,7 +78,8 @@ module _ (s : List ℕ) (held starts : List Start) (count at : ℕ) (k : Startin
         let long : maxPatterns < length (parts 44 s) = omega (arith, g, k .left, ap length step) in
         not-starts s (rw (k .some, lt-leb (length (parts 44 s)) maxPatterns long) (and-false (all? (isNumber maxStart) (parts 44 s))))
 
-    pub starting-on : (n : ℕ) → a ≡ number.Parsed n → count < maxPatterns → (v : Start) → v ≡ startAt n → Starting s (held ++ (v ∷ [])) (set starts count v) (count + 1) (at + (length e + 1))
+    pub starting-on : (n : ℕ) → a ≡ number.Parsed n → count < maxPatterns → (v : Start) → v ≡ startAt n
+        → Starting s (held ++ (v ∷ [])) (set starts count v) (count + 1) (at + (length e + 1))
     unfolding all?
     starting-on n t g v ve =
         let one : length (held ++ (v ∷ [])) ≡ length held + 1 = length-append held (v ∷ []) in

@@ -38,7 +38,17 @@ withProtocol p t = record { name = t .name; len = t .len; protocol = p; flow = t
 
 -- a name of n bytes, of which the first are b
 pub named : List ℕ → ℕ → Table → Table
-named b n t = record { name = padded maxName 0 b; len = n; protocol = t .protocol; flow = t .flow; bytes = t .bytes; used = t .used; items = t .items; count = t .count }
+named b n t = record {
+  name = padded maxName 0 b;
+  len = n;
+  protocol = t .protocol;
+  flow = t .flow;
+  bytes = t .bytes;
+  used = t .used;
+  items =
+      t .items;
+  count = t .count;
+}
 
 pub counted : ℕ → Table → Table
 counted n t = record { name = t .name; len = t .len; protocol = t .protocol; flow = t .flow; bytes = t .bytes; used = t .used; items = t .items; count = n }
@@ -48,7 +58,18 @@ roomed n b t = record { name = t .name; len = t .len; protocol = t .protocol; fl
 
 -- a slot in its place, and one more
 pub placed : ℕ → ℕ → Slot → Table → Table
-placed count at sl t = record { name = t .name; len = t .len; protocol = t .protocol; flow = t .flow; bytes = t .bytes; used = t .used; items = set (t .items) at sl; count = count }
+placed count at sl t =
+    record {
+      name = t .name;
+      len = t .len;
+      protocol = t .protocol;
+      flow = t .flow;
+      bytes = t .bytes;
+      used = t .used;
+      items = set (t .items) at sl;
+      count =
+          count;
+    }
 
 pub addsSlot : Slot → Table → Table
 addsSlot sl t = placed (t .count + 1) (t .count) sl t
@@ -149,5 +170,6 @@ pub refusedBy : (Table → Table) → Bool
 refusedBy f = not (wellFormed (f good))
 
 pub edited : (all? formedBy kept && all? refusedBy broken) ≡ true
-unfolding computing good withProtocol named counted roomed placed addsSlot adds addsAddresses addsPattern changed onFirst withLen times addressOf kept broken formedBy refusedBy
+unfolding computing good withProtocol named counted roomed placed addsSlot adds addsAddresses addsPattern changed onFirst withLen times addressOf kept
+    broken formedBy refusedBy
 edited = refl

@@ -80,10 +80,12 @@ none = replicate 11 0
 
 -- a case on a payload, no field but packet; a text alone
 unfoldable pub onPayload : String → String → List ℕ → List Query → List (List ℕ) → Case
-onPayload p options held queries expected = record { source = signature options; payload = text p; uri = Absent; held = held; queries = queries; number = 0; place = 0; expected = expected }
+onPayload p options held queries expected =
+    record { source = signature options; payload = text p; uri = Absent; held = held; queries = queries; number = 0; place = 0; expected = expected }
 
 unfoldable pub onUri : FieldSpan → String → List Query → List (List ℕ) → Case
-onUri u options queries expected = record { source = signature options; payload = text "aaXbbX"; uri = u; held = []; queries = queries; number = 0; place = 0; expected = expected }
+onUri u options queries expected =
+    record { source = signature options; payload = text "aaXbbX"; uri = u; held = []; queries = queries; number = 0; place = 0; expected = expected }
 
 unfoldable pub onText : String → ℕ → ℕ → Case
 onText s n p = record { source = text s; payload = []; uri = Absent; held = []; queries = []; number = n; place = p; expected = [] }

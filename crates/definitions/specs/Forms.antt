@@ -220,7 +220,8 @@ signed minus n = if minus then negℤ (pos n) else pos n
 -- distance: optional `-`, 0..65535, optional `,` and `match`, `packet` or `context`, only then optional `,reverse`
 abbrev pub distanceForm : Form OptionValue
 distanceForm =
-    valued (fmap (λ (p : Bool × (ℕ × (Reference × Bool))). Modified (Distance (record { offset = signed (p .0) (p .1 .0); reference = p .1 .1 .0; reverse = p .1 .1 .1 })))
+    valued (fmap (λ (p : Bool × (ℕ × (Reference × Bool))). Modified
+    (Distance (record { offset = signed (p .0) (p .1 .0); reference = p .1 .1 .0; reverse = p .1 .1 .1 })))
     (pair (opt false (literalAs 45 true))
     (pair (number maxWord)
     (comma (reference.Match, false) (pair referenceWord (comma false (keyword (text "reverse") true)))))))

@@ -16,7 +16,8 @@ use Rattle.definitions.specs.References.{usableIn}
 
 -- `--`, a listed name in any letter case, and what its form allows, within its limits
 pub data OptionText : List ℕ → OptionValue → Type 1 where
-  option : (o : Option) (n y : List ℕ) {e : OptionValue} → Mem o optionTable → sameWord n (o .name) ≡ true → Means true (o .form) y e → OptionText (45 ∷ 45 ∷ (n ++ y)) e
+  option : (o : Option) (n y : List ℕ) {e : OptionValue} → Mem o optionTable → sameWord n (o .name) ≡ true → Means true (o .form) y e
+      → OptionText (45 ∷ 45 ∷ (n ++ y)) e
 
 -- options with any spaces before, between and after, then `)` as the last byte
 pub data OptionsText : List ℕ → List OptionValue → Type 1 where

@@ -12,7 +12,8 @@ use Rattle.definitions.specs.declared.table.Side.the-variants.{Source, D
 use Rattle.definitions.specs.declared.table.NumberField.the-variants as number
 use Rattle.definitions.specs.declared.table.HeaderField.the-variants as header
 use Rattle.definitions.specs.OptionValues.{OptionValue}
-use Rattle.definitions.specs.Forms.{nameForm, protocolForm, flowForm, addressForm, sameIpForm, numberForm, ttlForm, fieldForm, sizeForm, atForm, patternForm, contextForm, noCaseForm, distanceForm, withinForm}
+use Rattle.definitions.specs.Forms.{nameForm, protocolForm, flowForm, addressForm, sameIpForm, numberForm, ttlForm, fieldForm, sizeForm}
+use Rattle.definitions.specs.Forms.{atForm, patternForm, contextForm, noCaseForm, distanceForm, withinForm}
 
 -- a row of the table: an option's name, and its form after the name
 pub record Option : Type 1 where

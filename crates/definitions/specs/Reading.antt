@@ -62,7 +62,8 @@ options s (b ∷ l) zero at located =
     if isSpace b then options s l zero (at + 1) located
     else if eqb b 41 then (if none? l then ended located else refused refusal.NeitherOptionNorEnd (at + 1))
     else if dashes (b ∷ l)
-    then optionStep (optionAt s at) (optionValuesOf located) at (λ e next. options s l (next - (at + 1)) (at + 1) (located ++ (record { dash = at; value = e } ∷ [])))
+    then optionStep (optionAt s at) (optionValuesOf located) at
+    (λ e next. options s l (next - (at + 1)) (at + 1) (located ++ (record { dash = at; value = e } ∷ [])))
     else refused refusal.NeitherOptionNorEnd at
 
 -- ---- then 10 by pattern, then 12

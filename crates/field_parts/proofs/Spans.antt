@@ -39,7 +39,8 @@ module _ (f : FieldSpan) (b : RefT (List ℕ)) (s : Span) (e : s ≡ shown f (no
 
   -- what is cut from the span's start to its end, at the start's place
   pub cut-out : (γ : ℕ)
-      → PartOf b (shown f (now b)) (record { ptr = (ptr b .0, s .start + ptr b .1); name = γ; now = take ((s .start + s .len) - s .start) (drop (s .start) (now b)) })
+      → PartOf b (shown f (now b))
+      (record { ptr = (ptr b .0, s .start + ptr b .1); name = γ; now = take ((s .start + s .len) - s .start) (drop (s .start) (now b)) })
   cut-out γ =
       record {
         block = refl;

@@ -22,4 +22,5 @@ pub check-of-six : (payload decoded : List ℕ) (m : FieldMap) (a b c d e f t : 
     → (a || b || c || d || e || f) ≡ t → refuseIf t refusal.FieldSpan Pass ≡ fieldsCheck payload decoded m
 unfolding fieldsCheck
 check-of-six payload decoded m a b c d e f t ea eb ec ed ee ef h =
-    ap (λ (s : Bool). refuseIf s refusal.FieldSpan Pass) (let k : t ≡ any? (fieldPasses payload decoded m) mapped = cc (in-a-row (fieldPasses payload decoded m)) in k)
+    ap (λ (s : Bool). refuseIf s refusal.FieldSpan Pass)
+    (let k : t ≡ any? (fieldPasses payload decoded m) mapped = cc (in-a-row (fieldPasses payload decoded m)) in k)

@@ -26,7 +26,8 @@ place-at : (s : List ℕ) (i : ℕ) → i ≤ length s → length s - length (dr
 place-at s i h = omega (arith, h, length-drop i s)
 
 module _ {A B C : Type 0} (q : A → B → C) where
-  join-one : (s : List ℕ) (a : A) (m : List ℕ) (o u : List (List ℕ)) (r : Scan B) (k : ℕ → Read B) → k (length s - length m) ≡ placed s u r → placed s (o ++ u) (onGot r (λ b t. Got (q a b) t)) ≡ both-read q (within s o a m) k
+  join-one : (s : List ℕ) (a : A) (m : List ℕ) (o u : List (List ℕ)) (r : Scan B) (k : ℕ → Read B) → k (length s - length m) ≡ placed s u r
+      → placed s (o ++ u) (onGot r (λ b t. Got (q a b) t)) ≡ both-read q (within s o a m) k
   join-one s a m [] [] (Got b t) k e = rw e
   join-one s a m [] (y ∷ u) (Got b t) k e = rw e
   join-one s a m [] u (Stop t) k e = rw e
@@ -34,7 +35,9 @@ module _ {A B C : Type 0} (q : A → B → C) where
   join-one s a m (x ∷ o) (y ∷ u) (Got b t) k e = rw e
   join-one s a m (x ∷ o) u (Stop t) k e = rw e
 
-  join-two : (f : Form A) (g : Form B) (s : List ℕ) (i : ℕ) → i ≤ length s → (r : Scan A) → scan f (drop i s) ≡ r → placed s (over f (drop i s) ++ onward r (λ a m. over g m)) (onGot r (λ a m. onGot (scan g m) (λ b t. Got (q a b) t))) ≡ both-read q (placed s (over f (drop i s)) r) (λ n. readAt g s n)
+  join-two : (f : Form A) (g : Form B) (s : List ℕ) (i : ℕ) → i ≤ length s → (r : Scan A) → scan f (drop i s) ≡ r
+      → placed s (over f (drop i s) ++ onward r (λ a m. over g m)) (onGot r (λ a m. onGot (scan g m) (λ b t. Got (q a b) t)))
+      ≡ both-read q (placed s (over f (drop i s)) r) (λ n. readAt g s n)
   unfolding readAt
   join-two f g s i h (Got a m) e =
       let x = sound-loose f (drop i s) a m e in
@@ -43,7 +46,8 @@ module _ {A B C : Type 0} (q : A → B → C) where
   join-two f g s i h (Stop m) e = refl
 
 -- one after the other
-pub pair-at : {A B : Type 0} (f : Form A) (g : Form B) (s : List ℕ) (i : ℕ) → i ≤ length s → readAt (pair f g) s i ≡ both-read (λ (x : A) (y : B). (x, y)) (readAt f s i) (λ n. readAt g s n)
+pub pair-at : {A B : Type 0} (f : Form A) (g : Form B) (s : List ℕ) (i : ℕ) → i ≤ length s
+    → readAt (pair f g) s i ≡ both-read (λ (x : A) (y : B). (x, y)) (readAt f s i) (λ n. readAt g s n)
 unfolding readAt scan over
 pair-at {A} {B} f g s i h = join-two (λ (x : A) (y : B). (x, y)) f g s i h (scan f (drop i s)) refl
 
@@ -56,7 +60,8 @@ pub made-at : {A B : Type 0} (h : A → B) (f : Form A) (s : List ℕ) (i : ℕ)
 unfolding readAt scan over
 made-at h f s i = map-one h s (over f (drop i s)) (scan f (drop i s))
 
-pub alt-at : {A : Type 0} (f g : Form A) (s : List ℕ) (i : ℕ) → readAt (alt f g) s i ≡ (if begins (firstSet f) (drop i s) then (readAt f s i) else (readAt g s i))
+pub alt-at : {A : Type 0} (f g : Form A) (s : List ℕ) (i : ℕ)
+    → readAt (alt f g) s i ≡ (if begins (firstSet f) (drop i s) then (readAt f s i) else (readAt g s i))
 unfolding readAt scan over
 alt-at f g s i = by-cases (begins (firstSet f) (drop i s)) (λ t. rw t) (λ t. rw t)
 
@@ -64,12 +69,14 @@ pub tell-at : {A : Type 0} (a : A) (s : List ℕ) (i : ℕ) → i ≤ length s �
 unfolding readAt scan over
 tell-at a s i h = ap (Parsed a) (place-at s i h)
 
-bound-one : {A : Type 0} (t : A → Bool) (j : A → ℕ) (s l : List ℕ) (o : List (List ℕ)) (r : Scan A) → placed s (o ++ onward r (λ a m. (if t a then [] else (drop (j a) l ∷ [])))) r ≡ bounded t (λ a. length s - length (drop (j a) l)) (placed s o r)
+bound-one : {A : Type 0} (t : A → Bool) (j : A → ℕ) (s l : List ℕ) (o : List (List ℕ)) (r : Scan A)
+    → placed s (o ++ onward r (λ a m. (if t a then [] else (drop (j a) l ∷ [])))) r ≡ bounded t (λ a. length s - length (drop (j a) l)) (placed s o r)
 bound-one t j s l [] (Got a r) = by-cases (t a) (λ x. rw x) (λ x. rw x)
 bound-one t j s l (x ∷ o) (Got a r) = refl
 bound-one t j s l o (Stop r) = refl
 
-pub bound-at : {A : Type 0} (t : A → Bool) (j : A → ℕ) (f : Form A) (s : List ℕ) (i : ℕ) → readAt (bound t j f) s i ≡ bounded t (λ a. length s - length (drop (j a) (drop i s))) (readAt f s i)
+pub bound-at : {A : Type 0} (t : A → Bool) (j : A → ℕ) (f : Form A) (s : List ℕ) (i : ℕ)
+    → readAt (bound t j f) s i ≡ bounded t (λ a. length s - length (drop (j a) (drop i s))) (readAt f s i)
 unfolding readAt scan over
 bound-at t j f s i = bound-one t j s (drop i s) (over f (drop i s)) (scan f (drop i s))
 
@@ -84,7 +91,8 @@ pub byte-end : (c : Class) (s : List ℕ) → readAt (byte c) s (length s) ≡ F
 unfolding readAt scan over
 byte-end c s = rw (drop-of-length-le s {i = length s} (omega arith)) (let e : length s - 0 ≡ length s = omega arith in ap Failed e)
 
-pub mapped-both : {A B C : Type 0} (h : A × B → C) (r : Read A) (k : ℕ → Read B) → mapRead h (both-read (λ (x : A) (y : B). (x, y)) r k) ≡ both-read (λ (x : A) (y : B). h (x, y)) r k
+pub mapped-both : {A B C : Type 0} (h : A × B → C) (r : Read A) (k : ℕ → Read B)
+    → mapRead h (both-read (λ (x : A) (y : B). (x, y)) r k) ≡ both-read (λ (x : A) (y : B). h (x, y)) r k
 mapped-both {A} {B} {C} h (Parsed a n) k = by (k n)
   where
     by : (r : Read B) → mapRead h (mapRead (λ (y : B). (a, y)) r) ≡ mapRead (λ (y : B). h (a, y)) r
@@ -101,13 +109,17 @@ mapped-both h (Failed p) k = refl
 
 module _ {A B : Type 0} (f : Form A) (g : Form B) (s : List ℕ) (i : ℕ) (h : i ≤ length s) where
   pub skip-at : readAt (preceded f g) s i ≡ both-read (λ (x : A) (y : B). y) (readAt f s i) (λ n. readAt g s n)
-  skip-at = made-at (λ (p : A × B). p .1) (pair f g) s i ∙ ap (mapRead (λ (p : A × B). p .1)) (pair-at f g s i h) ∙ mapped-both (λ (p : A × B). p .1) (readAt f s i) (λ n. readAt g s n)
+  skip-at = made-at (λ (p : A × B). p .1) (pair f g) s i ∙ ap (mapRead (λ (p : A × B). p .1)) (pair-at f g s i h)
+      ∙ mapped-both (λ (p : A × B). p .1) (readAt f s i) (λ n. readAt g s n)
 
   pub before-at : readAt (terminated f g) s i ≡ both-read (λ (x : A) (y : B). x) (readAt f s i) (λ n. readAt g s n)
-  before-at = made-at (λ (p : A × B). p .0) (pair f g) s i ∙ ap (mapRead (λ (p : A × B). p .0)) (pair-at f g s i h) ∙ mapped-both (λ (p : A × B). p .0) (readAt f s i) (λ n. readAt g s n)
+  before-at = made-at (λ (p : A × B). p .0) (pair f g) s i ∙ ap (mapRead (λ (p : A × B). p .0)) (pair-at f g s i h)
+      ∙ mapped-both (λ (p : A × B). p .0) (readAt f s i) (λ n. readAt g s n)
 
 -- one more, or none
-pub star-at : {A : Type 0} (f : Form A) → not (nullable f) ≡ true → (s : List ℕ) (i : ℕ) → i ≤ length s → readAt (many f) s i ≡ (if begins (firstSet f) (drop i s) then (both-read (λ (x : A) (xs : List A). x ∷ xs) (readAt f s i) (λ n. readAt (many f) s n)) else (Parsed [] i))
+pub star-at : {A : Type 0} (f : Form A) → not (nullable f) ≡ true → (s : List ℕ) (i : ℕ) → i ≤ length s
+    → readAt (many f) s i
+    ≡ (if begins (firstSet f) (drop i s) then (both-read (λ (x : A) (xs : List A). x ∷ xs) (readAt f s i) (λ n. readAt (many f) s n)) else (Parsed [] i))
 unfolding readAt
 star-at {A} f n s i h =
     rw (star-unroll f n (drop i s), star-over f n (drop i s))

@@ -91,9 +91,11 @@ cons-app : (y z : List ℕ) (b : ℕ) (l : List ℕ) → b ∷ l ≡ y ++ z → 
 cons-app [] z b l e = inl (refl, sym e)
 cons-app (a ∷ y) z b l e = let q : a ≡ b = cc in inr (y, rw q)
 
-row-first : {A : Type 0} (P : List ℕ → A → Type 0) (c : Class) → ((b : ℕ) (l : List ℕ) (v : A) → P (b ∷ l) v → has c b ≡ true) → {x : List ℕ} {vs : List A} → Row P x vs → (b : ℕ) (l : List ℕ) → x ≡ b ∷ l → has c b ≡ true
+row-first : {A : Type 0} (P : List ℕ → A → Type 0) (c : Class) → ((b : ℕ) (l : List ℕ) (v : A) → P (b ∷ l) v → has c b ≡ true) → {x : List ℕ} {vs : List A}
+    → Row P x vs → (b : ℕ) (l : List ℕ) → x ≡ b ∷ l → has c b ≡ true
 row-first P c h none b l e = never (cc)
-row-first P c h (more {x} {y} {v} p q) b l e = ⊎-elim (λ n. row-first P c h q b l (n .1)) (λ n. h b (n .0) v (subst (λ u. P u v) (n .1) p)) (cons-app x y b l (sym e))
+row-first P c h (more {x} {y} {v} p q) b l e =
+    ⊎-elim (λ n. row-first P c h q b l (n .1)) (λ n. h b (n .0) v (subst (λ u. P u v) (n .1) p)) (cons-app x y b l (sym e))
 
 pub first-of : {A : Type 0} (k : Bool) (f : Form A) (b : ℕ) (l : List ℕ) (v : A) → Means k f (b ∷ l) v → has (firstSet f) b ≡ true
 unfolding Means
@@ -131,8 +133,11 @@ some-byte (b ∷ y) h = omega arith
 abbrev pub Reads : {A : Type 0} → Bool → Form A → List ℕ → A → List ℕ → Type 0
 Reads k f l v r = (scan f l ≡ Got v r) × (k ≡ true → over f l ≡ [])
 
-module _ {A : Type 0} (k : Bool) (P : List ℕ → A → Type 0) (c d : Class) (s : List ℕ → Scan A) (o : List ℕ → List (List ℕ)) (read : (x : List ℕ) (v : A) (r : List ℕ) → P x v → begins d r ≡ false → (s (x ++ r) ≡ Got v r) × (k ≡ true → o (x ++ r) ≡ [])) (starts : (b : ℕ) (l : List ℕ) (v : A) → P (b ∷ l) v → has c b ≡ true) (full : (v : A) → P [] v → _≡_ {A = ℕ} 0 1) (far : apart d c ≡ true) where
-  loop-complete : {x : List ℕ} {vs : List A} → Row P x vs → (n : ℕ) (r : List ℕ) → length (x ++ r) ≤ n → begins (d ++ c) r ≡ false → (loop c s n (x ++ r) ≡ Got vs r) × (k ≡ true → overs c s o n (x ++ r) ≡ [])
+module _ {A : Type 0} (k : Bool) (P : List ℕ → A → Type 0) (c d : Class) (s : List ℕ → Scan A) (o : List ℕ → List (List ℕ))
+    (read : (x : List ℕ) (v : A) (r : List ℕ) → P x v → begins d r ≡ false → (s (x ++ r) ≡ Got v r) × (k ≡ true → o (x ++ r) ≡ []))
+    (starts : (b : ℕ) (l : List ℕ) (v : A) → P (b ∷ l) v → has c b ≡ true) (full : (v : A) → P [] v → _≡_ {A = ℕ} 0 1) (far : apart d c ≡ true) where
+  loop-complete : {x : List ℕ} {vs : List A} → Row P x vs → (n : ℕ) (r : List ℕ) → length (x ++ r) ≤ n → begins (d ++ c) r ≡ false
+      → (loop c s n (x ++ r) ≡ Got vs r) × (k ≡ true → overs c s o n (x ++ r) ≡ [])
   unfolding loop overs
   loop-complete none zero r h z = (refl, λ q. refl)
   loop-complete none (suc n) r h z = let e = lacks-right d c r z in (rw e, λ q. rw e)
@@ -152,7 +157,8 @@ pub no-empty : {A : Type 0} (k : Bool) (f : Form A) → not (nullable f) ≡ tru
 no-empty k f e v m = let t = empty-of k f v m in let q : false ≡ true = rw t at e in cc
 
 -- COMPLETE, with the bounds or without
-pub complete : {A : Type 0} (k : Bool) (f : Form A) → isLL1 f ≡ true → (x : List ℕ) (v : A) (r : List ℕ) → Means k f x v → begins (followSet f) r ≡ false → Reads k f (x ++ r) v r
+pub complete : {A : Type 0} (k : Bool) (f : Form A) → isLL1 f ≡ true → (x : List ℕ) (v : A) (r : List ℕ) → Means k f x v → begins (followSet f) r ≡ false
+    → Reads k f (x ++ r) v r
 unfolding scan Means over
 complete k (pure a) w x v r m z = let e = m .0 in let g = m .1 in (rw (e, g), λ q. refl)
 complete k (byte c) w x v r m z = let e = m .0 in let t = m .1 in (rw (e, t), λ q. refl)
@@ -171,7 +177,8 @@ complete k (pair f g) w x v r m z =
 complete k (alt f g) w x v r (inl m) z =
     let b = both3 (isLL1 f) (isLL1 g) ((not (nullable f)) && (apart (firstSet f) (firstSet g))) w in
     let n = both-left (not (nullable f)) (apart (firstSet f) (firstSet g)) (b .2) in
-    let e1 : begins (firstSet f) (x ++ r) ≡ true = loud (firstSet f) x r (λ e. no-empty k f n v (subst (λ y. Means k f y v) e m)) (λ a t e. first-of k f a t v (subst (λ y. Means k f y v) e m)) in
+    let e1 : begins (firstSet f) (x ++ r) ≡ true =
+    loud (firstSet f) x r (λ e. no-empty k f n v (subst (λ y. Means k f y v) e m)) (λ a t e. first-of k f a t v (subst (λ y. Means k f y v) e m)) in
     let e2 = complete k f (b .0) x v r m (lacks-left (followSet f) (followSet g ++ (if nullable g then (firstSet f) else [])) r z) in
     (rw e1 (e2 .0), λ q. rw e1 (e2 .1 q))
 complete k (alt f g) w x v r (inr m) z =
@@ -189,7 +196,8 @@ complete k (many f) w x v r m z =
     let b2 = both-right (isLL1 f) ((not (nullable f)) && (apart (followSet f) (firstSet f))) w in
     let n = both-left (not (nullable f)) (apart (followSet f) (firstSet f)) b2 in
     let n2 = both-right (not (nullable f)) (apart (followSet f) (firstSet f)) b2 in
-    loop-complete k (λ y u. Means k f y u) (firstSet f) (followSet f) (λ t. scan f t) (λ t. over f t) (λ y u t p q. complete k f b y u t p q) (λ a t u p. first-of k f a t u p) (λ u p. no-empty k f n u p) n2 m (length (x ++ r)) r (le-refl _) z
+    loop-complete k (λ y u. Means k f y u) (firstSet f) (followSet f) (λ t. scan f t) (λ t. over f t) (λ y u t p q. complete k f b y u t p q)
+    (λ a t u p. first-of k f a t u p) (λ u p. no-empty k f n u p) n2 m (length (x ++ r)) r (le-refl _) z
 complete k (fmap h f) w x v r m z =
     let e1 = complete k f w x (m .0) r (m .2) z in
     let e2 = m .1 in

@@ -59,17 +59,21 @@ onward-none : {A : Type 0} (o : Scan A) (k : A → List ℕ → List (List ℕ))
 onward-none (Got a r) k h = h a r
 onward-none (Stop r) k h = refl
 
-overs-free : {A : Type 0} (c : Class) (s : List ℕ → Scan A) (o : List ℕ → List (List ℕ)) → ((l : List ℕ) → o l ≡ []) → (k : ℕ) (l : List ℕ) → overs c s o k l ≡ []
+overs-free : {A : Type 0} (c : Class) (s : List ℕ → Scan A) (o : List ℕ → List (List ℕ)) → ((l : List ℕ) → o l ≡ []) → (k : ℕ) (l : List ℕ)
+    → overs c s o k l ≡ []
 unfolding overs
 overs-free c s o h zero l = refl
-overs-free {A} c s o h (suc k) l = by-cases (begins c l) (λ t. rw (t, h l) (onward-none (s l) (λ a r. overs c s o k r) (λ a r. overs-free c s o h k r))) (λ t. rw t)
+overs-free {A} c s o h (suc k) l =
+    by-cases (begins c l) (λ t. rw (t, h l) (onward-none (s l) (λ a r. overs c s o k r) (λ a r. overs-free c s o h k r))) (λ t. rw t)
 
 pub over-free : {A : Type 0} (f : Form A) → free f ≡ true → (l : List ℕ) → over f l ≡ []
 unfolding over
 over-free (pure a) w l = refl
 over-free (byte c) w l = refl
-over-free (pair f g) w l = rw (over-free f (both-left (free f) (free g) w) l) (onward-none (scan f l) (λ a r. over g r) (λ a r. over-free g (both-right (free f) (free g) w) r))
-over-free (alt f g) w l = by-cases (begins (firstSet f) l) (λ t. rw t (over-free f (both-left (free f) (free g) w) l)) (λ t. rw t (over-free g (both-right (free f) (free g) w) l))
+over-free (pair f g) w l =
+    rw (over-free f (both-left (free f) (free g) w) l) (onward-none (scan f l) (λ a r. over g r) (λ a r. over-free g (both-right (free f) (free g) w) r))
+over-free (alt f g) w l =
+    by-cases (begins (firstSet f) l) (λ t. rw t (over-free f (both-left (free f) (free g) w) l)) (λ t. rw t (over-free g (both-right (free f) (free g) w) l))
 over-free (many f) w l = overs-free (firstSet f) (λ m. scan f m) (λ m. over f m) (λ m. over-free f w m) (length l) l
 over-free (fmap h f) w l = over-free f w l
 over-free (bound p j f) w l = never (cc)

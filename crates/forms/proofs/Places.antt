@@ -55,7 +55,8 @@ one-begun c w (b ∷ l) r e =
 after : (x p l m r : List ℕ) → l ≡ x ++ m → m ≡ p ++ r → l ≡ (x ++ p) ++ r
 after x p l m r e g = rw (e, g) (sym (append-assoc x p r))
 
-loop-begun : {A : Type 0} (P : List ℕ → A → Type 0) (c : Class) (s : List ℕ → Scan A) → ((l : List ℕ) (v : A) (r : List ℕ) → s l ≡ Got v r → Read P l v r) → ((l r : List ℕ) → s l ≡ Stop r → Begun P l r) → (k : ℕ) (l r : List ℕ) → loop c s k l ≡ Stop r → Begun (Row P) l r
+loop-begun : {A : Type 0} (P : List ℕ → A → Type 0) (c : Class) (s : List ℕ → Scan A) → ((l : List ℕ) (v : A) (r : List ℕ) → s l ≡ Got v r → Read P l v r)
+    → ((l r : List ℕ) → s l ≡ Stop r → Begun P l r) → (k : ℕ) (l r : List ℕ) → loop c s k l ≡ Stop r → Begun (Row P) l r
 unfolding loop
 loop-begun P c s g h zero l r e = never (cc)
 loop-begun P c s g h (suc k) l r e =
@@ -134,7 +135,8 @@ alike-begins c [] (b ∷ u) e = never (cc)
 alike-begins c (b ∷ t) [] e = never (cc)
 alike-begins c (b ∷ t) (d ∷ u) e = let q : b ≡ d = cc in rw q
 
-local-bind : {A B : Type 0} (s : List ℕ → Scan A) (k : A → List ℕ → Scan B) (l : List ℕ) → Local s l → ((a : A) (m : List ℕ) → s l ≡ Got a m → Local (k a) m) → Local (λ m. onGot (s m) k) l
+local-bind : {A B : Type 0} (s : List ℕ → Scan A) (k : A → List ℕ → Scan B) (l : List ℕ) → Local s l
+    → ((a : A) (m : List ℕ) → s l ≡ Got a m → Local (k a) m) → Local (λ m. onGot (s m) k) l
 local-bind {A} {B} s k l i h = go (s l) refl
   where
     go : (o : Scan A) → s l ≡ o → Local (λ m. onGot (s m) k) l
@@ -186,7 +188,8 @@ local-pick c s t l i j =
       split = rw e (i .split);
       same = λ u q.
           let q1 : take 1 (rest (s l)) ≡ take 1 u = rw e at q in
-          let q2 : begins c (i .passed ++ u) ≡ true = sym (alike-begins c l (i .passed ++ u) (ap (take 1) (i .split) ∙ alike (i .passed) (rest (s l)) u q1)) ∙ e in
+          let q2 : begins c (i .passed ++ u) ≡ true =
+          sym (alike-begins c l (i .passed ++ u) (ap (take 1) (i .split) ∙ alike (i .passed) (rest (s l)) u q1)) ∙ e in
           rw (q2, e) (i .same u q1);
     })
     (λ e. record {
@@ -194,7 +197,8 @@ local-pick c s t l i j =
       split = rw e (j .split);
       same = λ u q.
           let q1 : take 1 (rest (t l)) ≡ take 1 u = rw e at q in
-          let q2 : begins c (j .passed ++ u) ≡ false = sym (alike-begins c l (j .passed ++ u) (ap (take 1) (j .split) ∙ alike (j .passed) (rest (t l)) u q1)) ∙ e in
+          let q2 : begins c (j .passed ++ u) ≡ false =
+          sym (alike-begins c l (j .passed ++ u) (ap (take 1) (j .split) ∙ alike (j .passed) (rest (t l)) u q1)) ∙ e in
           rw (q2, e) (j .same u q1);
     })
 
@@ -210,18 +214,22 @@ module _ {A : Type 0} (c : Class) (s : List ℕ → Scan A) (eats : (l : List �
   fuel zero (suc n) (b ∷ l) h g = absurd (omega (arith, h))
   fuel (suc k) zero [] h g = refl
   fuel (suc k) zero (b ∷ l) h g = absurd (omega (arith, g))
-  fuel (suc k) (suc n) l h g = by-cases (begins c l) (λ t. rw t (by-got (s l) refl (λ a r q. fuel k n r (omega (arith, eats l a r q, h)) (omega (arith, eats l a r q, g))))) (λ t. rw t)
+  fuel (suc k) (suc n) l h g =
+      by-cases (begins c l) (λ t. rw t (by-got (s l) refl (λ a r q. fuel k n r (omega (arith, eats l a r q, h)) (omega (arith, eats l a r q, g))))) (λ t. rw t)
     where
-      by-got : (o : Scan A) → s l ≡ o → ((a : A) (r : List ℕ) → s l ≡ Got a r → loop c s k r ≡ loop c s n r) → onGot o (λ a r. onGot (loop c s k r) (λ vs t. Got (a ∷ vs) t)) ≡ onGot o (λ a r. onGot (loop c s n r) (λ vs t. Got (a ∷ vs) t))
+      by-got : (o : Scan A) → s l ≡ o → ((a : A) (r : List ℕ) → s l ≡ Got a r → loop c s k r ≡ loop c s n r)
+          → onGot o (λ a r. onGot (loop c s k r) (λ vs t. Got (a ∷ vs) t)) ≡ onGot o (λ a r. onGot (loop c s n r) (λ vs t. Got (a ∷ vs) t))
       by-got (Got a r) e f = rw (f a r e)
       by-got (Stop r) e f = refl
 
   unroll : (l : List ℕ) → loop c s (length l) l ≡ once (λ m. loop c s (length m) m) l
   unfolding loop once
   unroll [] = refl
-  unroll (b ∷ l) = by-cases (begins c (b ∷ l)) (λ t. rw t (by-got (s (b ∷ l)) refl (λ a r q. fuel (length l) (length r) r (omega (arith, eats (b ∷ l) a r q)) (le-refl _)))) (λ t. rw t)
+  unroll (b ∷ l) = by-cases (begins c (b ∷ l))
+      (λ t. rw t (by-got (s (b ∷ l)) refl (λ a r q. fuel (length l) (length r) r (omega (arith, eats (b ∷ l) a r q)) (le-refl _)))) (λ t. rw t)
     where
-      by-got : (o : Scan A) → s (b ∷ l) ≡ o → ((a : A) (r : List ℕ) → s (b ∷ l) ≡ Got a r → loop c s (length l) r ≡ loop c s (length r) r) → onGot o (λ a r. onGot (loop c s (length l) r) (λ vs t. Got (a ∷ vs) t)) ≡ onGot o (λ a r. onGot (loop c s (length r) r) (λ vs t. Got (a ∷ vs) t))
+      by-got : (o : Scan A) → s (b ∷ l) ≡ o → ((a : A) (r : List ℕ) → s (b ∷ l) ≡ Got a r → loop c s (length l) r ≡ loop c s (length r) r)
+          → onGot o (λ a r. onGot (loop c s (length l) r) (λ vs t. Got (a ∷ vs) t)) ≡ onGot o (λ a r. onGot (loop c s (length r) r) (λ vs t. Got (a ∷ vs) t))
       by-got (Got a r) e f = rw (f a r e)
       by-got (Stop r) e f = refl
 
@@ -237,19 +245,23 @@ module _ {A : Type 0} (c : Class) (s : List ℕ → Scan A) (eats : (l : List �
       (λ t. rw t (ap (λ x. o l ++ x) (by-got (s l) refl (λ a r q. fuel-over o k n r (omega (arith, eats l a r q, h)) (omega (arith, eats l a r q, g))))))
       (λ t. rw t)
     where
-      by-got : (u : Scan A) → s l ≡ u → ((a : A) (r : List ℕ) → s l ≡ Got a r → overs c s o k r ≡ overs c s o n r) → onward u (λ a r. overs c s o k r) ≡ onward u (λ a r. overs c s o n r)
+      by-got : (u : Scan A) → s l ≡ u → ((a : A) (r : List ℕ) → s l ≡ Got a r → overs c s o k r ≡ overs c s o n r)
+          → onward u (λ a r. overs c s o k r) ≡ onward u (λ a r. overs c s o n r)
       by-got (Got a r) e f = f a r e
       by-got (Stop r) e f = refl
 
-  unroll-over : (o : List ℕ → List (List ℕ)) (l : List ℕ) → overs c s o (length l) l ≡ (if begins c l then (o l ++ onward (s l) (λ a r. overs c s o (length r) r)) else [])
+  unroll-over : (o : List ℕ → List (List ℕ)) (l : List ℕ)
+      → overs c s o (length l) l ≡ (if begins c l then (o l ++ onward (s l) (λ a r. overs c s o (length r) r)) else [])
   unfolding overs
   unroll-over o [] = refl
   unroll-over o (b ∷ l) =
       by-cases (begins c (b ∷ l))
-      (λ t. rw t (ap (λ x. o (b ∷ l) ++ x) (by-got (s (b ∷ l)) refl (λ a r q. fuel-over o (length l) (length r) r (omega (arith, eats (b ∷ l) a r q)) (le-refl _)))))
+      (λ t. rw t (ap (λ x. o (b ∷ l) ++ x)
+      (by-got (s (b ∷ l)) refl (λ a r q. fuel-over o (length l) (length r) r (omega (arith, eats (b ∷ l) a r q)) (le-refl _)))))
       (λ t. rw t)
     where
-      by-got : (u : Scan A) → s (b ∷ l) ≡ u → ((a : A) (r : List ℕ) → s (b ∷ l) ≡ Got a r → overs c s o (length l) r ≡ overs c s o (length r) r) → onward u (λ a r. overs c s o (length l) r) ≡ onward u (λ a r. overs c s o (length r) r)
+      by-got : (u : Scan A) → s (b ∷ l) ≡ u → ((a : A) (r : List ℕ) → s (b ∷ l) ≡ Got a r → overs c s o (length l) r ≡ overs c s o (length r) r)
+          → onward u (λ a r. overs c s o (length l) r) ≡ onward u (λ a r. overs c s o (length r) r)
       by-got (Got a r) e f = f a r e
       by-got (Stop r) e f = refl
 
@@ -261,7 +273,8 @@ module _ {A : Type 0} (c : Class) (s : List ℕ → Scan A) (eats : (l : List �
   local-loop h (suc n) l g =
       subst (λ k. Local k l) (fun-ext (λ m. sym (unroll m)))
       (local-pick c _ _ l
-      (local-bind s _ l (h l) (λ a m e. local-bind (λ m. loop c s (length m) m) _ m (local-loop h n m (omega (arith, eats l a m e, g))) (λ vs t q. local-got (a ∷ vs) t)))
+      (local-bind s _ l (h l)
+      (λ a m e. local-bind (λ m. loop c s (length m) m) _ m (local-loop h n m (omega (arith, eats l a m e, g))) (λ vs t q. local-got (a ∷ vs) t)))
       (local-got [] l))
 
 eats-of : {A : Type 0} (f : Form A) → not (nullable f) ≡ true → (l : List ℕ) (v : A) (r : List ℕ) → scan f l ≡ Got v r → length r < length l
@@ -271,11 +284,13 @@ eats-of f n l v r e =
     omega (arith, h, ap length (i .1) ∙ length-append (i .0) r)
 
 -- one turn of a star
-pub star-unroll : {A : Type 0} (f : Form A) → not (nullable f) ≡ true → (l : List ℕ) → scan (many f) l ≡ (if begins (firstSet f) l then (onGot (scan f l) (λ a r. onGot (scan (many f) r) (λ vs t. Got (a ∷ vs) t))) else (Got [] l))
+pub star-unroll : {A : Type 0} (f : Form A) → not (nullable f) ≡ true → (l : List ℕ)
+    → scan (many f) l ≡ (if begins (firstSet f) l then (onGot (scan f l) (λ a r. onGot (scan (many f) r) (λ vs t. Got (a ∷ vs) t))) else (Got [] l))
 unfolding scan once
 star-unroll f n l = unroll (firstSet f) (λ m. scan f m) (λ m v r e. eats-of f n m v r e) l
 
-pub star-over : {A : Type 0} (f : Form A) → not (nullable f) ≡ true → (l : List ℕ) → over (many f) l ≡ (if begins (firstSet f) l then (over f l ++ onward (scan f l) (λ a r. over (many f) r)) else [])
+pub star-over : {A : Type 0} (f : Form A) → not (nullable f) ≡ true → (l : List ℕ)
+    → over (many f) l ≡ (if begins (firstSet f) l then (over f l ++ onward (scan f l) (λ a r. over (many f) r)) else [])
 unfolding over
 star-over f n l = unroll-over (firstSet f) (λ m. scan f m) (λ m v r e. eats-of f n m v r e) (λ m. over f m) l
 

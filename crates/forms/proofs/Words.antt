@@ -56,13 +56,23 @@ any-case y b c =
     (λ x. let n = eqb-false b (y - 32) x in rw (x, ne-eqb (b + 32) y (λ e. n (omega (arith, e)))))))
     (λ u.
     rw u (by-cases (eqb b y) (λ x. rw x)
-    (λ x. rw (x, ne-eqb b (y - 32) (λ e. let q : capital b ≡ true = is-inside 65 b 90 (omega (arith, e, s .low)) (omega (arith, e, s .high)) in never (cc))))))))
+    (λ x. rw (
+      x,
+      ne-eqb b (y - 32) (λ e. let q : capital b ≡ true = is-inside 65 b 90 (omega (arith, e, s .low)) (omega (arith, e, s .high)) in
+          never (cc)),
+    ))))))
     (λ t.
     rw (t, span-one b y)
     (by-cases (capital b)
     (λ u.
     let r = inside 65 b 90 u in
-    rw (u, ne-eqb b y (λ e. let q : capital y ≡ true = rw (← e) u in never (cc)), ne-eqb (b + 32) y (λ e. let q : between 97 122 y ≡ true = is-inside 97 y 122 (omega (arith, e, r .low)) (omega (arith, e, r .high)) in never (cc))))
+    rw (
+      u,
+      ne-eqb b y (λ e. let q : capital y ≡ true = rw (← e) u in
+          never (cc)),
+      ne-eqb (b + 32) y (λ e. let q : between 97 122 y ≡ true = is-inside 97 y 122 (omega (arith, e, r .low)) (omega (arith, e, r .high)) in
+          never (cc)),
+    ))
     (λ u. rw u (by-cases (eqb b y) (λ x. rw x) (λ x. rw x)))))
 
 -- no byte is a capital
@@ -91,9 +101,20 @@ says-makes k [] a s [] v e q = (refl, q)
 says-makes k [] a s (b ∷ x) v e q = never (cc)
 says-makes k (y ∷ w) a s [] v e q = never (cc)
 says-makes k (y ∷ w) a s (b ∷ x) v e q =
-    let c = small-parts y w s in
-    ((b, v), refl, (b ∷ [], x, refl, (refl, any-case y b (c .0) ∙ both-left (eqb (lower b) y) (sameWord x w) e), says-makes k w a (c .1) x v (both-right (eqb (lower b) y) (sameWord x w) e) q))
+    let c = small-parts y w s in (
+      (b, v),
+      refl,
+      (
+        b ∷ [],
+        x,
+        refl,
+        (refl, any-case y b (c .0) ∙ both-left (eqb (lower b) y) (sameWord x w) e),
+        says-makes k w a (c .1) x v
+            (both-right (eqb (lower b) y) (sameWord x w) e) q,
+      ),
+    )
 
 -- THE MEANING of a word's form: the word, its letters in either case
-pub says-means : {A : Type 0} (k : Bool) (w : List ℕ) (a : A) → small w ≡ true → (x : List ℕ) (v : A) → Means k (keyword w a) x v ↔ ((sameWord x w ≡ true) × (v ≡ a))
+pub says-means : {A : Type 0} (k : Bool) (w : List ℕ) (a : A) → small w ≡ true → (x : List ℕ) (v : A)
+    → Means k (keyword w a) x v ↔ ((sameWord x w ≡ true) × (v ≡ a))
 says-means k w a s x v = (λ m. says-is k w a s x v m, λ m. says-makes k w a s x v (m .0) (m .1))

@@ -5,7 +5,8 @@
 use mathlib.Core.Path.{_≡_, refl, sym, ap, _∙_, subst, fun-ext}
 use mathlib.Core.Logic.{_⊎_, inl, inr, ⊎-elim}
 use mathlib.Core.Bool.{Bool, true, false, _&&_, true≢false, false≢true}
-use mathlib.Core.List.{List, [], _∷_, _++_, List·Memᴰ as Mem, List·Memᴰ·head as here, List·Memᴰ·tail as there, List·Memᴰ·not-nil as not-nil, List·Memᴰ·cases-cons as cases-cons}
+use mathlib.Core.List.{List, [], _∷_, _++_, List·Memᴰ as Mem, List·Memᴰ·head as here, List·Memᴰ·tail as there, List·Memᴰ·not-nil as not-nil}
+use mathlib.Core.List.{List·Memᴰ·cases-cons as cases-cons}
 use Prim.Native.Nat.{ℕ}
 use lib.ListN.{length}
 use Rattle.forms.proofs.Bools.{by-cases}
@@ -31,7 +32,8 @@ use Rattle.definitions.specs.Starts.{startAt}
 use Rattle.definitions.specs.References.{lastAfter}
 use Rattle.definitions.specs.Fields.{View, viewOf, present, sizeContext}
 use Rattle.definitions.specs.Tests.{atContext, sizeHolds, atHolds, testHolds}
-use Rattle.definitions.specs.Placements.{startsTo, spread, onlyIf, Constraint, matched, unmatched, tested, patternConstraint, constraintBy, constraints, itemsOf, liesIn, starts, unmatchedHolds, placements, headHolds, listed}
+use Rattle.definitions.specs.Placements.{startsTo, spread, onlyIf, Constraint, matched, unmatched, tested, patternConstraint, constraintBy}
+use Rattle.definitions.specs.Placements.{constraints, itemsOf, liesIn, starts, unmatchedHolds, placements, headHolds, listed}
 use Rattle.definitions.specs.Answers.{inputCheck, placementsOf, verdictBy, verdictAnswer}
 use Rattle.laws.proofs.Keep.{keep-none}
 
@@ -90,7 +92,8 @@ only c x m = ⊎-elim (λ e. e) (λ n. absurd (not-nil n)) (cases-cons m)
 absent-first : (v : View) (x c : Context) (b : Bool) → Mem c (x ∷ []) → v .present c ≡ false → (v .present x && b) ≡ false
 absent-first v x c b m e = let f : v .present x ≡ false = ap (v .present) (sym (only c x m)) ∙ e in rw f
 
-absent-test : (v : View) (it : Item) (al : List Address) (l : LastMatch) (c : Context) → Mem c (fieldsTested it l) → v .present c ≡ false → testHolds v it al l ≡ false
+absent-test : (v : View) (it : Item) (al : List Address) (l : LastMatch) (c : Context) → Mem c (fieldsTested it l) → v .present c ≡ false
+    → testHolds v it al l ≡ false
 unfolding testHolds sizeHolds atHolds
 absent-test v item.Unused al l c m e = refl
 absent-test v (item.Address a) al l c m e = absurd (not-nil m)
@@ -103,7 +106,8 @@ absent-test v (item.At t) al l c m e = absent-first v (atContext (t .relative) l
 absent-test v (item.Pattern p) al l c m e = refl
 
 -- A TEST OR PATTERN ON AN ABSENT FIELD NEVER HOLDS, negated or not
-pub absent-never : (v : View) (w : Constraint) (l : LastMatch) (s : Start) (c : Context) → Mem c (fieldsRead w l) → v .present c ≡ false → itemHolds v w l s ≡ false
+pub absent-never : (v : View) (w : Constraint) (l : LastMatch) (s : Start) (c : Context) → Mem c (fieldsRead w l) → v .present c ≡ false
+    → itemHolds v w l s ≡ false
 unfolding liesIn unmatchedHolds
 absent-never v (matched p b) l s c m e = absent-first v (p .context) c _ m e
 absent-never v (unmatched p b) l s c m e = absent-first v (p .context) c _ m e
@@ -175,12 +179,14 @@ module _ (v : View) where
     after-none : (us : List Constraint) (k l : LastMatch) → Alike k l → Mem c (fieldsRead w (lastAfterAll us l)) → placements v (us ++ (w ∷ ws)) k ≡ []
     unfolding placements lastAfterAll
     after-none [] k l h m = never-none w ws k (λ s. absent-never v w k s c (subst (Mem c) (sym (read-alike w k l h)) m) e)
-    after-none (matched p b ∷ us) k l h m = spread-none _ (starts v p b k) (λ s. after-none us (lastAfter k p s) (lastAfter l p (startAt 0)) (after-alike p s k l h) m)
+    after-none (matched p b ∷ us) k l h m =
+        spread-none _ (starts v p b k) (λ s. after-none us (lastAfter k p s) (lastAfter l p (startAt 0)) (after-alike p s k l h) m)
     after-none (unmatched p b ∷ us) k l h m = only-none (unmatchedHolds v p b k) _ (after-none us k l h m)
     after-none (tested it al ∷ us) k l h m = only-none (testHolds v it al k) _ (after-none us k l h m)
 
   -- A LIST OF ITEMS ONE OF WHICH LOOKS AT AN ABSENT FIELD HAS NO PLACEMENTS: the item w between the items us and ws, after the last pattern l
-  pub absent-after : (us : List Constraint) (w : Constraint) (ws : List Constraint) (l : LastMatch) (c : Context) → Mem c (fieldsRead w (lastAfterAll us l)) → v .present c ≡ false
+  pub absent-after : (us : List Constraint) (w : Constraint) (ws : List Constraint) (l : LastMatch) (c : Context)
+      → Mem c (fieldsRead w (lastAfterAll us l)) → v .present c ≡ false
       → placements v (us ++ (w ∷ ws)) l ≡ []
   absent-after us w ws l c m e = after-none w ws c e us l l refl m
 
@@ -205,7 +211,8 @@ module _ (v : View) where
 pattern-reads : (p : Pattern) (b : List ℕ) (l : LastMatch) → fieldsRead (patternConstraint p b) l ≡ p .context ∷ []
 pattern-reads p b l = by-cases (p .negated) (λ t. rw t) (λ f. rw f)
 
-slot-reads : (it : Item) (al : List Address) (b : List ℕ) (c : Context) → Mem c (fieldsOf it) → (l : LastMatch) → Mem c (fieldsRead (constraintBy (kindOf it) it al b) l)
+slot-reads : (it : Item) (al : List Address) (b : List ℕ) (c : Context) → Mem c (fieldsOf it) → (l : LastMatch)
+    → Mem c (fieldsRead (constraintBy (kindOf it) it al b) l)
 slot-reads item.Unused al b c m l = absurd (not-nil m)
 slot-reads (item.Address a) al b c m l = absurd (not-nil m)
 slot-reads item.SameIp al b c m l = absurd (not-nil m)
@@ -271,12 +278,15 @@ last-among (tested it al ∷ us) l = ⊎-elim inl (λ q. inr (q .0, q .1, there 
 -- DATA_AT LOOKS AT AN ABSENT FIELD ONLY WITH RELATIVE, BEHIND A PATTERN ON THAT FIELD, which then holds as little: else it looks at the payload,
 -- which is always present
 pub absent-at : (m : FieldMap) (us : List Constraint) (t : AtTest) → present m (atContext (t .relative) (lastAfterAll us None)) ≡ false
-    → (t .relative ≡ true) × ((p : Pattern) × (b : List ℕ) × Mem (matched p b) us × (p .context ≡ atContext (t .relative) (lastAfterAll us None)) × (present m (p .context) ≡ false))
+    → (t .relative ≡ true)
+    × ((p : Pattern) × (b : List ℕ) × Mem (matched p b) us × (p .context ≡ atContext (t .relative) (lastAfterAll us None))
+    × (present m (p .context) ≡ false))
 unfolding present
 absent-at m us t e = go (t .relative) e
   where
     go : (relative : Bool) → present m (atContext relative (lastAfterAll us None)) ≡ false
-        → (relative ≡ true) × ((p : Pattern) × (b : List ℕ) × Mem (matched p b) us × (p .context ≡ atContext relative (lastAfterAll us None)) × (present m (p .context) ≡ false))
+        → (relative ≡ true) × ((p : Pattern) × (b : List ℕ) × Mem (matched p b) us × (p .context ≡ atContext relative (lastAfterAll us None))
+        × (present m (p .context) ≡ false))
     go false e = absurd (true≢false e)
     go true e = (
       refl,

@@ -21,7 +21,8 @@ use Rattle.definitions.specs.Reading.{read}
 use Rattle.definitions.specs.WellFormed.{wellFormed}
 use Rattle.definitions.specs.Canonical.{canonicalText}
 use Rattle.definitions.specs.Writing.{writingCheck, writes}
-use Rattle.definitions.specs.Packet.{versionOf, headerWords, headerLength, totalLength, isFragment, datagramOf, payloadOf, transportShort, packetCheck, packetAnswer}
+use Rattle.definitions.specs.Packet.{versionOf, headerWords, headerLength, totalLength, isFragment, datagramOf, payloadOf, transportShort}
+use Rattle.definitions.specs.Packet.{packetCheck, packetAnswer}
 use Rattle.definitions.specs.Fields.{fieldPasses, mapped, fieldsCheck}
 use Rattle.definitions.specs.Placements.{itemsOf, positives}
 use Rattle.definitions.specs.Answers.{inputCheck, verdictAnswer, firstAnswer, earlierCheck, nextAnswer}
@@ -93,7 +94,8 @@ module _ (t : Table) (p decoded : List ℕ) (dir : Direction) (m : FieldMap) whe
       refuse-among verdictCauses (not (wellFormed t)) refusal.IllFormed _ refl
       (else-among verdictCauses (packetCheck p decoded) (fieldsCheck (payloadOf (datagramOf p)) decoded m)
       (among-more packetCauses verdictCauses (checkNumber (packetCheck p decoded)) refl (packet-among p decoded))
-      (among-more fieldsCauses verdictCauses (checkNumber (fieldsCheck (payloadOf (datagramOf p)) decoded m)) refl (fields-causes (payloadOf (datagramOf p)) decoded m)))
+      (among-more fieldsCauses verdictCauses (checkNumber (fieldsCheck (payloadOf (datagramOf p)) decoded m)) refl
+      (fields-causes (payloadOf (datagramOf p)) decoded m)))
 
   next-among : (h : Placement) → CheckAmong nextCauses (andThen (inputCheck t p decoded dir m) (earlierCheck t p decoded dir m h))
   unfolding any? all?

@@ -64,7 +64,8 @@ passes-same : (sp : FieldSpan) (b b′ : List ℕ) → length b ≡ length b′ 
 passes-same Absent b b′ e = refl
 passes-same (At sp) b b′ e = ap (λ (n : ℕ). ltb n (sp .start + sp .len)) e
 
-buffer-same : (payload decoded decoded′ : List ℕ) → length decoded ≡ length decoded′ → (c : Context) → length (bufferOf payload decoded c) ≡ length (bufferOf payload decoded′ c)
+buffer-same : (payload decoded decoded′ : List ℕ) → length decoded ≡ length decoded′ → (c : Context)
+    → length (bufferOf payload decoded c) ≡ length (bufferOf payload decoded′ c)
 buffer-same payload decoded decoded′ e context.Packet = refl
 buffer-same payload decoded decoded′ e context.Uri = e
 buffer-same payload decoded decoded′ e context.Header = e
@@ -78,7 +79,8 @@ cut-same : (sp : FieldSpan) (b b′ : List ℕ) → isAt sp ≡ false → cut (s
 cut-same Absent b b′ e = refl
 cut-same (At sp) b b′ e = absurd (true≢false e)
 
-absent-same : (payload decoded decoded′ : List ℕ) (m : FieldMap) (c : Context) → present m c ≡ false → fieldOf payload decoded m c ≡ fieldOf payload decoded′ m c
+absent-same : (payload decoded decoded′ : List ℕ) (m : FieldMap) (c : Context) → present m c ≡ false
+    → fieldOf payload decoded m c ≡ fieldOf payload decoded′ m c
 unfolding fieldOf present
 absent-same payload decoded decoded′ m context.Packet e = refl
 absent-same payload decoded decoded′ m context.Uri e = cut-same (m .uri) decoded decoded′ e
@@ -103,7 +105,8 @@ checkBy n k b total d =
     refuseIf (tooLong n k) refusal.BufferLength (refuseIf (otherVersion n b) refusal.NotIpv4 (refuseIf (wrongLengths n b total) refusal.Lengths d))
 
 lengths-within : (n b total : ℕ) → wrongLengths n b total ≡ false → total ≤ n
-lengths-within n b total e = ltb-false n total (neither (ltb total (b % 16 * 4)) (ltb n total) (neither (ltb (b % 16) 5) (ltb total (b % 16 * 4) || ltb n total) e .1) .1)
+lengths-within n b total e =
+    ltb-false n total (neither (ltb total (b % 16 * 4)) (ltb n total) (neither (ltb (b % 16) 5) (ltb total (b % 16 * 4) || ltb n total) e .1) .1)
 
 -- the datagram is looked at only where it lies in the lent bytes
 check-by-same : (n k b total : ℕ) (d d′ : Check) → (total ≤ n → d ≡ d′) → checkBy n k b total d ≡ checkBy n k b total d′
@@ -151,15 +154,18 @@ module _ (p p′ decoded decoded′ : List ℕ) (m : FieldMap) (h : Alike p p′
   packet-check-same : packetCheck p decoded ≡ packetCheck p′ decoded′
   packet-check-same =
       check-by p decoded
-      ∙ check-by-same (length p) (length decoded) (bigEndian 1 p 0) (totalLength p) (datagramCheck (datagramOf p)) (datagramCheck (datagramOf p′)) (λ w. ap datagramCheck (h .datagrams w))
+      ∙ check-by-same (length p) (length decoded) (bigEndian 1 p 0) (totalLength p) (datagramCheck (datagramOf p)) (datagramCheck (datagramOf p′))
+      (λ w. ap datagramCheck (h .datagrams w))
       ∙ front-same (datagramCheck (datagramOf p′))
       ∙ sym (check-by p′ decoded′)
 
   packet-within : packetCheck p decoded ≡ Pass → totalLength p ≤ length p
   packet-within e = check-by-within (length p) (length decoded) (bigEndian 1 p 0) (totalLength p) (datagramCheck (datagramOf p)) (sym (check-by p decoded) ∙ e)
 
-  one-passes : (payload : List ℕ) (c : Context) → passes (spanOf payload m c) (bufferOf payload decoded c) ≡ passes (spanOf payload m c) (bufferOf payload decoded′ c)
-  one-passes payload c = passes-same (spanOf payload m c) (bufferOf payload decoded c) (bufferOf payload decoded′ c) (buffer-same payload decoded decoded′ (h .buffer-decoded) c)
+  one-passes : (payload : List ℕ) (c : Context)
+      → passes (spanOf payload m c) (bufferOf payload decoded c) ≡ passes (spanOf payload m c) (bufferOf payload decoded′ c)
+  one-passes payload c =
+      passes-same (spanOf payload m c) (bufferOf payload decoded c) (bufferOf payload decoded′ c) (buffer-same payload decoded decoded′ (h .buffer-decoded) c)
 
   fields-check-same : (payload : List ℕ) → fieldsCheck payload decoded m ≡ fieldsCheck payload decoded′ m
   unfolding fieldsCheck any?
@@ -203,7 +209,8 @@ module _ (p p′ decoded decoded′ : List ℕ) (m : FieldMap) (h : Alike p p′
     pub first-depends : firstAnswer t p decoded dir m ≡ firstAnswer t p′ decoded′ dir m
     unfolding firstAnswer
     first-depends =
-        unless-same (inputCheck t p decoded dir m) (headOf (placementsOf t p decoded dir m)) (headOf (placementsOf t p′ decoded′ dir m)) (λ e. ap headOf (list-same e))
+        unless-same (inputCheck t p decoded dir m) (headOf (placementsOf t p decoded dir m)) (headOf (placementsOf t p′ decoded′ dir m))
+        (λ e. ap headOf (list-same e))
         ∙ ap (λ (d : Check). unless d (headOf (placementsOf t p′ decoded′ dir m))) check-same
 
     pub next-depends : (held : Placement) → nextAnswer t p decoded dir m held ≡ nextAnswer t p′ decoded′ dir m held

@@ -47,8 +47,10 @@ kept-least b q qs l r e =
     go u (inr n) rises = inr (rises .0 u n)
 
 kept-none : (b : List Start) (l : List (List Start)) → (keep (lexLess b) l ≡ []) ↔ NoneAfter b l
-kept-none b l =
-    ((λ e u n. out u n e (lexLess b u) refl), (λ f. all-out (keep (lexLess b) l) (λ u n. let w = keep-in (lexLess b) u l n in true≢false (sym (w .1) ∙ f u (w .0)))))
+kept-none b l = (
+  (λ e u n. out u n e (lexLess b u) refl),
+  (λ f. all-out (keep (lexLess b) l) (λ u n. let w = keep-in (lexLess b) u l n in true≢false (sym (w .1) ∙ f u (w .0)))),
+)
   where
     out : (u : List Start) → Mem u l → keep (lexLess b) l ≡ [] → (t : Bool) → lexLess b u ≡ t → lexLess b u ≡ false
     out u n e true h = absurd (not-nil (subst (λ (k : List (List Start)). Mem u k) e (keep-of (lexLess b) u l n h)))

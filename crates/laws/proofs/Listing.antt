@@ -4,7 +4,10 @@
 use mathlib.Core.Path.{_≡_, refl, sym, ap, _∙_, subst}
 use mathlib.Core.Logic.{⊎-elim, _↔_}
 use mathlib.Core.Bool.{Bool, true, false, _&&_, false≢true}
-use mathlib.Core.List.{List, [], _∷_, _++_, map, nil≢cons, cons≢nil, head-eq-of-cons-eq, tail-eq-of-cons-eq, List·Memᴰ as Mem, List·Memᴰ·head as here, List·Memᴰ·tail as there, List·Memᴰ·not-nil as not-nil, List·Memᴰ·cases-cons as cases-cons, List·Memᴰ·append-cases as append-cases, Memᴰ·cast as mem-cast, Memᴰ·append-left as append-left, Memᴰ·append-right as append-right}
+use mathlib.Core.List.{List, [], _∷_, _++_, map, nil≢cons, cons≢nil, head-eq-of-cons-eq, tail-eq-of-cons-eq, List·Memᴰ as Mem}
+use mathlib.Core.List.{List·Memᴰ·head as here, List·Memᴰ·tail as there, List·Memᴰ·not-nil as not-nil, List·Memᴰ·cases-cons as cases-cons}
+use mathlib.Core.List.{List·Memᴰ·append-cases as append-cases, Memᴰ·cast as mem-cast, Memᴰ·append-left as append-left}
+use mathlib.Core.List.{Memᴰ·append-right as append-right}
 use Prim.Native.Nat.{ℕ}
 use native.Mathlib.Omega.{arith}
 use lib.ListN.{length}
@@ -19,7 +22,8 @@ use Rattle.definitions.specs.References.{lastAfter}
 use Rattle.definitions.specs.Fields.{View}
 use Rattle.definitions.specs.Tests.{testHolds}
 use Rattle.definitions.specs.Lists.{none?}
-use Rattle.definitions.specs.Placements.{spread, onlyIf, Constraint, matched, unmatched, tested, itemsOf, positives, liesIn, starts, unmatchedHolds, Meets, placements, headHolds, MeetsTable, listed, lexLess}
+use Rattle.definitions.specs.Placements.{spread, onlyIf, Constraint, matched, unmatched, tested, itemsOf, positives, liesIn, starts, unmatchedHolds}
+use Rattle.definitions.specs.Placements.{Meets, placements, headHolds, MeetsTable, listed, lexLess}
 use Rattle.laws.proofs.LexOrder.{lexLess-same, lexLess-head}
 use Rattle.laws.proofs.Rising.{Rises, rises-append, Rising, rising-once}
 use Rattle.laws.proofs.PatternStarts.{starts-in, starts-of, starts-rise}

@@ -59,7 +59,8 @@ module _ (t : Table) (p decoded : List ℕ) (dir : Direction) (m : FieldMap) whe
   unfolding firstAnswer
   first-number = unless-number (inputCheck t p decoded dir m) (placementsOf t p decoded dir m)
 
-  pub next-number : (h : Placement) → foundNumber (nextAnswer t p decoded dir m h .found) ≡ checkNumber (andThen (inputCheck t p decoded dir m) (earlierCheck t p decoded dir m h))
+  pub next-number : (h : Placement)
+      → foundNumber (nextAnswer t p decoded dir m h .found) ≡ checkNumber (andThen (inputCheck t p decoded dir m) (earlierCheck t p decoded dir m h))
   unfolding nextAnswer
   next-number h =
       unless-number (andThen (inputCheck t p decoded dir m) (earlierCheck t p decoded dir m h)) (keep (lexLess (startsOf h)) (placementsOf t p decoded dir m))

@@ -1,4 +1,5 @@
--- A refused reading has a place at most the text's length (`place-within`), and never beyond the limit of a text (`place-most`), and a number from 1 to 12. The options are read left to right, each
+-- A refused reading has a place at most the text's length (`place-within`), and never beyond the limit of a text (`place-most`), and a number from 1 to 12.
+-- The options are read left to right, each
 -- place is where the reading stands or an option's first dash before it, and it never stands after the text.
 use mathlib.Core.Path.{_≡_, refl, ap, subst}
 use mathlib.Core.Bool.{Bool, true, false, not, _&&_, _||_, false≢true}
@@ -24,7 +25,8 @@ use Rattle.definitions.specs.Refusals.{numberOf, readPlace}
 use Rattle.definitions.specs.OptionValues.{OptionValue, Name, Protocol, Flow, Test, Pattern, Modified}
 use Rattle.definitions.specs.Options.{NamedOption, unlisted, listed, optionAt, printable, opening}
 use Rattle.definitions.specs.Occurrences.{isTest, isPattern, sameKind, sameModifier, latest, occurrenceCheck, missing}
-use Rattle.definitions.specs.Reading.{Located, optionValuesOf, Options, ended, refused, unlessRefused, optionStep, isSpace, dashes, options, patternDash, checkedTable, finished, readUnbounded, read}
+use Rattle.definitions.specs.Reading.{Located, optionValuesOf, Options, ended, refused, unlessRefused, optionStep, isSpace, dashes, options}
+use Rattle.definitions.specs.Reading.{patternDash, checkedTable, finished, readUnbounded, read}
 use Rattle.definitions.specs.References.{usableIn}
 use Rattle.laws.proofs.Checks.{among, CheckAmong, refuse-among}
 
@@ -43,7 +45,8 @@ unfolding occurrenceCheck any?
 check-for-among es (Name n) = refuse-among readCauses (any? (sameKind (Name n)) es) refusal.Repeated check.Pass refl refl
 check-for-among es (Protocol p) = refuse-among readCauses (any? (sameKind (Protocol p)) es) refusal.Repeated check.Pass refl refl
 check-for-among es (Flow f) = refuse-among readCauses (any? (sameKind (Flow f)) es) refusal.Repeated check.Pass refl refl
-check-for-among es (Test it al) = refuse-among readCauses (ltb maxAddresses (length al) || leb maxTests (count isTest es)) refusal.CountExceeded check.Pass refl refl
+check-for-among es (Test it al) =
+    refuse-among readCauses (ltb maxAddresses (length al) || leb maxTests (count isTest es)) refusal.CountExceeded check.Pass refl refl
 check-for-among es (Pattern n b) = refuse-among readCauses (leb maxPatterns (count isPattern es)) refusal.CountExceeded check.Pass refl refl
 check-for-among es (Modified m) =
     refuse-among readCauses (eqb (count isPattern es) 0) refusal.ModifierWithoutPattern _ refl
@@ -82,7 +85,8 @@ unless-fit : (n : ℕ) (d : Check) (at : ℕ) (k : Options) → CheckAmong readC
 unless-fit n check.Pass at k e l h = h
 unless-fit n (check.Refuse r) at k e l h = (e, l)
 
-taken-fit : (n : ℕ) (o : NamedOption) (es : List OptionValue) (at : ℕ) (k : OptionValue → ℕ → Options) → at ≤ n → ((e : OptionValue) (next : ℕ) → OptionsFit n (k e next)) → OptionsFit n (optionStep o es at k)
+taken-fit : (n : ℕ) (o : NamedOption) (es : List OptionValue) (at : ℕ) (k : OptionValue → ℕ → Options) → at ≤ n
+    → ((e : OptionValue) (next : ℕ) → OptionsFit n (k e next)) → OptionsFit n (optionStep o es at k)
 unfolding any?
 taken-fit n unlisted es at k l h = (refl, l)
 taken-fit n (listed (Failed p)) es at k l h = (refl, l)

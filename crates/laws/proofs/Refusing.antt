@@ -16,7 +16,8 @@ use Rattle.definitions.specs.Limits.{Limits}
 use Rattle.definitions.specs.Lists.{none?, count, sameBytes}
 use Rattle.definitions.specs.Tables.{tableOf}
 use Rattle.definitions.specs.Occurrences.{isPattern, missing}
-use Rattle.definitions.specs.Reading.{Located, optionValuesOf, Options, ended, refused, options, patternDash, refusedReading, checkedTable, finished, readUnbounded, read}
+use Rattle.definitions.specs.Reading.{Located, optionValuesOf, Options, ended, refused, options, patternDash, refusedReading, checkedTable, finished}
+use Rattle.definitions.specs.Reading.{readUnbounded, read}
 use Rattle.definitions.specs.Options.{printable, opening}
 use Rattle.definitions.specs.References.{usableIn}
 

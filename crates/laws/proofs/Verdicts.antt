@@ -43,14 +43,17 @@ module _ (t : Table) (p decoded : List ℕ) (dir : Direction) (m : FieldMap) whe
       ↔ ((inputCheck t p decoded dir m ≡ Pass) × ((q : List Start) × MeetsTable t (viewOf p decoded m) dir q))
   unfolding verdictAnswer placementsOf
   verdict-meets = (
-    (λ e. let w = met-in (inputCheck t p decoded dir m) (placementsOf t p decoded dir m) e in (w .0, (w .1 .0, listed-meets t (viewOf p decoded m) dir (w .1 .0) .0 (w .1 .1)))),
-    (λ h. met-of (inputCheck t p decoded dir m) (placementsOf t p decoded dir m) (h .1 .0) (h .0) (listed-meets t (viewOf p decoded m) dir (h .1 .0) .1 (h .1 .1))),
+    (λ e. let w = met-in (inputCheck t p decoded dir m) (placementsOf t p decoded dir m) e in
+        (w .0, (w .1 .0, listed-meets t (viewOf p decoded m) dir (w .1 .0) .0 (w .1 .1)))),
+    (λ h. met-of (inputCheck t p decoded dir m) (placementsOf t p decoded dir m) (h .1 .0) (h .0)
+        (listed-meets t (viewOf p decoded m) dir (h .1 .0) .1 (h .1 .1))),
   )
 
   pub verdict-misses : (verdictAnswer t p decoded dir m ≡ NotMet)
       ↔ ((inputCheck t p decoded dir m ≡ Pass) × ((q : List Start) → MeetsTable t (viewOf p decoded m) dir q → ⊥))
   unfolding verdictAnswer placementsOf
   verdict-misses = (
-    (λ e. let w = missed-in (inputCheck t p decoded dir m) (placementsOf t p decoded dir m) e in (w .0, λ q h. w .1 q (listed-meets t (viewOf p decoded m) dir q .1 h))),
+    (λ e. let w = missed-in (inputCheck t p decoded dir m) (placementsOf t p decoded dir m) e in
+        (w .0, λ q h. w .1 q (listed-meets t (viewOf p decoded m) dir q .1 h))),
     (λ h. missed-of (inputCheck t p decoded dir m) (placementsOf t p decoded dir m) (h .0) (λ q n. h .1 q (listed-meets t (viewOf p decoded m) dir q .0 n))),
   )

@@ -25,7 +25,8 @@ module _ (x count : ℕ) (l : List Address) (i : ℕ) where
     here : i < length (take count l)
     here = omega (arith, length-take count l)
 
-    pub among-more : sameBits (getD l i a .prefix) x (getD l i a .number) ≡ false → inAddresses x (drop i (take count l)) ≡ inAddresses x (drop (i + 1) (take count l))
+    pub among-more : sameBits (getD l i a .prefix) x (getD l i a .number) ≡ false
+        → inAddresses x (drop i (take count l)) ≡ inAddresses x (drop (i + 1) (take count l))
     unfolding inAddresses
     among-more e = rw (add-one i, drop-cons (take count l) i a here, getD-take count l i a h, e)
 

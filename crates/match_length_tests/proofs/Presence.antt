@@ -20,7 +20,8 @@ module _ (f : PacketHeader) (s d : List ℕ) (m : FieldMap) (c : Context) where
     unfolding sizeHolds
     size-absent p = rw (← e, p)
 
-    pub size-present : present m c ≡ true → (len n : ℕ) (r : Bool) → len ≡ length (fieldOf s d m c) → n ≡ t .number → r ≡ orderHolds (t .order) len n → r ≡ sizeHolds (seen f s d m) t
+    pub size-present : present m c ≡ true → (len n : ℕ) (r : Bool) → len ≡ length (fieldOf s d m c) → n ≡ t .number → r ≡ orderHolds (t .order) len n
+        → r ≡ sizeHolds (seen f s d m) t
     unfolding sizeHolds
     size-present p len n r l q h = rw (← e, p, ← l, ← q) h
 
@@ -29,6 +30,7 @@ module _ (f : PacketHeader) (s d : List ℕ) (m : FieldMap) (c : Context) where
     unfolding atHolds
     at-absent p = rw (← e, p)
 
-    pub at-present : present m c ≡ true → (len n start : ℕ) (r : Bool) → len ≡ length (fieldOf s d m c) → n ≡ t .number → start ≡ atStart (t .relative) last → r ≡ atExists n start len → r ≡ atHolds (seen f s d m) t last
+    pub at-present : present m c ≡ true → (len n start : ℕ) (r : Bool) → len ≡ length (fieldOf s d m c) → n ≡ t .number
+        → start ≡ atStart (t .relative) last → r ≡ atExists n start len → r ≡ atHolds (seen f s d m) t last
     unfolding atHolds
     at-present p len n start r l q k h = rw (← e, p, ← l, ← q, ← k) h

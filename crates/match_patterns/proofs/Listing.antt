@@ -56,7 +56,8 @@ none-after f at zero h = refl
 none-after f at (suc k) h = rw (h at (omega arith)) (none-after f (suc at) k (λ x l. h x (omega arith)))
 
 -- two tests that agree on k starts, of which the first holds nowhere after them
-agree : (f g : ℕ → Bool) (a k more : ℕ) → ((x : ℕ) → a ≤ x → x < a + k → f x ≡ g x) → ((x : ℕ) → a + k ≤ x → f x ≡ false) → keep f (upFrom a (k + more)) ≡ keep g (upFrom a k)
+agree : (f g : ℕ → Bool) (a k more : ℕ) → ((x : ℕ) → a ≤ x → x < a + k → f x ≡ g x) → ((x : ℕ) → a + k ≤ x → f x ≡ false)
+    → keep f (upFrom a (k + more)) ≡ keep g (upFrom a k)
 unfolding keep upFrom
 agree f g a zero more h n = rw zero-add (none-after f a more (λ x l. n x (omega arith)))
 agree f g a (suc k) more h n =

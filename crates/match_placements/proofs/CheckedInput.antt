@@ -1,4 +1,5 @@
--- What a packet for which neither 20 nor any of 30 to 34 is due hands on: small lengths, 35 as all that is still due, and a list that needs its header fields and
+-- What a packet for which neither 20 nor any of 30 to 34 is due hands on: small lengths, 35 as all that is still due, and a list that needs its header
+-- fields and
 -- payload alone.
 use mathlib.Core.Path.{_≡_, refl, sym, ap, _∙_}
 use mathlib.Core.Bool.{Bool, true, false, not, _||_}

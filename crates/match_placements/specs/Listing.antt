@@ -1,4 +1,5 @@
--- The list of placements, its first and its next, by what is left of a packet once 20 and 30 to 34 are tested: its header fields f, its payload s and the decoded
+-- The list of placements, its first and its next, by what is left of a packet once 20 and 30 to 34 are tested: its header fields f, its payload s and the
+-- decoded
 -- buffer d. Document 01, section "Meaning".
 use mathlib.Core.List.{List}
 use Rattle.forms.specs.Bytes.{if_then_else_}

@@ -36,7 +36,8 @@ module _ (t : Table) (p d : List ℕ) (dir : Direction) (m : FieldMap) where
   -- what is claimed of none twice where the list is empty, or of the empty placement and then none where that is the list
   abbrev pub EmptyOrNone : (List Answer → Type 0) → Type 0
   EmptyOrNone claim =
-      ((placementsOf t p d dir m ≡ []) × claim (noneAnswer ∷ noneAnswer ∷ [])) ⊎ ((placementsOf t p d dir m ≡ [] ∷ []) × claim (foundAnswer [] ∷ noneAnswer ∷ []))
+      ((placementsOf t p d dir m ≡ []) × claim (noneAnswer ∷ noneAnswer ∷ []))
+      ⊎ ((placementsOf t p d dir m ≡ [] ∷ []) × claim (foundAnswer [] ∷ noneAnswer ∷ []))
 
   module _ (check : inputCheck t p d dir m ≡ Pass) (none : positives (itemsOf t) ≡ 0) (h : Placement) where
     none-twice : placementsOf t p d dir m ≡ [] → answers t p d dir m h (First ∷ Next ∷ []) ≡ noneAnswer ∷ noneAnswer ∷ []
@@ -45,16 +46,19 @@ module _ (t : Table) (p d : List ℕ) (dir : Direction) (m : FieldMap) where
 
     one-then-none : placementsOf t p d dir m ≡ [] ∷ [] → answers t p d dir m h (First ∷ Next ∷ []) ≡ foundAnswer [] ∷ noneAnswer ∷ []
     one-then-none e =
-        subst (λ (l : List (List Start)). answers t p d dir m h (First ∷ replicate (length l) Next) ≡ map foundAnswer l ++ (noneAnswer ∷ [])) e (all-listed t p d dir m check h)
+        subst (λ (l : List (List Start)). answers t p d dir m h (First ∷ replicate (length l) Next) ≡ map foundAnswer l ++ (noneAnswer ∷ [])) e
+        (all-listed t p d dir m check h)
 
     -- of the answers, whatever is claimed of what they are equal to
     empty-claims : (claim : List Answer → Type 0) → ((rs : List Answer) → answers t p d dir m h (First ∷ Next ∷ []) ≡ rs → claim rs) → EmptyOrNone claim
     empty-claims claim f =
-        ⊎-elim (λ e. inl (e, f (noneAnswer ∷ noneAnswer ∷ []) (none-twice e))) (λ e. inr (e, f (foundAnswer [] ∷ noneAnswer ∷ []) (one-then-none e))) (empty-or-none t p d dir m none)
+        ⊎-elim (λ e. inl (e, f (noneAnswer ∷ noneAnswer ∷ []) (none-twice e))) (λ e. inr (e, f (foundAnswer [] ∷ noneAnswer ∷ []) (one-then-none e)))
+        (empty-or-none t p d dir m none)
 
 -- ---- by the contracts of the two entries
 
-module _ (κs : Lfts 1) (t : Table) (p d : RefT (List ℕ)) (dir : Direction) (m : FieldMap) (check : inputCheck t (now p) (now d) dir m ≡ Pass) (h : Placement) (rs : List Answer) where
+module _ (κs : Lfts 1) (t : Table) (p d : RefT (List ℕ)) (dir : Direction) (m : FieldMap) (check : inputCheck t (now p) (now d) dir m ≡ Pass)
+    (h : Placement) (rs : List Answer) where
   pub allowed-lists : Allowed κs t p d dir m h (First ∷ replicate (length (placementsOf t (now p) (now d) dir m)) Next) rs
       → rs ≡ map foundAnswer (placementsOf t (now p) (now d) dir m) ++ (noneAnswer ∷ [])
   allowed-lists a = allowed-is-model κs t p d dir m a ∙ all-listed t (now p) (now d) dir m check h

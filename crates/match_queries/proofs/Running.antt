@@ -28,7 +28,8 @@ query-next (suc a) e = refl
 -- ---- the two outcomes
 
 module _ (t : Table) (p d : List ℕ) (dir : Direction) (m : FieldMap) where
-  pub no-room : (h : Placement) (queries out : List ℕ) → length out < length queries * numbersOfOne → (false ≡ room queries out) × (out ≡ written t p d dir m h queries out)
+  pub no-room : (h : Placement) (queries out : List ℕ) → length out < length queries * numbersOfOne
+      → (false ≡ room queries out) × (out ≡ written t p d dir m h queries out)
   unfolding written
   no-room h queries out k = rw (lt-leb (length queries * numbersOfOne) (length out) k) (refl, refl)
 
@@ -43,7 +44,8 @@ module _ (t : Table) (p d : List ℕ) (dir : Direction) (m : FieldMap) where
   pending queries out h i =
       take (i * numbersOfOne) out ++ allNumbers (answers t p d dir m h (map queryOfByte (drop i queries))) ++ drop (length queries * numbersOfOne) out
 
-  pub run-start : (h : Placement) (queries out : List ℕ) → length queries * numbersOfOne ≤ length out → written t p d dir m h queries out ≡ pending queries out h 0
+  pub run-start : (h : Placement) (queries out : List ℕ) → length queries * numbersOfOne ≤ length out
+      → written t p d dir m h queries out ≡ pending queries out h 0
   unfolding written
   run-start h queries out k = rw (le-leb (length queries * numbersOfOne) (length out) k)
 
@@ -104,4 +106,5 @@ module _ (t : Table) (p d : List ℕ) (dir : Direction) (m : FieldMap) where
     run-step =
         rw (taken, dropped, model-step)
         (ap (λ (l : List ℕ). l ++ drop (length queries * numbersOfOne) out)
-        (sym (append-assoc (take (i * numbersOfOne) out) (answerNumbers r) (allNumbers (answers t p d dir m (r .placement) (map queryOfByte (drop (i + 1) queries)))))))
+        (sym (append-assoc (take (i * numbersOfOne) out) (answerNumbers r)
+        (allNumbers (answers t p d dir m (r .placement) (map queryOfByte (drop (i + 1) queries)))))))

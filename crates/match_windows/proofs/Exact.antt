@@ -57,7 +57,15 @@ limited s (pos k) len n at =
     (λ t. rw (t, smaller (at + n) len k) (span s n len (min k len) at (omega arith)))
     (λ t.
     let h = leb-false n k t in
-    rw (t, lt-leb (at + n) k (omega arith), and-false (leb (at + n) len), and-false (leb s at), le-ltb at 0 (omega arith), and-false (leb (min s (len + 1)) at)))
+    rw (
+      t,
+      lt-leb (at + n) k (omega arith),
+      and-false (leb (at + n) len),
+      and-false (leb s at),
+      le-ltb at 0 (omega arith),
+      and-false
+          (leb (min s (len + 1)) at),
+    ))
 
 -- the span's end where a reach is given
 module _ (s : ℤ) (w : Within) (v : WithinValue) (len n : ℕ) (e : w ≡ within.Given v) where

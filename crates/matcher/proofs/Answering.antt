@@ -24,7 +24,8 @@ use Rattle.matcher.specs.Verdicts.{verdictOf}
 
 -- ---- a refusal is due: a is what was cleared, x the answer given
 
-module _ (t : Table) (p d : List ℕ) (dir : Direction) (m : FieldMap) {a : PacketAnswer} (e : a ≡ inputHeader t p d) {r : Refusal} (k : a ≡ packet.Refused r) where
+module _ (t : Table) (p d : List ℕ) (dir : Direction) (m : FieldMap) {a : PacketAnswer} (e : a ≡ inputHeader t p d) {r : Refusal}
+    (k : a ≡ packet.Refused r) where
   pub verdict-refused : verdict.Refused r ≡ verdictAnswer t p d dir m
   unfolding verdictAnswer
   verdict-refused = rw (refused-check t p d e k dir m)

@@ -18,7 +18,9 @@ use Rattle.definitions.specs.declared.answers.Check.the-variants.{Pass, Refuse}
 use Rattle.definitions.specs.declared.answers.PacketAnswer.the-variants.{Seen}
 use Rattle.definitions.specs.Limits.{maxPacket, maxDecoded}
 use Rattle.definitions.specs.Refusals.{refuseIf}
-use Rattle.definitions.specs.Packet.{versionOf, isFragment, headerWords, headerLength, totalLength, protocolOf, datagramOf, afterHeader, isTcp, isUdp, isIcmp, tcpWords, tcpShort, transportLength, transportShort, headerOf, payloadOf, packetCheck, packetBy, packetAnswer}
+use Rattle.definitions.specs.Packet.{versionOf, isFragment, headerWords, headerLength, totalLength, protocolOf, datagramOf, afterHeader, isTcp}
+use Rattle.definitions.specs.Packet.{isUdp, isIcmp, tcpWords, tcpShort, transportLength, transportShort, headerOf, payloadOf, packetCheck, packetBy}
+use Rattle.definitions.specs.Packet.{packetAnswer}
 use Rattle.packet.specs.Datagram.{payloadPart}
 use Rattle.packet_header.proofs.Widths.{be-take}
 use Rattle.packet.proofs.Passed.{neither-right, Lengths, lengths}
@@ -35,7 +37,8 @@ drop-take (suc k) (suc n) (x ∷ xs) = rw (suc-sub-suc n k) (drop-take k n xs)
 
 -- where nothing is due, neither 32 nor 34 is
 neither-check : (a b c d e : Bool)
-    → refuseIf a refusal.BufferLength (refuseIf b refusal.NotIpv4 (refuseIf c refusal.Lengths (refuseIf d refusal.Fragment (refuseIf e refusal.Transport Pass)))) ≡ Pass
+    → refuseIf a refusal.BufferLength
+    (refuseIf b refusal.NotIpv4 (refuseIf c refusal.Lengths (refuseIf d refusal.Fragment (refuseIf e refusal.Transport Pass)))) ≡ Pass
     → (c ≡ false) × (e ≡ false)
 neither-check true b c d e h = (cc, cc)
 neither-check false true c d e h = (cc, cc)

@@ -79,7 +79,8 @@ inserted-right st last dash v list used = record { check = λ k. here k .check; 
     here : (k : After st last v list used)
         → Outcome (k .text) (k .located) dash (optionIn k) (sets (k .bytes) (st .used) (k .b)) (k .items) (valueInserted st last dash v list used)
     here k =
-        subst (λ (x : State). Holds (k .text) (k .located) x (k .bytes) (k .items) → last ≡ lastSlot (k .items) x → Beside (k .text) x v list used (k .al) (k .b)
+        subst (λ (x : State). Holds (k .text) (k .located) x (k .bytes) (k .items) → last ≡ lastSlot (k .items) x
+        → Beside (k .text) x v list used (k .al) (k .b)
         → Outcome (k .text) (k .located) dash (optionIn k) (sets (k .bytes) (x .used) (k .b)) (k .items) (valueInserted x last dash v list used))
         (sym (k .holds .is))
         (λ h e. value-outcome (k .text) (k .located) dash (st .from) (k .bytes) (k .items) h last e list used (k .al) (k .b) v)
@@ -109,7 +110,8 @@ checked-at s located from bytes items h =
     (λ t.
     let m : usableIn es < length (dashesOf located) = omega (arith, ltb-true (usableIn es) (count isPattern es) t, dashes-length located) in
     rw (u, t, padded-at maxPatterns 0 (dashesOf located) (usableIn es) 0 m))
-    (λ f. rw (u, f, h .named .is, h .stored, h .slots) (sym (missing-by (documentLimits .room) es (length s) (acceptedReading (tableOf (documentLimits .room) es)))))
+    (λ f. rw (u, f, h .named .is, h .stored, h .slots)
+    (sym (missing-by (documentLimits .room) es (length s) (acceptedReading (tableOf (documentLimits .room) es)))))
 
 pub checked-right : (s : List ℕ) (st : State) (bytes : List ℕ) (items : List Slot) → CheckedRight s st bytes items (checkedIn s st bytes items)
 checked-right s st bytes items located h =

@@ -31,7 +31,8 @@ module _ (es : List OptionValue) (items : List Slot) (is : items ≡ itemsOf es)
       set-out items maxItems noSlot (omega (arith, ap length is, padded-full maxItems noSlot (slotsIn es) few))
       ∙ is ∙ ap (padded maxItems noSlot) (sym (slots-same es e h s))
 
-  pub items-new : (e : OptionValue) (sl : Slot) → length (slotsIn es) < maxItems → ((p : patterns.Pattern) → modified (e ∷ []) p ≡ p) → slotsIn (e ∷ []) ≡ sl ∷ []
+  pub items-new : (e : OptionValue) (sl : Slot) → length (slotsIn es) < maxItems → ((p : patterns.Pattern) → modified (e ∷ []) p ≡ p)
+      → slotsIn (e ∷ []) ≡ sl ∷ []
       → set items (length (slotsIn es)) sl ≡ itemsOf (es ++ (e ∷ []))
   items-new e sl few h s =
       ap (λ (l : List Slot). set l (length (slotsIn es)) sl) is

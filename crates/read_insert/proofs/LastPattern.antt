@@ -38,7 +38,8 @@ none-slots (Pattern n b ∷ es) m h = absurd (true≢false h)
 none-slots (Modified k ∷ es) m h = none-slots es m h
 
 -- with a further pattern among them it does not
-some-modified : (es : List OptionValue) (m : Modifier) → any? isPattern es ≡ true → (p : patterns.Pattern) → modified (es ++ (Modified m ∷ [])) p ≡ modified es p
+some-modified : (es : List OptionValue) (m : Modifier) → any? isPattern es ≡ true → (p : patterns.Pattern)
+    → modified (es ++ (Modified m ∷ [])) p ≡ modified es p
 unfolding modified any?
 some-modified [] m h p = absurd (false≢true h)
 some-modified (Name n ∷ es) m h p = some-modified es m h p

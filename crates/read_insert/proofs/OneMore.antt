@@ -47,7 +47,8 @@ pub dashes-same : (located : List Located) (dash : ℕ) (e : OptionValue) → is
 unfolding keep
 dashes-same located dash e h = dashes-append located (record { dash = dash; value = e } ∷ []) ∙ rw h (append-nil (dashesOf located))
 
-pub dashes-new : (located : List Located) (dash : ℕ) (e : OptionValue) → isPattern e ≡ true → dashesOf (locatedAlso located dash e) ≡ dashesOf located ++ (dash ∷ [])
+pub dashes-new : (located : List Located) (dash : ℕ) (e : OptionValue) → isPattern e ≡ true
+    → dashesOf (locatedAlso located dash e) ≡ dashesOf located ++ (dash ∷ [])
 unfolding keep
 dashes-new located dash e h = dashes-append located (record { dash = dash; value = e } ∷ []) ∙ rw h
 
@@ -93,7 +94,13 @@ pub sound : {s : List ℕ} {located : List Located} {st : State} {bytes : List �
 unfolding stateFrom
 sound {located = located} h =
     subst (λ (s : State). Sound s) (sym (h .is))
-    (record { count = slots-length (optionValuesOf located); patterns = h .patterns; tests = h .tests; last = few (optionValuesOf located) (h .patterns) (h .tests) })
+    (record {
+      count = slots-length (optionValuesOf located);
+      patterns = h .patterns;
+      tests = h .tests;
+      last =
+          few (optionValuesOf located) (h .patterns) (h .tests);
+    })
 
 -- ---- the arrays beside the state are full
 

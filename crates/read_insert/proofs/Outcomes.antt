@@ -64,7 +64,8 @@ already-is NoCase es = refl
 already-is (Distance d) es = refl
 already-is (Within w) es = refl
 
-module _ (s : List ℕ) (located : List Located) (dash from : ℕ) (bytes : List ℕ) (items : List Slot) (h : Holds s located (stateOf from located) bytes items) where
+module _ (s : List ℕ) (located : List Located) (dash from : ℕ) (bytes : List ℕ) (items : List Slot)
+    (h : Holds s located (stateOf from located) bytes items) where
   abbrev es : List OptionValue
   es = optionValuesOf located
 
@@ -155,7 +156,8 @@ module _ (s : List ℕ) (located : List Located) (dash from : ℕ) (bytes : List
       → Outcome s located dash (Test (item.Address a) al) bytes items (addressesInserted now a list)
   unfolding addressesInserted occurrenceCheck
   addresses-outcome a al list k e =
-      outcome-if s located dash (Test (item.Address a) al) bytes items (ltb maxAddresses (a .count)) refusal.CountExceeded now (testInserted now (item.Address a) list)
+      outcome-if s located dash (Test (item.Address a) al) bytes items (ltb maxAddresses (a .count)) refusal.CountExceeded now
+      (testInserted now (item.Address a) list)
       (λ t. rw (sym (ap (ltb maxAddresses) k) ∙ t))
       (λ f.
       let m : length al ≤ maxAddresses = omega (arith, ltb-false maxAddresses (a .count) f, k) in
@@ -189,7 +191,8 @@ module _ (s : List ℕ) (located : List Located) (dash from : ℕ) (bytes : List
             (omega (arith, count-same es (Pattern neg b) isTest refl, h .tests));
       })
 
-  pub modifier-outcome : (m : Modifier) (last : Slot) → last ≡ lastSlot items now → Outcome s located dash (Modified m) bytes items (modifierInserted now last m)
+  pub modifier-outcome : (m : Modifier) (last : Slot) → last ≡ lastSlot items now
+      → Outcome s located dash (Modified m) bytes items (modifierInserted now last m)
   unfolding modifierBy stateFrom occurrenceCheck keep nameIn bytesIn slotsIn modified
   modifier-outcome m last e =
       record {

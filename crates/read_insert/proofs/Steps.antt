@@ -21,7 +21,8 @@ use Rattle.read_insert.specs.Inserting.{withName, withProtocol, withFlow
 use Rattle.read_insert_counted.specs.Counting.{withTest, withNewPattern}
 use Rattle.read_insert_modifiers.specs.Modifying.{withGiven, givenAlso}
 use Rattle.list_laws.proofs.Padded.{padded-one}
-use Rattle.read_insert.proofs.OptionEffects.{name-after, name-first, protocol-after, protocol-first, flow-after, flow-first, bytes-append, last-after-all, last-new}
+use Rattle.read_insert.proofs.OptionEffects.{name-after, name-first, protocol-after, protocol-first, flow-after, flow-first, bytes-append}
+use Rattle.read_insert.proofs.OptionEffects.{last-after-all, last-new}
 use Rattle.read_insert.proofs.LastPattern.{LastIs, last-is}
 use Rattle.read_insert.proofs.Agreement.{alike, given-now, given-kept, any-same, any-new, count-same, count-new, bytes-same, slots-same, slots-new}
 

@@ -89,7 +89,8 @@ pub record Writing {A : Type 0} (f : Form A) (F : Form (List ℕ)) : Type 0 wher
   pub read : (s : List ℕ) (at : ℕ) (vs : List A) (d : Cursor) → Reads (some f) s (Parsed at) vs d → Reads F s (Parsed at) (bytes vs) d
 
 -- what is still to come, and what is stored
-pub record Writes {A : Type 0} {f : Form A} {F : Form (List ℕ)} (W : Writing f F) (s : List ℕ) (at : ℕ) (room : PatternBytes) (here : ℕ) (to : PatternBytes) : Type 0 where
+pub record Writes {A : Type 0} {f : Form A} {F : Form (List ℕ)} (W : Writing f F) (s : List ℕ) (at : ℕ) (room : PatternBytes) (here : ℕ)
+    (to : PatternBytes) : Type 0 where
   pub values : List A
   pub turns : Some f (W .full) s at values here
   pub kept : to ≡ appended room (W .bytes values)
@@ -116,7 +117,8 @@ module _ {A : Type 0} {f : Form A} {F : Form (List ℕ)} (W : Writing f F) (s : 
           full = appended-same room (W .bytes (u .values)) (u .kept) ∙ ready .full;
         }
 
-    module _ (v : A) {n : ℕ} {to′ : PatternBytes} (r : Reads f s (Parsed here) v (Parsed n)) (e : to′ ≡ appended to (W .one v)) (g : here + length (W .one v) ≤ n) where
+    module _ (v : A) {n : ℕ} {to′ : PatternBytes} (r : Reads f s (Parsed here) v (Parsed n)) (e : to′ ≡ appended to (W .one v))
+        (g : here + length (W .one v) ≤ n) where
       all-kept : to′ ≡ appended room (W .bytes (u .values ++ (v ∷ [])))
       all-kept =
           e ∙ ap (λ (x : PatternBytes). appended x (W .one v)) (u .kept) ∙ appended-twice room (W .bytes (u .values)) (W .one v)

@@ -74,7 +74,8 @@ used-also : {s : List ℕ} {located : List Located} {st u : State} {bytes after 
 used-also {s} {located} dash v al b a h g =
     used-is g
     ∙ ap (λ (l : List OptionValue). length (bytesIn l)) (options-also located dash (optionValueOf s v al b))
-    ∙ ap length (bytes-append (optionValuesOf located) (optionValueOf s v al b ∷ []) ∙ ap (λ (l : List ℕ). bytesIn (optionValuesOf located) ++ l) (bytes-located s v al b a))
+    ∙ ap length (bytes-append (optionValuesOf located) (optionValueOf s v al b ∷ [])
+    ∙ ap (λ (l : List ℕ). bytesIn (optionValuesOf located) ++ l) (bytes-located s v al b a))
     ∙ length-append (bytesIn (optionValuesOf located)) b
     ∙ ap (λ (n : ℕ). n + length b) (sym (used-is h))
 

@@ -33,7 +33,8 @@ dotted-of : (n : ℕ) → n ≤ 255 → Of dotted (decimal n ++ (46 ∷ [])) n
 dotted-of n h = befores (octet-of n h) (signs 46)
 
 -- a prefix of 32 is left out
-prefix-of : (p : ℕ) → leb p maxPrefix ≡ true → Of (opt maxPrefix (preceded (literal 47) (number maxPrefix))) (textIf (not (eqb p maxPrefix)) (text "/" ++ decimal p)) p
+prefix-of : (p : ℕ) → leb p maxPrefix ≡ true
+    → Of (opt maxPrefix (preceded (literal 47) (number maxPrefix))) (textIf (not (eqb p maxPrefix)) (text "/" ++ decimal p)) p
 prefix-of p t =
     by-cases (eqb p maxPrefix)
     (λ u. rw u (rights (revalues (sym (eqb-true p maxPrefix u)) tells)))
@@ -58,7 +59,9 @@ address-of a t =
     let e = four-back n (leb-true n maxAddress (h .0)) in
     revalues (ap (λ i. record { number = i; prefix = a .prefix }) e)
     (retexts (simp append-assoc)
-    (makes (joins (dotted-of (n / 16777216 % 256) (omega arith)) (joins (dotted-of (n / 65536 % 256) (omega arith)) (joins (dotted-of (n / 256 % 256) (omega arith)) (joins (octet-of (n % 256) (omega arith)) (prefix-of (a .prefix) (h .1))))))))
+    (makes (joins (dotted-of (n / 16777216 % 256) (omega arith))
+    (joins (dotted-of (n / 65536 % 256) (omega arith))
+    (joins (dotted-of (n / 256 % 256) (omega arith)) (joins (octet-of (n % 256) (omega arith)) (prefix-of (a .prefix) (h .1))))))))
 
 -- ---- a list of them
 
@@ -81,4 +84,6 @@ addresses-of [] h t = absurd (omega (arith, h))
 addresses-of (a ∷ []) h t = unfold addressesText in rights (makes {h = λ (a : Address). a ∷ []} (address-of a (all-head addressFits a [] t)))
 addresses-of (a ∷ (b ∷ al)) h t =
     rw (lt-ltb 1 (suc (suc (length al))) (omega arith), first-and-tail a (b ∷ al))
-    (lefts (skips (signs 91) (befores (makes {h = λ (p : Address × List Address). p .0 ∷ p .1} (joins (address-of a (all-head addressFits a (b ∷ al) t)) (stars (tail-of (b ∷ al) (all-tail addressFits a (b ∷ al) t))))) (signs 93))))
+    (lefts (skips (signs 91)
+    (befores (makes {h = λ (p : Address × List Address). p .0 ∷ p .1}
+    (joins (address-of a (all-head addressFits a (b ∷ al) t)) (stars (tail-of (b ∷ al) (all-tail addressFits a (b ∷ al) t))))) (signs 93))))

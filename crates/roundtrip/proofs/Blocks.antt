@@ -26,7 +26,15 @@ unfolding has digitValue
 digit-of d h =
     by-cases (ltb d 10)
     (λ t. let g = ltb-true d 10 t in rw (t, le-leb 48 (48 + d) (omega arith), le-leb (48 + d) 57 (omega (arith, g))) (refl, omega arith))
-    (λ t. let g = ltb-false d 10 t in rw (t, le-leb 48 (55 + d) (omega arith), lt-leb (55 + d) 57 (omega (arith, g)), le-leb 65 (55 + d) (omega (arith, g)), le-leb (55 + d) 70 (omega (arith, h))) (refl, omega arith))
+    (λ t. let g = ltb-false d 10 t in
+    rw (
+      t,
+      le-leb 48 (55 + d) (omega arith),
+      lt-leb (55 + d) 57 (omega (arith, g)),
+      le-leb 65 (55 + d) (omega (arith, g)),
+      le-leb (55 + d) 70
+          (omega (arith, h)),
+    ) (refl, omega arith))
 
 pair-of : (b : ℕ) → isByte b ≡ true → Of spacedPair (hexDigit (b / 16) ∷ hexDigit (b % 16) ∷ []) b
 pair-of b t =
@@ -80,7 +88,8 @@ hex-first b x l t i =
     let j = i .rest in
     let y : List ℕ = 124 ∷ hexDigit (b / 16) ∷ hexDigit (b % 16) ∷ (i .front ++ (124 ∷ [])) in
     let m : Of block y (b ∷ i .pairs) = skips (signs 124) (skips (stars none) (befores (somes (pair-of b t) (i .row)) (signs 124))) in
-    let e : y ++ i .following ≡ 124 ∷ hexDigit (b / 16) ∷ hexDigit (b % 16) ∷ x = ap (λ z. 124 ∷ hexDigit (b / 16) ∷ hexDigit (b % 16) ∷ z) (append-assoc (i .front) (124 ∷ []) (i .following) ∙ sym (i .split)) in
+    let e : y ++ i .following ≡ 124 ∷ hexDigit (b / 16) ∷ hexDigit (b % 16) ∷ x =
+    ap (λ z. 124 ∷ hexDigit (b / 16) ∷ hexDigit (b % 16) ∷ z) (append-assoc (i .front) (124 ∷ []) (i .following) ∙ sym (i .split)) in
     record {
       parts = (b ∷ i .pairs) ∷ j .parts;
       row = subst (λ z. Row (λ y w. Of part y w) z ((b ∷ i .pairs) ∷ j .parts)) e (Row.more (rights m) (j .row));

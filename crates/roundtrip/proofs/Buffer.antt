@@ -38,21 +38,25 @@ check-buffer : (d : Check) (canonical out : List ℕ) (n : ℕ) → d ≡ Pass �
 check-buffer Pass canonical out n e l = take-at canonical (drop (length canonical) out) n l
 check-buffer (Refuse r) canonical out n e l = never (cc)
 
-pub written-reads : (lim : Limits) (t : Table) (out : List ℕ) (n : ℕ) → Shaped (lim .room) t → lim .canonical ≤ lim .text → writes lim t out ≡ Written n → read lim (take n (bufferAfter lim t out)) ≡ acceptedReading t
+pub written-reads : (lim : Limits) (t : Table) (out : List ℕ) (n : ℕ) → Shaped (lim .room) t → lim .canonical ≤ lim .text → writes lim t out ≡ Written n
+    → read lim (take n (bufferAfter lim t out)) ≡ acceptedReading t
 unfolding writes bufferAfter writingCheck
 written-reads lim t out n h g e =
     let d = check-written (writingCheck lim t (length out)) (length (canonicalText t)) n e in
-    let k = check-parts (not (wellFormed t)) (ltb (lim .canonical) (length (canonicalText t))) (ltb (length out) (length (canonicalText t))) refusal.IllFormed refusal.CanonicalLength refusal.ShortBuffer (d .0) in
+    let k = check-parts (not (wellFormed t)) (ltb (lim .canonical) (length (canonicalText t)))
+    (ltb (length out) (length (canonicalText t))) refusal.IllFormed refusal.CanonicalLength refusal.ShortBuffer (d .0) in
     let l = ltb-false (lim .canonical) (length (canonicalText t)) (k .1) in
     rw (check-buffer (writingCheck lim t (length out)) (canonicalText t) out n (d .0) (d .1))
     (read-exactly lim (canonicalText t) t .1 (canonical-derives (lim .room) t h (not-false (wellFormed t) (k .0)), omega (arith, l, g)))
 
-nothing-check : (lim : Limits) (t : Table) (n : ℕ) → wellFormed t ≡ true → length (canonicalText t) ≤ lim .canonical → length (canonicalText t) ≤ n → writingCheck lim t n ≡ Pass
+nothing-check : (lim : Limits) (t : Table) (n : ℕ) → wellFormed t ≡ true → length (canonicalText t) ≤ lim .canonical → length (canonicalText t) ≤ n
+    → writingCheck lim t n ≡ Pass
 unfolding writingCheck
 nothing-check lim t n w h g = rw (w, le-ltb (lim .canonical) (length (canonicalText t)) h, le-ltb n (length (canonicalText t)) g)
 
 -- every well-formed table whose canonical text is short enough is written into every buffer that has room for it
-pub canonical-written : (lim : Limits) (t : Table) (out : List ℕ) → wellFormed t ≡ true → length (canonicalText t) ≤ lim .canonical → length (canonicalText t) ≤ length out
+pub canonical-written : (lim : Limits) (t : Table) (out : List ℕ) → wellFormed t ≡ true → length (canonicalText t) ≤ lim .canonical
+    → length (canonicalText t) ≤ length out
     → (writes lim t out ≡ Written (length (canonicalText t))) × (bufferAfter lim t out ≡ canonicalText t ++ drop (length (canonicalText t)) out)
 unfolding writes bufferAfter
 canonical-written lim t out w h g =

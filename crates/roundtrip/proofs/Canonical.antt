@@ -1,4 +1,5 @@
--- THE CANONICAL TEXT of a well-formed table is a text of that table, so that it reads as it; two tables have two canonical texts; and the tables that have a text
+-- THE CANONICAL TEXT of a well-formed table is a text of that table, so that it reads as it; two tables have two canonical texts; and the tables that have
+-- a text
 -- are the well-formed ones. The options of the table are written option by option, stand, and make the table again.
 use mathlib.Core.Path.{_≡_, refl, sym, ap, subst, _∙_}
 use mathlib.Core.Bool.{true, false, _&&_}
@@ -45,7 +46,8 @@ options-written (e ∷ es) t =
     let g : (fewAddresses e ≡ true) × (optionTold e ≡ true) = halves (h .1) in
     let w = option-written e (h .0) (g .1) in
     let i = options-written es (all-tail good e es t) in
-    let z : 32 ∷ (w .0 ++ (optionsText es ++ text " )")) ≡ (optionText e ++ optionsText es) ++ text " )" = ap (λ l. l ++ (optionsText es ++ text " )")) (sym (w .1)) ∙ sym (append-assoc (optionText e) (optionsText es) (text " )")) in
+    let z : 32 ∷ (w .0 ++ (optionsText es ++ text " )")) ≡ (optionText e ++ optionsText es) ++ text " )" =
+    ap (λ l. l ++ (optionsText es ++ text " )")) (sym (w .1)) ∙ sym (append-assoc (optionText e) (optionsText es) (text " )")) in
     subst (λ l. OptionsText l (e ∷ es)) z (space (OptionsText.more (w .2) i))
 
 canonical-complete : (t : Table) → missing (canonicalOptions t) ≡ false
@@ -61,15 +63,18 @@ module _ (room : ℕ) (t : Table) (h : Shaped room t) (w : wellFormed t ≡ true
   canonical-options = options-written (canonicalOptions t) (canonical-good room t h w)
 
   canonical-patterns : length (patternsOf (slotsOf t)) ≡ count isPattern (canonicalOptions t)
-  canonical-patterns = ap (λ l. length (patternsOf l)) (sym (canonical-slots room t h w)) ∙ patterns-counted (canonicalOptions t) (options-tests canonical-options)
+  canonical-patterns =
+      ap (λ l. length (patternsOf l)) (sym (canonical-slots room t h w)) ∙ patterns-counted (canonicalOptions t) (options-tests canonical-options)
 
   derived : Derives room (canonicalText t) t
   unfolding canonicalText
   derived =
       let f = formed t w in
-      let c : length (slotsOf t) ≡ count isTest (canonicalOptions t) + count isPattern (canonicalOptions t) = ap length (sym (canonical-slots room t h w)) ∙ slots-counted (canonicalOptions t) in
+      let c : length (slotsOf t) ≡ count isTest (canonicalOptions t) + count isPattern (canonicalOptions t) =
+      ap length (sym (canonical-slots room t h w)) ∙ slots-counted (canonicalOptions t) in
       let l : length (slotsOf t) ≡ t .count = omega (arith, length-take (t .count) (t .items), f .count, h .slotted) in
-      let few = all-so good fewAddresses (λ e u. let g : (optionFits e ≡ true) × ((fewAddresses e && optionTold e) ≡ true) = halves u in both-left (fewAddresses e) (optionTold e) (g .1)) (canonicalOptions t) (canonical-good room t h w) in
+      let few = all-so good fewAddresses (λ e u. let g : (optionFits e ≡ true) × ((fewAddresses e && optionTold e) ≡ true) = halves u in
+      both-left (fewAddresses e) (optionTold e) (g .1)) (canonicalOptions t) (canonical-good room t h w) in
       record {
         body = optionsText (canonicalOptions t) ++ text " )";
         values = canonicalOptions t;
@@ -95,9 +100,12 @@ pub readable-exactly : (room : ℕ) (t : Table) → Shaped room t → Readable r
 readable-exactly room t h = (λ r. read-formed room (r .0) t h (r .1), λ w. (canonicalText t, canonical-reads room t h w))
 
 -- two tables, two canonical texts
-pub canonical-one : (room : ℕ) (t u : Table) → Shaped room t → Shaped room u → wellFormed t ≡ true → wellFormed u ≡ true → canonicalText t ≡ canonicalText u → t ≡ u
-canonical-one room t u h k v w e = one-table room (canonicalText u) t u (subst (λ s. Derives room s t) e (canonical-derives room t h v)) (canonical-derives room u k w)
+pub canonical-one : (room : ℕ) (t u : Table) → Shaped room t → Shaped room u → wellFormed t ≡ true → wellFormed u ≡ true
+    → canonicalText t ≡ canonicalText u → t ≡ u
+canonical-one room t u h k v w e =
+    one-table room (canonicalText u) t u (subst (λ s. Derives room s t) e (canonical-derives room t h v)) (canonical-derives room u k w)
 
 -- reading and writing a text once is enough
-pub canonical-again : (room : ℕ) (s : List ℕ) (t : Table) → Shaped room t → readUnbounded room s ≡ acceptedReading t → readUnbounded room (canonicalText t) ≡ acceptedReading t
+pub canonical-again : (room : ℕ) (s : List ℕ) (t : Table) → Shaped room t → readUnbounded room s ≡ acceptedReading t
+    → readUnbounded room (canonicalText t) ≡ acceptedReading t
 canonical-again room s t h e = canonical-reads room t h (read-formed room s t h e)

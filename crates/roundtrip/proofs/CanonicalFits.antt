@@ -33,7 +33,8 @@ use Rattle.definitions.specs.OptionValues.{Context, Distance, OptionValue, Name
 use Rattle.definitions.specs.Forms.{test}
 use Rattle.definitions.specs.Items.{Kind, unused, addressed, patterned, plainTest, kindOf, slotsOf, patternFirst, patternsOf, afterItem}
 use Rattle.definitions.specs.Starts.{startAt}
-use Rattle.definitions.specs.References.{lastAfter, sameReference, referenceUsable, reverseUsable, distanceUsable, withinUsable, referencesAlike, usable, usableRun}
+use Rattle.definitions.specs.References.{lastAfter, sameReference, referenceUsable, reverseUsable, distanceUsable, withinUsable, referencesAlike}
+use Rattle.definitions.specs.References.{usable, usableRun}
 use Rattle.definitions.specs.Canonical.{flowOption, itemOptions, slotOptions, canonicalOptions}
 use Rattle.definitions.specs.WellFormed.{Shaped, isZero, addressFits, addressUnused, distanceFits, withinFits, itemFits, addressesFit, slotFits, wellFormed}
 use Rattle.roundtrip.proofs.AllTests.{both, halves, all-none, all-more, all-head, all-tail, all-append, all-take, all-drop, all-so}
@@ -64,7 +65,8 @@ first-of-two false b c t = both-left b c t
 distance-told : (last : LastMatch) (c : contexts.Context) (d : distances.Distance) → distanceUsable last c d ≡ true → distanceTold d ≡ true
 distance-told last c distance.Unset t = refl
 distance-told last c (distance.Given d) t =
-    first-of-two (not (d .reverse)) (not (sameReference (d .reference) reference.Match)) (leZ (pos 0) (d .offset)) (both-right (referenceUsable last c (d .reference)) (reverseUsable d) t)
+    first-of-two (not (d .reverse)) (not (sameReference (d .reference) reference.Match)) (leZ (pos 0) (d .offset))
+    (both-right (referenceUsable last c (d .reference)) (reverseUsable d) t)
 
 usable-one : (last : LastMatch) (p : patterns.Pattern) → usable last p ≡ true → patternTold p ≡ true
 unfolding usable
@@ -100,16 +102,19 @@ one-good : (e : OptionValue) → good e ≡ true → all? good (e ∷ []) ≡ tr
 one-good e t = all-more good e [] t (all-none good)
 
 module _ (al : List Address) (b : List ℕ) (whole : length al ≡ maxAddresses) (bytes : all? isByte b ≡ true) where
-  address-good : (a : AddressTest) → slotFits (record { item = item.Address a; addresses = al }) ≡ true → good (Test (item.Address a) (take (a .count) al)) ≡ true
+  address-good : (a : AddressTest) → slotFits (record { item = item.Address a; addresses = al }) ≡ true
+      → good (Test (item.Address a) (take (a .count) al)) ≡ true
   unfolding itemFits
   address-good a t =
       let h : (between 1 maxAddresses (a .count) ≡ true) × (addressesFit (a .count) al ≡ true) = halves t in
       let g : (leb 1 (a .count) ≡ true) × (leb (a .count) maxAddresses ≡ true) = halves (h .0) in
       let n = leb-true (a .count) maxAddresses (g .1) in
       let e : length (take (a .count) al) ≡ a .count = omega (arith, n, whole, length-take (a .count) al) in
-      rw e (both (both (eq-eqb (a .count) (a .count) refl) (both (g .0) (both-left (all? addressFits (take (a .count) al)) (all? addressUnused (drop (a .count) al)) (h .1)))) (both (g .1) refl))
+      rw e (both (both (eq-eqb (a .count) (a .count) refl)
+      (both (g .0) (both-left (all? addressFits (take (a .count) al)) (all? addressUnused (drop (a .count) al)) (h .1)))) (both (g .1) refl))
 
-  pattern-good : (p : patterns.Pattern) → p .len ≤ length b → patternTold p ≡ true → slotFits (record { item = item.Pattern p; addresses = al }) ≡ true → all? good (Pattern (p .negated) (take (p .len) b) ∷ modifierOptions p) ≡ true
+  pattern-good : (p : patterns.Pattern) → p .len ≤ length b → patternTold p ≡ true → slotFits (record { item = item.Pattern p; addresses = al }) ≡ true
+      → all? good (Pattern (p .negated) (take (p .len) b) ∷ modifierOptions p) ≡ true
   unfolding itemFits
   pattern-good p h u t =
       let f : (itemFits (item.Pattern p) ≡ true) × (addressesFit 0 al ≡ true) = halves t in
@@ -126,7 +131,8 @@ module _ (al : List Address) (b : List ℕ) (whole : length al ≡ maxAddresses)
   plain-good : (it : Item) → (itemFits it && addressesFit 0 al) ≡ true → (itemFits it && true) ≡ true
   plain-good it t = both (both-left (itemFits it) (addressesFit 0 al) t) refl
 
-  item-good : (it : Item) → kindLength (kindOf it) ≤ length b → kindTold (kindOf it) ≡ true → slotFits (record { item = it; addresses = al }) ≡ true → all? good (itemOptions (kindOf it) (record { item = it; addresses = al }) b) ≡ true
+  item-good : (it : Item) → kindLength (kindOf it) ≤ length b → kindTold (kindOf it) ≡ true → slotFits (record { item = it; addresses = al }) ≡ true
+      → all? good (itemOptions (kindOf it) (record { item = it; addresses = al }) b) ≡ true
   item-good item.Unused h u t = all-none good
   item-good (item.Address a) h u t = one-good (Test (item.Address a) (take (a .count) al)) (address-good a t)
   item-good item.SameIp h u t = one-good (test item.SameIp) (both (plain-good item.SameIp t) refl)
@@ -143,7 +149,8 @@ after-bytes (addressed a) b t = t
 after-bytes (patterned p) b t = all-drop isByte (p .len) b t
 after-bytes plainTest b t = t
 
-slots-good : (sls : List Slot) (b : List ℕ) → all? slotFits sls ≡ true → all? wholeSlot sls ≡ true → all? isByte b ≡ true → all? patternTold (patternsOf sls) ≡ true → Enough sls b → all? good (slotOptions sls b) ≡ true
+slots-good : (sls : List Slot) (b : List ℕ) → all? slotFits sls ≡ true → all? wholeSlot sls ≡ true → all? isByte b ≡ true
+    → all? patternTold (patternsOf sls) ≡ true → Enough sls b → all? good (slotOptions sls b) ≡ true
 unfolding slotOptions patternsOf
 slots-good [] b f w t u h = all-none good
 slots-good (sl ∷ sls) b f w t u h =
@@ -151,7 +158,8 @@ slots-good (sl ∷ sls) b f w t u h =
     let g = enough sl sls b h in
     let q = told-first k (patternsOf sls) u in
     all-append good (itemOptions k sl b) (slotOptions sls (afterItem k b))
-    (item-good (sl .addresses) b (eqb-true (length (sl .addresses)) maxAddresses (all-head wholeSlot sl sls w)) t (sl .item) (g .0) (q .0) (all-head slotFits sl sls f))
+    (item-good (sl .addresses) b (eqb-true (length (sl .addresses)) maxAddresses (all-head wholeSlot sl sls w)) t (sl .item) (g .0) (q .0)
+    (all-head slotFits sl sls f))
     (slots-good sls (afterItem k b) (all-tail slotFits sl sls f) (all-tail wholeSlot sl sls w) (after-bytes k b t) (q .1) (g .1))
 
 -- ---- the table
@@ -174,7 +182,8 @@ module _ (room : ℕ) (t : Table) (h : Shaped room t) (w : wellFormed t ≡ true
   all-bytes =
       let f = formed t w in
       let z = all-so isZero isByte (λ b u. le-leb b maxByte (omega (arith, eqb-true b 0 u))) (drop (t .used) (t .bytes)) (f .bytes-rest) in
-      subst (λ l. all? isByte l ≡ true) (take-append-drop (t .used) (t .bytes)) (all-append isByte (take (t .used) (t .bytes)) (drop (t .used) (t .bytes)) (f .bytes) z)
+      subst (λ l. all? isByte l ≡ true) (take-append-drop (t .used) (t .bytes))
+      (all-append isByte (take (t .used) (t .bytes)) (drop (t .used) (t .bytes)) (f .bytes) z)
 
   pub canonical-good : all? good (canonicalOptions t) ≡ true
   unfolding canonicalOptions
@@ -185,4 +194,5 @@ module _ (room : ℕ) (t : Table) (h : Shaped room t) (w : wellFormed t ≡ true
       all-more good (Name (take (t .len) (t .name))) (Protocol (t .protocol) ∷ (flowOption (t .flow) ++ rest)) name-good
       (all-more good (Protocol (t .protocol)) (flowOption (t .flow) ++ rest) (both (f .protocol) refl)
       (all-append good (flowOption (t .flow)) rest (flow-good (t .flow))
-      (slots-good (slotsOf t) (t .bytes) (f .slots) (all-take wholeSlot (t .count) (t .items) (slots-shaped room t h)) all-bytes (usable-told None (patternsOf (slotsOf t)) (f .usable)) (omega (arith, e, f .used-most)))))
+      (slots-good (slotsOf t) (t .bytes) (f .slots) (all-take wholeSlot (t .count) (t .items) (slots-shaped room t h)) all-bytes
+      (usable-told None (patternsOf (slotsOf t)) (f .usable)) (omega (arith, e, f .used-most)))))

@@ -52,7 +52,8 @@ pub inside-printed : (b : ℕ) → Inside 32 126 b → printable b ≡ true
 unfolding printable
 inside-printed b i = both (le-leb 32 b (i .above)) (le-leb b 126 (i .below))
 
-row-printed : {A : Type 0} (P : List ℕ → A → Type 0) → ((x : List ℕ) (v : A) → P x v → all? printable x ≡ true) → (x : List ℕ) (vs : List A) → Row P x vs → all? printable x ≡ true
+row-printed : {A : Type 0} (P : List ℕ → A → Type 0) → ((x : List ℕ) (v : A) → P x v → all? printable x ≡ true) → (x : List ℕ) (vs : List A) → Row P x vs
+    → all? printable x ≡ true
 row-printed P h x vs none = all-none printable
 row-printed P h x vs (Row.more {x = y} {y = z} {v} {vs = ws} p r) = all-append printable y z (h y v p) (row-printed P h z ws r)
 
@@ -61,7 +62,8 @@ unfolding Means
 form-printed k (pure a) t x v m = rw (m .0) (all-none printable)
 form-printed k (byte c) t x v m = rw (m .0) (all-more printable v [] (inside-printed v (class-inside 32 126 c t v (m .1))) (all-none printable))
 form-printed k (pair f g) t x v m =
-    rw (m .2) (all-append printable (m .0) (m .1) (form-printed k f (both-left (printedForm f) (printedForm g) t) (m .0) (v .0) (m .3)) (form-printed k g (both-right (printedForm f) (printedForm g) t) (m .1) (v .1) (m .4)))
+    rw (m .2) (all-append printable (m .0) (m .1) (form-printed k f (both-left (printedForm f) (printedForm g) t) (m .0) (v .0) (m .3))
+    (form-printed k g (both-right (printedForm f) (printedForm g) t) (m .1) (v .1) (m .4)))
 form-printed k (alt f g) t x v (inl m) = form-printed k f (both-left (printedForm f) (printedForm g) t) x v m
 form-printed k (alt f g) t x v (inr m) = form-printed k g (both-right (printedForm f) (printedForm g) t) x v m
 form-printed k (many f) t x v m = row-printed (λ y w. Means k f y w) (λ y w n. form-printed k f t y w n) x v m

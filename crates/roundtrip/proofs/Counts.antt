@@ -58,7 +58,9 @@ record Few (before es : List OptionValue) : Type 0 where
   patterns : count isPattern before ≤ maxPatterns → count isPattern before + count isPattern es ≤ maxPatterns
   addresses : all? fewAddresses es ≡ true
 
-one-more : (before es : List OptionValue) (e : OptionValue) → (count isTest before ≤ maxTests → count isTest before + count isTest (e ∷ []) ≤ maxTests) → (count isPattern before ≤ maxPatterns → count isPattern before + count isPattern (e ∷ []) ≤ maxPatterns) → fewAddresses e ≡ true → Few (before ++ (e ∷ [])) es → Few before (e ∷ es)
+one-more : (before es : List OptionValue) (e : OptionValue) → (count isTest before ≤ maxTests → count isTest before + count isTest (e ∷ []) ≤ maxTests)
+    → (count isPattern before ≤ maxPatterns → count isPattern before + count isPattern (e ∷ []) ≤ maxPatterns) → fewAddresses e ≡ true
+    → Few (before ++ (e ∷ [])) es → Few before (e ∷ es)
 one-more before es e t p a i =
     let ct = count-append isTest before (e ∷ []) in
     let cp = count-append isPattern before (e ∷ []) in
@@ -77,12 +79,17 @@ few (Occurrences.more {before} {es} {e = Name n} d s) = one-more before es (Name
 few (Occurrences.more {before} {es} {e = Protocol p} d s) = one-more before es (Protocol p) (λ h. omega arith) (λ h. omega arith) refl (few s)
 few (Occurrences.more {before} {es} {e = Flow f} d s) = one-more before es (Flow f) (λ h. omega arith) (λ h. omega arith) refl (few s)
 few (Occurrences.more {before} {es} {e = Test it al} d s) =
-    let n = neither (ltb maxAddresses (length al)) (leb maxTests (count isTest before)) (not-refused (ltb maxAddresses (length al) || leb maxTests (count isTest before)) refusal.CountExceeded Pass d) in
+    let n = neither (ltb maxAddresses (length al)) (leb maxTests (count isTest before))
+    (not-refused (ltb maxAddresses (length al) || leb maxTests (count isTest before)) refusal.CountExceeded Pass d) in
     one-more before es (Test it al) (λ h. omega (arith, leb-false maxTests (count isTest before) (n .1))) (λ h. omega arith)
     (le-leb (length al) maxAddresses (ltb-false maxAddresses (length al) (n .0))) (few s)
 few (Occurrences.more {before} {es} {e = Pattern n b} d s) =
     one-more before es (Pattern n b) (λ h. omega arith)
-    (λ h. omega (arith, leb-false maxPatterns (count isPattern before) (not-refused (leb maxPatterns (count isPattern before)) refusal.CountExceeded Pass d))) refl (few s)
+    (λ h. omega (
+      arith,
+      leb-false maxPatterns (count isPattern before)
+          (not-refused (leb maxPatterns (count isPattern before)) refusal.CountExceeded Pass d),
+    )) refl (few s)
 few (Occurrences.more {before} {es} {e = Modified m} d s) = one-more before es (Modified m) (λ h. omega arith) (λ h. omega arith) refl (few s)
 
 module _ (es : List OptionValue) (s : Occurrences [] es) where

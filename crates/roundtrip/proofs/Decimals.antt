@@ -27,7 +27,8 @@ digit-value : (d : ℕ) → d ≤ 9 → digitValue (48 + d) ≡ d
 unfolding digitValue
 digit-value d h = rw (le-leb (48 + d) 57 (omega (arith, h))) (omega arith)
 
-all-if : (t : Bool) (x y : List ℕ) → (t ≡ true → all? (has decimalDigits) x ≡ true) → all? (has decimalDigits) y ≡ true → all? (has decimalDigits) (if t then x else y) ≡ true
+all-if : (t : Bool) (x y : List ℕ) → (t ≡ true → all? (has decimalDigits) x ≡ true) → all? (has decimalDigits) y ≡ true
+    → all? (has decimalDigits) (if t then x else y) ≡ true
 all-if true x y p q = p refl
 all-if false x y p q = q
 
@@ -53,7 +54,8 @@ digits-value zero n h =
 digits-value (suc k) n h =
     by-cases (ltb n 10)
     (λ t. rw t (rw (digit-value n (omega (arith, ltb-true n 10 t))) (omega arith)))
-    (λ t. rw t (value-end 0 (48 + n % 10) (digitsOf (suc k) (n / 10)) ∙ rw (digits-value k (n / 10) (omega (arith, h, ltb-false n 10 t)), digit-value (n % 10) (omega arith)) (omega arith)))
+    (λ t. rw t (value-end 0 (48 + n % 10) (digitsOf (suc k) (n / 10))
+    ∙ rw (digits-value k (n / 10) (omega (arith, h, ltb-false n 10 t)), digit-value (n % 10) (omega arith)) (omega arith)))
 
 digits-some : (k n : ℕ) → 1 ≤ length (digitsOf (suc k) n)
 unfolding digitsOf
@@ -70,8 +72,14 @@ abbrev Led : List ℕ → Type 0
 Led l = (b : ℕ) × (m : List ℕ) × (l ≡ b ∷ m) × (has ((49, 57) ∷ []) b ≡ true) × (all? (has decimalDigits) m ≡ true)
 
 led-append : (l : List ℕ) (x : ℕ) → has decimalDigits x ≡ true → Led l → Led (l ++ (x ∷ []))
-led-append l x h d =
-    (d .0, d .1 ++ (x ∷ []), ap (λ z. z ++ (x ∷ [])) (d .2), d .3, all-append (has decimalDigits) (d .1) (x ∷ []) (d .4) (all-more (has decimalDigits) x [] h (all-none (has decimalDigits))))
+led-append l x h d = (
+  d .0,
+  d .1 ++ (x ∷ []),
+  ap (λ z. z ++ (x ∷ [])) (d .2),
+  d .3,
+  all-append (has decimalDigits) (d .1) (x ∷ []) (d .4)
+      (all-more (has decimalDigits) x [] h (all-none (has decimalDigits))),
+)
 
 led-one : (n : ℕ) → 1 ≤ n → n < 10 → Led ((48 + n) ∷ [])
 led-one n g h = (48 + n, [], refl, digit-has 49 n (omega (arith, g)) (omega (arith, h)), all-none (has decimalDigits))
@@ -82,7 +90,9 @@ digits-led zero n g h = absurd (omega (arith, g, h))
 digits-led (suc k) n g h =
     by-cases (ltb n 10)
     (λ t. rw t (led-one n g (ltb-true n 10 t)))
-    (λ t. let u = ltb-false n 10 t in rw t (led-append (digitsOf (suc k) (n / 10)) (48 + n % 10) (digit-has 48 (n % 10) (omega arith) (omega arith)) (digits-led k (n / 10) (omega (arith, u)) (omega (arith, u, h)))))
+    (λ t. let u = ltb-false n 10 t in
+    rw t (led-append (digitsOf (suc k) (n / 10)) (48 + n % 10) (digit-has 48 (n % 10) (omega arith) (omega arith))
+    (digits-led k (n / 10) (omega (arith, u)) (omega (arith, u, h)))))
 
 either-of : (n : ℕ) → Of eitherBase (decimal n) (0, n)
 unfolding digitsOf valueOf
@@ -90,7 +100,9 @@ either-of zero = lefts (skips (signs 48) (rights (makes {h = λ (l : List ℕ). 
 either-of (suc n) =
     let d = digits-led (suc n) (suc n) (omega arith) (le-refl (suc n)) in
     let v : valueOf 10 0 (d .0 ∷ d .1) ≡ suc n = ap (valueOf 10 0) (sym (d .2)) ∙ digits-value (suc n) (suc n) (le-refl (suc n)) in
-    rights (retexts (sym (d .2)) (revalues (ap (λ i. (0, i)) v) (makes {h = λ (p : ℕ × List ℕ). (0, valueOf 10 0 (p .0 ∷ p .1))} (joins (is-byte (d .3)) (stars (byte-row decimalDigits (d .1) (d .4)))))))
+    rights (retexts (sym (d .2))
+    (revalues (ap (λ i. (0, i)) v)
+    (makes {h = λ (p : ℕ × List ℕ). (0, valueOf 10 0 (p .0 ∷ p .1))} (joins (is-byte (d .3)) (stars (byte-row decimalDigits (d .1) (d .4)))))))
 
 pub numeral-of : (limit n : ℕ) → leb n limit ≡ true → Of (numeral limit) (decimal n) n
 numeral-of limit n t = makes {h = λ (p : ℕ × ℕ). p .1} {a = (0, n)} (bounds t (either-of n))

@@ -21,7 +21,8 @@ unfolding Means
 every (pure a) P h x v m = subst₂ P (sym (m .0)) (sym (m .1)) h
 every (byte c) P h x v m = subst (λ z. P z v) (sym (m .0)) (h v (m .1))
 every (pair f g) P h x v m =
-    subst (λ z. P z v) (sym (m .2)) (every g (λ y b. P (m .0 ++ y) (v .0, b)) (every f (λ y a. Every g (λ z b. P (y ++ z) (a, b))) h (m .0) (v .0) (m .3)) (m .1) (v .1) (m .4))
+    subst (λ z. P z v) (sym (m .2))
+    (every g (λ y b. P (m .0 ++ y) (v .0, b)) (every f (λ y a. Every g (λ z b. P (y ++ z) (a, b))) h (m .0) (v .0) (m .3)) (m .1) (v .1) (m .4))
 every (alt f g) P h x v (inl m) = every f P (h .0) x v m
 every (alt f g) P h x v (inr m) = every g P (h .1) x v m
 every (many f) P h x v m = h x v m
@@ -32,7 +33,8 @@ pub known : {A : Type 0} (f : Form A) (P : List ℕ → A → Type 0) → ((x : 
 unfolding Means
 known (pure a) P k = k [] a (refl, refl)
 known (byte c) P k = λ b h. k (b ∷ []) b (refl, h)
-known (pair f g) P k = known f (λ x a. Every g (λ y b. P (x ++ y) (a, b))) (λ x a m. known g (λ y b. P (x ++ y) (a, b)) (λ y b n. k (x ++ y) (a, b) (x, y, refl, m, n)))
+known (pair f g) P k =
+    known f (λ x a. Every g (λ y b. P (x ++ y) (a, b))) (λ x a m. known g (λ y b. P (x ++ y) (a, b)) (λ y b n. k (x ++ y) (a, b) (x, y, refl, m, n)))
 known (alt f g) P k = (known f P (λ x v m. k x v (inl m)), known g P (λ x v m. k x v (inr m)))
 known (many f) P k = k
 known (fmap h f) P k = known f (λ x a. P x (h a)) (λ x a m. k x (h a) (a, refl, m))

@@ -14,7 +14,8 @@ use Rattle.definitions.specs.declared.table.NumberField.the-variants as numberF
 use Rattle.definitions.specs.declared.table.HeaderField.{HeaderField}
 use Rattle.definitions.specs.declared.table.HeaderField.the-variants as headerField
 use Rattle.definitions.specs.OptionValues.{OptionValue}
-use Rattle.definitions.specs.Forms.{nameForm, protocolForm, flowForm, addressForm, sameIpForm, numberForm, ttlForm, fieldForm, sizeForm, atForm, patternForm, contextForm, noCaseForm, distanceForm, withinForm}
+use Rattle.definitions.specs.Forms.{nameForm, protocolForm, flowForm, addressForm, sameIpForm, numberForm, ttlForm, fieldForm, sizeForm, atForm}
+use Rattle.definitions.specs.Forms.{patternForm, contextForm, noCaseForm, distanceForm, withinForm}
 use Rattle.definitions.specs.Options.{Option, row, optionTable}
 use Rattle.definitions.specs.Canonical.{sideName, numberName, fieldName}
 use Rattle.definitions.specs.Grammar.{OptionText, option}

@@ -86,16 +86,19 @@ module _ (tests patterns : ℕ) (rest : List OptionValue) where
         test-count = i .test-count;
         pattern-count = i .pattern-count;
         some = i .some;
-        low = all-so (below k) (below (suc k)) (λ m t. lt-ltb (modifierNumber m) (suc k) (omega (arith, ltb-true (modifierNumber m) k t))) (latest [] before) (i .low);
+        low = all-so (below k) (below (suc k)) (λ m t. lt-ltb (modifierNumber m) (suc k) (omega (arith, ltb-true (modifierNumber m) k t)))
+            (latest [] before) (i .low);
       }
 
-  modifier-stands : (m : Modifier) (before : List OptionValue) → After tests patterns (modifierNumber m) before → Goes (suc (modifierNumber m)) → Occurrences before (Modified m ∷ rest)
+  modifier-stands : (m : Modifier) (before : List OptionValue) → After tests patterns (modifierNumber m) before → Goes (suc (modifierNumber m))
+      → Occurrences before (Modified m ∷ rest)
   unfolding occurrenceCheck keep
   modifier-stands m before i k =
       let e = i .pattern-count in
       let l = latest-modifier before [] m in
       let j = passed (modifierNumber m) before i in
-      let f : occurrenceCheck before (Modified m) ≡ Pass = rw (ne-eqb (count isPattern before) 0 (λ z. omega (arith, z, e, i .some)), none-again m (latest [] before) (i .low)) in
+      let f : occurrenceCheck before (Modified m) ≡ Pass =
+      rw (ne-eqb (count isPattern before) 0 (λ z. omega (arith, z, e, i .some)), none-again m (latest [] before) (i .low)) in
       Occurrences.more f
       (k (before ++ (Modified m ∷ []))
       (record {
@@ -129,7 +132,8 @@ module _ (tests patterns : ℕ) (rest before : List OptionValue) where
   within-stands within.Unset i k = k before (passed tests patterns rest 3 before i)
   within-stands (within.Given w) i k = modifier-stands tests patterns rest (Within w) before i k
 
-modifiers-stand : (t n : ℕ) (rest : List OptionValue) (p : patterns.Pattern) (before : List OptionValue) → After t n 0 before → Goes t n rest 4 → Occurrences before (modifierOptions p ++ rest)
+modifiers-stand : (t n : ℕ) (rest : List OptionValue) (p : patterns.Pattern) (before : List OptionValue) → After t n 0 before → Goes t n rest 4
+    → Occurrences before (modifierOptions p ++ rest)
 modifiers-stand t n rest p before i k =
     let w = withinOption (p .within) ++ rest in
     let d = distanceOption (p .distance) ++ w in
@@ -152,7 +156,8 @@ module _ (rest : List OptionValue) (k : (before : List OptionValue) → PatternB
   unfolding occurrenceCheck keep
   test-stands it al r =
       let a = leb-true (length al) maxAddresses (all-head fewAddresses (Test it al) rest (r .addresses)) in
-      let f : occurrenceCheck before (Test it al) ≡ Pass = rw (le-ltb maxAddresses (length al) a, lt-leb maxTests (count isTest before) (omega (arith, r .tests))) in
+      let f : occurrenceCheck before (Test it al) ≡ Pass =
+      rw (le-ltb maxAddresses (length al) a, lt-leb maxTests (count isTest before) (omega (arith, r .tests))) in
       Occurrences.more f
       (k (before ++ (Test it al ∷ []))
       (record {
@@ -161,7 +166,8 @@ module _ (rest : List OptionValue) (k : (before : List OptionValue) → PatternB
         patterns = omega (arith, r .patterns, count-append isPattern before (Test it al ∷ []));
       }))
 
-  pattern-stands : (p : patterns.Pattern) (b : List ℕ) → PatternBytes before (Pattern (p .negated) b ∷ (modifierOptions p ++ rest)) → Occurrences before (Pattern (p .negated) b ∷ (modifierOptions p ++ rest))
+  pattern-stands : (p : patterns.Pattern) (b : List ℕ) → PatternBytes before (Pattern (p .negated) b ∷ (modifierOptions p ++ rest))
+      → Occurrences before (Pattern (p .negated) b ∷ (modifierOptions p ++ rest))
   unfolding occurrenceCheck keep
   pattern-stands p b r =
       let e = Pattern (p .negated) b in
@@ -200,13 +206,16 @@ slots-stand (sl ∷ sls) b before r =
 
 -- ---- the whole table
 
-flow-stands : (f : flows.Flow) (rest : List OptionValue) (n : List ℕ) (p : ℕ) → ((before : List OptionValue) → count isTest before ≡ 0 → count isPattern before ≡ 0 → Occurrences before rest) → Occurrences (Name n ∷ Protocol p ∷ []) (flowOption f ++ rest)
+flow-stands : (f : flows.Flow) (rest : List OptionValue) (n : List ℕ) (p : ℕ)
+    → ((before : List OptionValue) → count isTest before ≡ 0 → count isPattern before ≡ 0 → Occurrences before rest)
+    → Occurrences (Name n ∷ Protocol p ∷ []) (flowOption f ++ rest)
 unfolding occurrenceCheck any? keep
 flow-stands flow.Any rest n p k = k (Name n ∷ Protocol p ∷ []) refl refl
 flow-stands flow.FromClient rest n p k = Occurrences.more refl (k (Name n ∷ Protocol p ∷ Flow flow.FromClient ∷ []) refl refl)
 flow-stands flow.FromServer rest n p k = Occurrences.more refl (k (Name n ∷ Protocol p ∷ Flow flow.FromServer ∷ []) refl refl)
 
-pub canonical-stands : (t : Table) → all? fewAddresses (canonicalOptions t) ≡ true → count isTest (canonicalOptions t) ≤ maxTests → count isPattern (canonicalOptions t) ≤ maxPatterns → Occurrences [] (canonicalOptions t)
+pub canonical-stands : (t : Table) → all? fewAddresses (canonicalOptions t) ≡ true → count isTest (canonicalOptions t) ≤ maxTests
+    → count isPattern (canonicalOptions t) ≤ maxPatterns → Occurrences [] (canonicalOptions t)
 unfolding canonicalOptions occurrenceCheck any?
 canonical-stands t a n p =
     let nm = take (t .len) (t .name) in

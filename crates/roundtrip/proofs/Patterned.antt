@@ -27,7 +27,8 @@ abbrev pat : Bool → ℕ → contexts.Context → Bool → distances.Distance �
 pat g n c k d w = record { negated = g; len = n; context = c; nocase = k; distance = d; within = w }
 
 module _ (es : List OptionValue) (g : Bool) (n : ℕ) where
-  context-set : (c : contexts.Context) → modified (contextOption c ++ es) (pat g n context.Packet false distance.Unset within.Unset) ≡ modified es (pat g n c false distance.Unset within.Unset)
+  context-set : (c : contexts.Context)
+      → modified (contextOption c ++ es) (pat g n context.Packet false distance.Unset within.Unset) ≡ modified es (pat g n c false distance.Unset within.Unset)
   unfolding modified
   context-set context.Packet = refl
   context-set context.Uri = refl
@@ -38,22 +39,26 @@ module _ (es : List OptionValue) (g : Bool) (n : ℕ) where
   context-set context.File = refl
 
   module _ (c : contexts.Context) where
-    no-case-set : (k : Bool) → modified (noCaseOption k ++ es) (pat g n c false distance.Unset within.Unset) ≡ modified es (pat g n c k distance.Unset within.Unset)
+    no-case-set : (k : Bool)
+        → modified (noCaseOption k ++ es) (pat g n c false distance.Unset within.Unset) ≡ modified es (pat g n c k distance.Unset within.Unset)
     unfolding modified
     no-case-set true = refl
     no-case-set false = refl
 
-    distance-set : (k : Bool) (d : distances.Distance) → modified (distanceOption d ++ es) (pat g n c k distance.Unset within.Unset) ≡ modified es (pat g n c k d within.Unset)
+    distance-set : (k : Bool) (d : distances.Distance)
+        → modified (distanceOption d ++ es) (pat g n c k distance.Unset within.Unset) ≡ modified es (pat g n c k d within.Unset)
     unfolding modified
     distance-set k distance.Unset = refl
     distance-set k (distance.Given d) = refl
 
-    within-set : (k : Bool) (d : distances.Distance) (w : withins.Within) → modified (withinOption w ++ es) (pat g n c k d within.Unset) ≡ modified es (pat g n c k d w)
+    within-set : (k : Bool) (d : distances.Distance) (w : withins.Within)
+        → modified (withinOption w ++ es) (pat g n c k d within.Unset) ≡ modified es (pat g n c k d w)
     unfolding modified
     within-set k d within.Unset = refl
     within-set k d (within.Given w) = refl
 
-pub modifiers-joined : (p : patterns.Pattern) (es : List OptionValue) → modifierOptions p ++ es ≡ contextOption (p .context) ++ (noCaseOption (p .nocase) ++ (distanceOption (p .distance) ++ (withinOption (p .within) ++ es)))
+pub modifiers-joined : (p : patterns.Pattern) (es : List OptionValue)
+    → modifierOptions p ++ es ≡ contextOption (p .context) ++ (noCaseOption (p .nocase) ++ (distanceOption (p .distance) ++ (withinOption (p .within) ++ es)))
 modifiers-joined p es = simp append-assoc
 
 pub pattern-set : (p : patterns.Pattern) (es : List OptionValue) → modified (modifierOptions p ++ es) (bare (p .negated) (p .len)) ≡ modified es p
@@ -100,16 +105,20 @@ module _ (f : OptionValue → Bool) where
   within-all within.Unset t = all-none f
   within-all (within.Given r) t = all-more f (Modified (Within r)) [] (t r refl) (all-none f)
 
-  pub modifiers-all : (p : patterns.Pattern) → f (Modified (Context (p .context))) ≡ true → f (Modified NoCase) ≡ true → ((s : DistanceValue) → p .distance ≡ distance.Given s → f (Modified (Distance s)) ≡ true) → ((r : WithinValue) → p .within ≡ within.Given r → f (Modified (Within r)) ≡ true) → all? f (modifierOptions p) ≡ true
+  pub modifiers-all : (p : patterns.Pattern) → f (Modified (Context (p .context))) ≡ true → f (Modified NoCase) ≡ true
+      → ((s : DistanceValue) → p .distance ≡ distance.Given s → f (Modified (Distance s)) ≡ true)
+      → ((r : WithinValue) → p .within ≡ within.Given r → f (Modified (Within r)) ≡ true) → all? f (modifierOptions p) ≡ true
   modifiers-all p c k d w =
-      all-append f (contextOption (p .context)) (noCaseOption (p .nocase) ++ (distanceOption (p .distance) ++ withinOption (p .within))) (context-all (p .context) c)
+      all-append f (contextOption (p .context)) (noCaseOption (p .nocase) ++ (distanceOption (p .distance) ++ withinOption (p .within)))
+      (context-all (p .context) c)
       (all-append f (noCaseOption (p .nocase)) (distanceOption (p .distance) ++ withinOption (p .within)) (no-case-all (p .nocase) k)
       (all-append f (distanceOption (p .distance)) (withinOption (p .within)) (distance-all (p .distance) d) (within-all (p .within) w)))
 
 modifiers-modify : (p : patterns.Pattern) → all? modifies (modifierOptions p) ≡ true
 modifiers-modify p = modifiers-all modifies p refl refl (λ s e. refl) (λ r e. refl)
 
-slots-after : (ms es : List OptionValue) → all? modifies ms ≡ true → (slotsIn (ms ++ es) ≡ slotsIn es) × (bytesIn (ms ++ es) ≡ bytesIn es) × (flowIn (ms ++ es) ≡ flowIn es)
+slots-after : (ms es : List OptionValue) → all? modifies ms ≡ true
+    → (slotsIn (ms ++ es) ≡ slotsIn es) × (bytesIn (ms ++ es) ≡ bytesIn es) × (flowIn (ms ++ es) ≡ flowIn es)
 unfolding slotsIn bytesIn flowIn
 slots-after [] es t = (refl, refl, refl)
 slots-after (Name n ∷ ms) es t = let z = all-head modifies (Name n) ms t in never (cc)

@@ -31,7 +31,14 @@ use Rattle.list_laws.proofs.Padded.{padded-holds}
 
 module _ (room : ℕ) (s : List ℕ) (t : Table) (d : Derives room s t) where
   options-known : Entries (d .values)
-  options-known = record { fit = options-fit (d .made); only = options-tests (d .made); occurrences = d .occurrences; usable = d .usable; complete = d .complete }
+  options-known = record {
+    fit = options-fit (d .made);
+    only = options-tests (d .made);
+    occurrences = d .occurrences;
+    usable = d .usable;
+    complete =
+        d .complete;
+  }
 
   pub derived-formed : Shaped room t → wellFormed t ≡ true
   unfolding tableOf

@@ -68,20 +68,24 @@ after-length (patterned p) b = length-drop (p .len) b
 after-length plainTest b = omega arith
 
 -- the slot of an item's options
-module _ (al : List Address) (b : List ℕ) (rest : List OptionValue) (whole : length al ≡ maxAddresses) (alone : (p : patterns.Pattern) → modified rest p ≡ p) where
+module _ (al : List Address) (b : List ℕ) (rest : List OptionValue) (whole : length al ≡ maxAddresses) (alone : (p : patterns.Pattern)
+    → modified rest p ≡ p) where
   plain-back : (it : Item) → (itemFits it && addressesFit 0 al) ≡ true → slotOf it [] ∷ slotsIn rest ≡ record { item = it; addresses = al } ∷ slotsIn rest
-  plain-back it t = ap (λ l. record { item = it; addresses = l } ∷ slotsIn rest) (addresses-refilled 0 al whole (both-right (itemFits it) (addressesFit 0 al) t))
+  plain-back it t = ap (λ l. record { item = it; addresses = l } ∷ slotsIn rest)
+      (addresses-refilled 0 al whole (both-right (itemFits it) (addressesFit 0 al) t))
 
   pattern-back : (p : patterns.Pattern) → p .len ≤ length b → modified (modifierOptions p ++ rest) (bare (p .negated) (length (take (p .len) b))) ≡ p
   pattern-back p h =
       let e : length (take (p .len) b) ≡ p .len = omega (arith, length-take (p .len) b, h) in
       ap (λ n. modified (modifierOptions p ++ rest) (bare (p .negated) n)) e ∙ pattern-set p rest ∙ alone p
 
-  item-back : (it : Item) → kindLength (kindOf it) ≤ length b → slotFits (record { item = it; addresses = al }) ≡ true → slotsIn (itemOptions (kindOf it) (record { item = it; addresses = al }) b ++ rest) ≡ record { item = it; addresses = al } ∷ slotsIn rest
+  item-back : (it : Item) → kindLength (kindOf it) ≤ length b → slotFits (record { item = it; addresses = al }) ≡ true
+      → slotsIn (itemOptions (kindOf it) (record { item = it; addresses = al }) b ++ rest) ≡ record { item = it; addresses = al } ∷ slotsIn rest
   unfolding slotsIn itemFits
   item-back item.Unused h t = never (cc)
   item-back (item.Address a) h t =
-      ap (λ l. record { item = item.Address a; addresses = l } ∷ slotsIn rest) (addresses-refilled (a .count) al whole (both-right (itemFits (item.Address a)) (addressesFit (a .count) al) t))
+      ap (λ l. record { item = item.Address a; addresses = l } ∷ slotsIn rest)
+      (addresses-refilled (a .count) al whole (both-right (itemFits (item.Address a)) (addressesFit (a .count) al) t))
   item-back item.SameIp h t = plain-back item.SameIp t
   item-back (item.Number a) h t = plain-back (item.Number a) t
   item-back (item.Ttl a) h t = plain-back (item.Ttl a) t
@@ -95,7 +99,8 @@ module _ (al : List Address) (b : List ℕ) (rest : List OptionValue) (whole : l
 abbrev pub Enough : List Slot → List ℕ → Type 0
 Enough sls b = bytesOf (patternsOf sls) ≤ length b
 
-pub enough : (sl : Slot) (sls : List Slot) (b : List ℕ) → Enough (sl ∷ sls) b → (kindLength (kindOf (sl .item)) ≤ length b) × Enough sls (afterItem (kindOf (sl .item)) b)
+pub enough : (sl : Slot) (sls : List Slot) (b : List ℕ) → Enough (sl ∷ sls) b
+    → (kindLength (kindOf (sl .item)) ≤ length b) × Enough sls (afterItem (kindOf (sl .item)) b)
 unfolding patternsOf
 enough sl sls b h =
     let e = lengths-first (kindOf (sl .item)) (patternsOf sls) in
@@ -107,12 +112,14 @@ slots-back [] b f w h = unfold slotsIn in refl
 slots-back (sl ∷ sls) b f w h =
     let k = kindOf (sl .item) in
     let g = enough sl sls b h in
-    item-back (sl .addresses) b (slotOptions sls (afterItem k b)) (eqb-true (length (sl .addresses)) maxAddresses (all-head wholeSlot sl sls w)) (unmodified sls (afterItem k b)) (sl .item) (g .0) (all-head slotFits sl sls f)
+    item-back (sl .addresses) b (slotOptions sls (afterItem k b)) (eqb-true (length (sl .addresses)) maxAddresses (all-head wholeSlot sl sls w))
+    (unmodified sls (afterItem k b)) (sl .item) (g .0) (all-head slotFits sl sls f)
     ∙ ap (λ l. sl ∷ l) (slots-back sls (afterItem k b) (all-tail slotFits sl sls f) (all-tail wholeSlot sl sls w) (g .1))
 
 -- ---- bytes and flow
 
-item-bytes : (k : Kind) (sl : Slot) (b : List ℕ) (rest : List OptionValue) (n : ℕ) → bytesIn rest ≡ take n (afterItem k b) → bytesIn (itemOptions k sl b ++ rest) ≡ take (kindLength k + n) b
+item-bytes : (k : Kind) (sl : Slot) (b : List ℕ) (rest : List OptionValue) (n : ℕ) → bytesIn rest ≡ take n (afterItem k b)
+    → bytesIn (itemOptions k sl b ++ rest) ≡ take (kindLength k + n) b
 unfolding bytesIn
 item-bytes unused sl b rest n e = rw zero-add e
 item-bytes (addressed a) sl b rest n e = rw zero-add e
@@ -124,7 +131,8 @@ unfolding slotOptions patternsOf
 bytes-back [] b = unfold bytesIn bytesOf in refl
 bytes-back (sl ∷ sls) b =
     let k = kindOf (sl .item) in
-    item-bytes k sl b (slotOptions sls (afterItem k b)) (bytesOf (patternsOf sls)) (bytes-back sls (afterItem k b)) ∙ ap (λ n. take n b) (sym (lengths-first k (patternsOf sls)))
+    item-bytes k sl b (slotOptions sls (afterItem k b)) (bytesOf (patternsOf sls)) (bytes-back sls (afterItem k b))
+    ∙ ap (λ n. take n b) (sym (lengths-first k (patternsOf sls)))
 
 item-flow : (k : Kind) (sl : Slot) (b : List ℕ) (rest : List OptionValue) → flowIn (itemOptions k sl b ++ rest) ≡ flowIn rest
 unfolding flowIn
@@ -185,8 +193,11 @@ module _ (room : ℕ) (t : Table) (h : Shaped room t) (w : wellFormed t ≡ true
       let n : padded maxName 0 (take (t .len) (t .name)) ≡ t .name = bytes-refilled maxName (t .len) (t .name) (h .named) (f .name-rest) in
       let nl : length (take (t .len) (t .name)) ≡ t .len = omega (arith, l, length-take (t .len) (t .name), h .named) in
       let g = flow-back (t .flow) (slotOptions (slotsOf t) (t .bytes)) (no-flow (slotsOf t) (t .bytes)) in
-      let b : padded room 0 (bytesIn (canonicalOptions t)) ≡ t .bytes = ap (padded room 0) canonical-bytes ∙ bytes-refilled room (t .used) (t .bytes) (h .roomy) (f .bytes-rest) in
+      let b : padded room 0 (bytesIn (canonicalOptions t)) ≡ t .bytes =
+      ap (padded room 0) canonical-bytes ∙ bytes-refilled room (t .used) (t .bytes) (h .roomy) (f .bytes-rest) in
       let bl : length (bytesIn (canonicalOptions t)) ≡ t .used = ap length canonical-bytes ∙ omega (arith, f .used-most, length-take (t .used) (t .bytes)) in
-      let s : padded maxItems noSlot (slotsIn (canonicalOptions t)) ≡ t .items = ap (padded maxItems noSlot) canonical-slots ∙ slots-refilled maxItems (t .count) (t .items) (h .slotted) (slots-shaped room t h) (f .slots-rest) in
-      let sl : length (slotsIn (canonicalOptions t)) ≡ t .count = ap length canonical-slots ∙ omega (arith, f .count, length-take (t .count) (t .items), h .slotted) in
+      let s : padded maxItems noSlot (slotsIn (canonicalOptions t)) ≡ t .items =
+      ap (padded maxItems noSlot) canonical-slots ∙ slots-refilled maxItems (t .count) (t .items) (h .slotted) (slots-shaped room t h) (f .slots-rest) in
+      let sl : length (slotsIn (canonicalOptions t)) ≡ t .count =
+      ap length canonical-slots ∙ omega (arith, f .count, length-take (t .count) (t .items), h .slotted) in
       λ i. record { name = n i; len = nl i; protocol = t .protocol; flow = g i; bytes = b i; used = bl i; items = s i; count = sl i }

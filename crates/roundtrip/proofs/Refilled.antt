@@ -45,7 +45,8 @@ unused-address a t =
     λ i. record { number = p i; prefix = q i }
 
 pub addresses-refilled : (k : ℕ) (al : List Address) → length al ≡ maxAddresses → addressesFit k al ≡ true → padded maxAddresses noAddress (take k al) ≡ al
-addresses-refilled k al e t = refilled addressUnused noAddress unused-address maxAddresses k al e (both-right (all? addressFits (take k al)) (all? addressUnused (drop k al)) t)
+addresses-refilled k al e t =
+    refilled addressUnused noAddress unused-address maxAddresses k al e (both-right (all? addressFits (take k al)) (all? addressUnused (drop k al)) t)
 
 -- ---- slots
 
@@ -70,7 +71,8 @@ empty-slot sl t =
     let h = halves t in
     let g = halves (h .0) in
     let p = unused-item (sl .item) (g .0) in
-    let q : sl .addresses ≡ padded maxAddresses noAddress [] = sym (addresses-refilled 0 (sl .addresses) (eqb-true (length (sl .addresses)) maxAddresses (h .1)) (g .1)) in
+    let q : sl .addresses ≡ padded maxAddresses noAddress [] =
+    sym (addresses-refilled 0 (sl .addresses) (eqb-true (length (sl .addresses)) maxAddresses (h .1)) (g .1)) in
     λ i. record { item = p i; addresses = q i }
 
 pub slots-refilled : (n k : ℕ) (l : List Slot) → length l ≡ n → all? wholeSlot l ≡ true → all? slotUnused (drop k l) ≡ true → padded n noSlot (take k l) ≡ l

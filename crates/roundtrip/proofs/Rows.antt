@@ -23,7 +23,9 @@ use Rattle.definitions.specs.declared.table.Address.{Address}
 use Rattle.definitions.specs.Limits.{maxByte, maxWord}
 use Rattle.definitions.specs.OptionValues.{NoCase, OptionValue, Pattern, Modified}
 use Rattle.definitions.specs.Numbers.{numeral}
-use Rattle.definitions.specs.Forms.{spaces, gap, closed, valued, quotable, addresses, addressTest, test, negation, maxField, patternBytes, nameForm, protocolForm, flowForm, addressForm, sameIpForm, numberForm, ttlForm, fieldForm, sizeForm, atForm, patternForm, contextForm, noCaseForm, distanceForm, withinForm}
+use Rattle.definitions.specs.Forms.{spaces, gap, closed, valued, quotable, addresses, addressTest, test, negation, maxField, patternBytes, nameForm}
+use Rattle.definitions.specs.Forms.{protocolForm, flowForm, addressForm, sameIpForm, numberForm, ttlForm, fieldForm, sizeForm, atForm, patternForm}
+use Rattle.definitions.specs.Forms.{contextForm, noCaseForm, distanceForm, withinForm}
 use Rattle.definitions.specs.Options.{Option, optionTable}
 use Rattle.definitions.specs.WellFormed.{itemFits}
 use Rattle.definitions.specs.Grammar.{OptionText, option}
@@ -60,7 +62,8 @@ value f k =
     }
 
 -- an option with a value and without pattern bytes: what it says fits, whatever its text
-says : {A : Type 0} {h : A → OptionValue} {f : Form A} → ((a : A) → patternLength (h a) ≡ 0) → Every f (λ x a. optionFits (h a) ≡ true) → Gives (valued (fmap h f))
+says : {A : Type 0} {h : A → OptionValue} {f : Form A} → ((a : A) → patternLength (h a) ≡ 0) → Every f (λ x a. optionFits (h a) ≡ true)
+    → Gives (valued (fmap h f))
 says {A} {h} {f} z k = value (fmap h f) (known f (λ x a. Fitting x (h a)) (λ x a m. plain x (h a) (every f (λ x a. optionFits (h a) ≡ true) k x a m) (z a)))
 
 -- ---- the rows
@@ -70,11 +73,21 @@ name-gives = says (λ n. refl) (λ q h b g x vs r c k t. both (both (not-none (l
 
 protocol-gives : Gives protocolForm
 protocol-gives =
-    says (λ p. refl)
-    (says-every (text "tcp") 6 (λ x p. leb p 255 ≡ true) (λ x. refl), (says-every (text "udp") 17 (λ x p. leb p 255 ≡ true) (λ x. refl), (says-every (text "icmp") 1 (λ x p. leb p 255 ≡ true) (λ x. refl), λ b h x vs r t. t)))
+    says (λ p. refl) (
+      says-every (text "tcp") 6 (λ x p. leb p 255 ≡ true) (λ x. refl),
+      (
+        says-every (text "udp") 17 (λ x p. leb p 255 ≡ true) (λ x. refl),
+        (says-every (text "icmp") 1 (λ x p. leb p 255 ≡ true) (λ x. refl), λ b h x vs r t. t),
+      ),
+    )
 
 flow-gives : Gives flowForm
-flow-gives = says (λ f. refl) (λ b1 h1 b2 h2 b3 h3 b4 h4 b5 h5. (says-every (text "client") flow.FromClient (λ x f. flowFits f ≡ true) (λ x. refl), says-every (text "server") flow.FromServer (λ x f. flowFits f ≡ true) (λ x. refl)))
+flow-gives = says (λ f. refl)
+    (λ b1 h1 b2 h2 b3 h3 b4 h4 b5 h5. (
+      says-every (text "client") flow.FromClient (λ x f. flowFits f ≡ true) (λ x. refl),
+      says-every (text "server") flow.FromServer
+          (λ x f. flowFits f ≡ true) (λ x. refl),
+    ))
 
 module _ (side : Side) where
   listed : (n : Bool) (x : List ℕ) (al : List Address) → Means true addresses x al → optionFits (addressTest side (n, al)) ≡ true
@@ -82,7 +95,11 @@ module _ (side : Side) where
 
   address-gives : Gives (addressForm side)
   address-gives =
-      says (λ p. refl) ((λ b h. known addresses (λ y al. optionFits (addressTest side (true, al)) ≡ true) (listed true)), known addresses (λ y al. optionFits (addressTest side (false, al)) ≡ true) (listed false))
+      says (λ p. refl) (
+        (λ b h. known addresses (λ y al. optionFits (addressTest side (true, al)) ≡ true) (listed true)),
+        known addresses
+            (λ y al. optionFits (addressTest side (false, al)) ≡ true) (listed false),
+      )
 
 same-ip-gives : Gives sameIpForm
 unfolding itemFits
@@ -93,7 +110,8 @@ unfolding itemFits
 number-gives f = says (λ n. refl) (λ b h x vs r t. both t refl)
 
 -- an option whose value is known to fit
-known-says : {A : Type 0} {h : A → OptionValue} {f : Form A} → ((a : A) → patternLength (h a) ≡ 0) → ((x : List ℕ) (a : A) → Means true f x a → optionFits (h a) ≡ true) → Gives (valued (fmap h f))
+known-says : {A : Type 0} {h : A → OptionValue} {f : Form A} → ((a : A) → patternLength (h a) ≡ 0)
+    → ((x : List ℕ) (a : A) → Means true f x a → optionFits (h a) ≡ true) → Gives (valued (fmap h f))
 known-says {A} {h} {f} z k = says z (known f (λ x a. optionFits (h a) ≡ true) k)
 
 ttl-gives : Gives ttlForm
@@ -101,10 +119,14 @@ unfolding itemFits Means
 ttl-gives = known-says (λ p. refl) (λ x p m. both (number-within maxByte (m .1) (p .1) (m .4)) refl)
 
 -- a mask is within the field's limit, also where it is left out
-mask-within : (limit : ℕ) (x : List ℕ) (n : ℕ) → Means true (opt limit (preceded (literal 38) (preceded spaces (terminated (numeral limit) spaces)))) x n → leb n limit ≡ true
+mask-within : (limit : ℕ) (x : List ℕ) (n : ℕ) → Means true (opt limit (preceded (literal 38) (preceded spaces (terminated (numeral limit) spaces)))) x n
+    → leb n limit ≡ true
 mask-within limit =
-    every (opt limit (preceded (literal 38) (preceded spaces (terminated (numeral limit) spaces)))) (λ x n. leb n limit ≡ true)
-    ((λ b h y vs r. known (numeral limit) (λ x n. (z ws : List ℕ) → Row (λ y w. Means true (literal 32) y w) z ws → leb n limit ≡ true) (λ x n m z ws k. numeral-within limit x n m)), le-leb limit limit (le-refl limit))
+    every (opt limit (preceded (literal 38) (preceded spaces (terminated (numeral limit) spaces)))) (λ x n. leb n limit ≡ true) (
+      (λ b h y vs r. known (numeral limit) (λ x n. (z ws : List ℕ) → Row (λ y w. Means true (literal 32) y w) z ws → leb n limit ≡ true)
+          (λ x n m z ws k. numeral-within limit x n m)),
+      le-leb limit limit (le-refl limit),
+    )
 
 field-gives : (f : HeaderField) → Gives (fieldForm f)
 unfolding itemFits Means
@@ -145,7 +167,8 @@ pattern-gives : Gives patternForm
 pattern-gives =
     value (fmap (λ (p : Bool × List ℕ). Pattern (p .0) (p .1)) (pair negation (preceded (literal 34) (terminated patternBytes (literal 34))))) (
       (λ b h. known (preceded (literal 34) (terminated patternBytes (literal 34))) (λ y bs. Fitting ((b ∷ []) ++ y) (Pattern true bs))
-          (λ y bs m. longer y ((b ∷ []) ++ y) (Pattern true bs) (omega arith) (every (preceded (literal 34) (terminated patternBytes (literal 34))) (λ x bs. Fitting x (Pattern true bs)) (in-quotes true) y bs m))),
+          (λ y bs m. longer y ((b ∷ []) ++ y) (Pattern true bs) (omega arith)
+          (every (preceded (literal 34) (terminated patternBytes (literal 34))) (λ x bs. Fitting x (Pattern true bs)) (in-quotes true) y bs m))),
       in-quotes false,
     )
 

@@ -31,11 +31,13 @@ slots-whole (Protocol p ∷ es) f = slots-whole es (all-tail fewAddresses (Proto
 slots-whole (Flow g ∷ es) f = slots-whole es (all-tail fewAddresses (Flow g) es f)
 slots-whole (Test it al ∷ es) f =
     let h = padded-full maxAddresses noAddress al (leb-true (length al) maxAddresses (all-head fewAddresses (Test it al) es f)) in
-    all-more wholeSlot (slotOf it al) (slotsIn es) (eq-eqb (length (padded maxAddresses noAddress al)) maxAddresses h) (slots-whole es (all-tail fewAddresses (Test it al) es f))
+    all-more wholeSlot (slotOf it al) (slotsIn es) (eq-eqb (length (padded maxAddresses noAddress al)) maxAddresses h)
+    (slots-whole es (all-tail fewAddresses (Test it al) es f))
 slots-whole (Pattern n b ∷ es) f = all-more wholeSlot _ (slotsIn es) refl (slots-whole es (all-tail fewAddresses (Pattern n b) es f))
 slots-whole (Modified m ∷ es) f = slots-whole es (all-tail fewAddresses (Modified m) es f)
 
-pub table-shaped : (room : ℕ) (es : List OptionValue) → length (nameIn es) ≤ maxName → length (bytesIn es) ≤ room → length (slotsIn es) ≤ maxItems → all? fewAddresses es ≡ true → Shaped room (tableOf room es)
+pub table-shaped : (room : ℕ) (es : List OptionValue) → length (nameIn es) ≤ maxName → length (bytesIn es) ≤ room → length (slotsIn es) ≤ maxItems
+    → all? fewAddresses es ≡ true → Shaped room (tableOf room es)
 unfolding tableOf
 table-shaped room es n b s f =
     record {
@@ -44,7 +46,9 @@ table-shaped room es n b s f =
       slotted = padded-full maxItems noSlot (slotsIn es) s;
       addressed = λ sl m.
           eqb-true (length (sl .addresses)) maxAddresses
-          (all-each wholeSlot m (all-append wholeSlot (slotsIn es) (replicate (maxItems - length (slotsIn es)) noSlot) (slots-whole es f) (all-replicate wholeSlot (maxItems - length (slotsIn es)) noSlot refl)));
+          (all-each wholeSlot m
+          (all-append wholeSlot (slotsIn es) (replicate (maxItems - length (slotsIn es)) noSlot) (slots-whole es f)
+          (all-replicate wholeSlot (maxItems - length (slotsIn es)) noSlot refl)));
     }
 
 pub slots-shaped : (room : ℕ) (t : Table) → Shaped room t → all? wholeSlot (t .items) ≡ true

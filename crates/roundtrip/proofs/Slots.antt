@@ -74,7 +74,8 @@ modified-fits (Protocol q ∷ es) p t f = modified-fits es p (all-tail optionFit
 modified-fits (Flow g ∷ es) p t f = modified-fits es p (all-tail optionFits (Flow g) es t) f
 modified-fits (Test it al ∷ es) p t f = modified-fits es p (all-tail optionFits (Test it al) es t) f
 modified-fits (Pattern n b ∷ es) p t f = f
-modified-fits (Modified m ∷ es) p t f = modified-fits es (with m p) (all-tail optionFits (Modified m) es t) (with-fits m p (all-head optionFits (Modified m) es t) f)
+modified-fits (Modified m ∷ es) p t f =
+    modified-fits es (with m p) (all-tail optionFits (Modified m) es t) (with-fits m p (all-head optionFits (Modified m) es t) f)
 
 with-length : (m : Modifier) (p : patterns.Pattern) → with m p .len ≡ p .len
 with-length (Context c) p = refl
@@ -126,7 +127,9 @@ bytes-fit (Name n ∷ es) t = bytes-fit es (all-tail optionFits (Name n) es t)
 bytes-fit (Protocol p ∷ es) t = bytes-fit es (all-tail optionFits (Protocol p) es t)
 bytes-fit (Flow g ∷ es) t = bytes-fit es (all-tail optionFits (Flow g) es t)
 bytes-fit (Test it al ∷ es) t = bytes-fit es (all-tail optionFits (Test it al) es t)
-bytes-fit (Pattern n b ∷ es) t = all-append isByte b (bytesIn es) (both-right (leb 1 (length b)) (all? isByte b) (all-head optionFits (Pattern n b) es t)) (bytes-fit es (all-tail optionFits (Pattern n b) es t))
+bytes-fit (Pattern n b ∷ es) t =
+    all-append isByte b (bytesIn es) (both-right (leb 1 (length b)) (all? isByte b) (all-head optionFits (Pattern n b) es t))
+    (bytes-fit es (all-tail optionFits (Pattern n b) es t))
 bytes-fit (Modified m ∷ es) t = bytes-fit es (all-tail optionFits (Modified m) es t)
 
 -- the patterns' lengths are those of their bytes
@@ -136,7 +139,8 @@ lengths-in [] t = refl
 lengths-in (Name n ∷ es) t = lengths-in es (all-tail testOnly (Name n) es t)
 lengths-in (Protocol p ∷ es) t = lengths-in es (all-tail testOnly (Protocol p) es t)
 lengths-in (Flow g ∷ es) t = lengths-in es (all-tail testOnly (Flow g) es t)
-lengths-in (Test it al ∷ es) t = ap bytesOf (skipped (kindOf it) (patternsOf (slotsIn es)) (all-head testOnly (Test it al) es t)) ∙ lengths-in es (all-tail testOnly (Test it al) es t)
+lengths-in (Test it al ∷ es) t =
+    ap bytesOf (skipped (kindOf it) (patternsOf (slotsIn es)) (all-head testOnly (Test it al) es t)) ∙ lengths-in es (all-tail testOnly (Test it al) es t)
 lengths-in (Pattern n b ∷ es) t =
     let e : modified es (bare n (length b)) .len ≡ length b = modified-length es (bare n (length b)) in
     omega (arith, e, lengths-in es (all-tail testOnly (Pattern n b) es t), length-append b (bytesIn es))

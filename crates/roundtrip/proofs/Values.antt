@@ -45,7 +45,8 @@ signed-abs false n = refl
 
 -- ---- addresses
 
-four-bytes : (a b c d : ℕ) → leb a 255 ≡ true → leb b 255 ≡ true → leb c 255 ≡ true → leb d 255 ≡ true → leb (((a * 256 + b) * 256 + c) * 256 + d) 4294967295 ≡ true
+four-bytes : (a b c d : ℕ) → leb a 255 ≡ true → leb b 255 ≡ true → leb c 255 ≡ true → leb d 255 ≡ true
+    → leb (((a * 256 + b) * 256 + c) * 256 + d) 4294967295 ≡ true
 four-bytes a b c d p q r s =
     le-leb (((a * 256 + b) * 256 + c) * 256 + d) 4294967295 (omega (arith, leb-true a 255 p, leb-true b 255 q, leb-true c 255 r, leb-true d 255 s))
 
@@ -63,7 +64,8 @@ not-none n = le-leb 1 (suc n) (omega arith)
 abbrev someFit : List Address → Bool
 someFit al = leb 1 (length al) && all? addressFits al
 
-some-fit : (x y : List ℕ) (a : Address) (al : List Address) → Means true address y a → Row (λ y w. Means true (preceded (literal 44) address) y w) x al → someFit (a ∷ al) ≡ true
+some-fit : (x y : List ℕ) (a : Address) (al : List Address) → Means true address y a → Row (λ y w. Means true (preceded (literal 44) address) y w) x al
+    → someFit (a ∷ al) ≡ true
 some-fit x y a al m r =
     both (not-none (length al)) (all-more addressFits a al (address-fits y a m)
     (all-row addressFits (λ y w. Means true (preceded (literal 44) address) y w)
@@ -72,7 +74,8 @@ some-fit x y a al m r =
 pub addresses-fit : (x : List ℕ) (al : List Address) → Means true addresses x al → someFit al ≡ true
 addresses-fit =
     every addresses (λ x al. someFit al ≡ true) (
-      (λ b h. known address (λ y a. (z : List ℕ) (al : List Address) → Row (λ y w. Means true (preceded (literal 44) address) y w) z al → (c : ℕ) → has ((93, 93) ∷ []) c ≡ true → someFit (a ∷ al) ≡ true)
+      (λ b h. known address (λ y a. (z : List ℕ) (al : List Address) → Row (λ y w. Means true (preceded (literal 44) address) y w) z al → (c : ℕ)
+          → has ((93, 93) ∷ []) c ≡ true → someFit (a ∷ al) ≡ true)
           (λ y a m z al r c g. some-fit z y a al m r)),
       known address (λ y a. someFit (a ∷ []) ≡ true) (λ y a m. some-fit [] y a [] m none),
     )
@@ -117,7 +120,8 @@ NotNone bs = leb 1 (length bs) ≡ true
 block-fits : (x bs : List ℕ) → Means true block x bs → NotNone bs × Short x bs
 block-fits =
     every block (λ x bs. NotNone bs × Short x bs)
-    (λ b h x vs r. known spacedPair (λ y v. (z ws : List ℕ) → Row (λ y w. Means true spacedPair y w) z ws → (c : ℕ) → has ((124, 124) ∷ []) c ≡ true → NotNone (v ∷ ws) × Short ((b ∷ []) ++ (x ++ ((y ++ z) ++ (c ∷ [])))) (v ∷ ws))
+    (λ b h x vs r. known spacedPair (λ y v. (z ws : List ℕ) → Row (λ y w. Means true spacedPair y w) z ws → (c : ℕ) → has ((124, 124) ∷ []) c ≡ true
+    → NotNone (v ∷ ws) × Short ((b ∷ []) ++ (x ++ ((y ++ z) ++ (c ∷ [])))) (v ∷ ws))
     (λ y v m z ws r c g.
     let i = pair-fits y v m in
     let j = pairs-fit z ws r in
@@ -137,12 +141,17 @@ parts-fit x vs none = record { bytes = all-none isByte; short = omega arith }
 parts-fit x vs (Row.more {x = y} {y = z} {v} {vs = ws} p r) =
     let i = parts-fit z ws r in
     let j = part-fits y v p in
-    record { bytes = all-append isByte v (concatenated ws) (j .1 .bytes) (i .bytes); short = omega (arith, length-append y z, length-append v (concatenated ws), i .short, j .1 .short) }
+    record {
+      bytes = all-append isByte v (concatenated ws) (j .1 .bytes) (i .bytes);
+      short =
+          omega (arith, length-append y z, length-append v (concatenated ws), i .short, j .1 .short);
+    }
 
 pub pattern-fits : (x bs : List ℕ) → Means true patternBytes x bs → NotNone bs × Short x bs
 pattern-fits =
     every patternBytes (λ x bs. NotNone bs × Short x bs)
-    (known part (λ y v. (z : List ℕ) (ws : List (List ℕ)) → Row (λ y w. Means true part y w) z ws → NotNone (v ++ concatenated ws) × Short (y ++ z) (v ++ concatenated ws))
+    (known part (λ y v. (z : List ℕ) (ws : List (List ℕ)) → Row (λ y w. Means true part y w) z ws
+    → NotNone (v ++ concatenated ws) × Short (y ++ z) (v ++ concatenated ws))
     (λ y v m z ws r.
     let i = part-fits y v m in
     let k = parts-fit (y ++ z) (v ∷ ws) (Row.more m r) in

@@ -41,7 +41,8 @@ use Rattle.definitions.specs.Numbers.{number, numeral}
 use Rattle.definitions.specs.Forms.{quotable, spaces, comma, negation, addressTest, test, lessOrGreater, comparison, maxField, maxNumber, referenceWord, signed}
 use Rattle.definitions.specs.Items.{addressed, kindOf}
 use Rattle.definitions.specs.References.{sameReference}
-use Rattle.definitions.specs.Canonical.{decimal, textIf, negatedText, orderText, operatorText, fieldText, sizeFieldText, contextText, referenceText, testText, modifierText, optionText}
+use Rattle.definitions.specs.Canonical.{decimal, textIf, negatedText, orderText, operatorText, fieldText, sizeFieldText, contextText, referenceText}
+use Rattle.definitions.specs.Canonical.{testText, modifierText, optionText}
 use Rattle.definitions.specs.WellFormed.{itemFits}
 use Rattle.syntax.proofs.Truths.{impossible}
 use Rattle.roundtrip.proofs.AllTests.{halves}
@@ -49,8 +50,10 @@ use Rattle.roundtrip.proofs.Addressed.{addresses-of}
 use Rattle.roundtrip.proofs.Blocks.{pattern-of}
 use Rattle.roundtrip.proofs.Decimals.{number-of, numeral-of}
 use Rattle.roundtrip.proofs.Fits.{flowFits, testFits, optionFits, optionTold}
-use Rattle.roundtrip.proofs.Listed.{Written, row-written, name-row, protocol-row, flow-row, side-row, same-ip-row, number-row, ttl-row, field-row, size-row, at-row, pattern-row, context-row, no-case-row, distance-row, within-row}
-use Rattle.roundtrip.proofs.Making.{Of, retexts, revalues, tells, makes, bounds, skips, befores, joins, lefts, rights, stars, signs, marks, words, some-bytes, closes, values}
+use Rattle.roundtrip.proofs.Listed.{Written, row-written, name-row, protocol-row, flow-row, side-row, same-ip-row, number-row, ttl-row}
+use Rattle.roundtrip.proofs.Listed.{field-row, size-row, at-row, pattern-row, context-row, no-case-row, distance-row, within-row}
+use Rattle.roundtrip.proofs.Making.{Of, retexts, revalues, tells, makes, bounds, skips, befores, joins, lefts, rights, stars, signs, marks}
+use Rattle.roundtrip.proofs.Making.{words, some-bytes, closes, values}
 
 -- ---- pieces
 
@@ -70,7 +73,8 @@ unfolding optionText
 name-written n t =
     let h = halves t in
     let g = halves (h .0) in
-    row-written name-row (values (makes {h = Name} (bounds (g .1) (skips (signs 34) (befores (some-bytes quotable n (leb-true 1 (length n) (g .0)) (h .1)) (signs 34))))))
+    row-written name-row
+    (values (makes {h = Name} (bounds (g .1) (skips (signs 34) (befores (some-bytes quotable n (leb-true 1 (length n) (g .0)) (h .1)) (signs 34))))))
 
 protocol-written : (p : ℕ) → optionFits (Protocol p) ≡ true → Written (optionText (Protocol p)) (Protocol p)
 unfolding optionText
@@ -79,8 +83,10 @@ protocol-written p t = row-written protocol-row (values (makes {h = Protocol} (r
 flow-written : (f : flows.Flow) → flowFits f ≡ true → Written (optionText (Flow f)) (Flow f)
 unfolding optionText
 flow-written flow.Any t = impossible (cc)
-flow-written flow.FromClient t = row-written flow-row (values (makes {h = Flow} (skips (words (text "from_") 0) (lefts (words (text "client") flow.FromClient)))))
-flow-written flow.FromServer t = row-written flow-row (values (makes {h = Flow} (skips (words (text "from_") 0) (rights (words (text "server") flow.FromServer)))))
+flow-written flow.FromClient t =
+    row-written flow-row (values (makes {h = Flow} (skips (words (text "from_") 0) (lefts (words (text "client") flow.FromClient)))))
+flow-written flow.FromServer t =
+    row-written flow-row (values (makes {h = Flow} (skips (words (text "from_") 0) (rights (words (text "server") flow.FromServer)))))
 
 -- ---- tests
 
@@ -93,13 +99,18 @@ operator-of operator.AtMost = rights (rights (lefts (skips (signs 60) (lefts (ma
 operator-of operator.AtLeast = rights (rights (rights (skips (signs 62) (lefts (marks 61 operator.AtLeast)))))
 
 -- a full mask is left out
-mask-of : (limit n : ℕ) → leb n limit ≡ true → Of (opt limit (preceded (literal 38) (preceded spaces (terminated (numeral limit) spaces)))) (textIf (not (eqb n limit)) (text "& " ++ (decimal n ++ text " "))) n
+mask-of : (limit n : ℕ) → leb n limit ≡ true
+    → Of (opt limit (preceded (literal 38) (preceded spaces (terminated (numeral limit) spaces))))
+    (textIf (not (eqb n limit)) (text "& " ++ (decimal n ++ text " "))) n
 mask-of limit n t =
     by-cases (eqb n limit)
     (λ u. rw u (rights (revalues (sym (eqb-true n limit u)) tells)))
     (λ u. rw u (lefts (skips (signs 38) (skips (stars (Row.more (signs 32) none)) (befores (numeral-of limit n t) (stars (Row.more (signs 32) none)))))))
 
-size-of : (f : SizeField) → Of (comma sizeField.Payload (or (keyword (text "payload") sizeField.Payload) (or (keyword (text "uri") sizeField.Uri) (or (keyword (text "header") sizeField.Header) (keyword (text "body") sizeField.Body))))) (sizeFieldText f) f
+size-of : (f : SizeField)
+    → Of (comma sizeField.Payload
+    (or (keyword (text "payload") sizeField.Payload)
+    (or (keyword (text "uri") sizeField.Uri) (or (keyword (text "header") sizeField.Header) (keyword (text "body") sizeField.Body))))) (sizeFieldText f) f
 size-of sizeField.Payload = rights tells
 size-of sizeField.Uri = lefts (skips (signs 44) (rights (lefts (words (text "uri") sizeField.Uri))))
 size-of sizeField.Header = lefts (skips (signs 44) (rights (rights (lefts (words (text "header") sizeField.Header)))))
@@ -119,7 +130,8 @@ alone : (it : Item) (x : List ℕ) (al : List Address) → (itemFits it && none?
 alone it x [] t k = k (both-left (itemFits it) true t)
 alone it x (a ∷ al) t k = let z = both-right (itemFits it) false t in impossible (cc)
 
-address-written : (a : AddressTest) (al : List Address) → testFits (addressed a) (item.Address a) al ≡ true → Written (testText (item.Address a) al) (Test (item.Address a) al)
+address-written : (a : AddressTest) (al : List Address) → testFits (addressed a) (item.Address a) al ≡ true
+    → Written (testText (item.Address a) al) (Test (item.Address a) al)
 unfolding testText
 address-written a al t =
     let h = halves t in
@@ -131,19 +143,26 @@ address-written a al t =
 
 number-written : (a : NumberTest) → itemFits (item.Number a) ≡ true → Written (testText (item.Number a) []) (test (item.Number a))
 unfolding testText itemFits
-number-written a f = row-written (number-row (a .field)) (values (makes {h = λ (n : ℕ). test (item.Number (record { field = a .field; number = n }))} (number-of (maxNumber (a .field)) (a .number) f)))
+number-written a f =
+    row-written (number-row (a .field))
+    (values (makes {h = λ (n : ℕ). test (item.Number (record { field = a .field; number = n }))} (number-of (maxNumber (a .field)) (a .number) f)))
 
 ttl-written : (a : TtlTest) → itemFits (item.Ttl a) ≡ true → Written (testText (item.Ttl a) []) (test (item.Ttl a))
 unfolding testText itemFits
-ttl-written a f = row-written ttl-row (values (makes {h = λ (p : Order × ℕ). test (item.Ttl (record { order = p .0; number = p .1 }))} (joins (order-of (a .order)) (number-of maxByte (a .number) f))))
+ttl-written a f = row-written ttl-row
+    (values (makes {h = λ (p : Order × ℕ). test (item.Ttl (record { order = p .0; number = p .1 }))}
+    (joins (order-of (a .order)) (number-of maxByte (a .number) f))))
 
 field-written : (a : FieldTest) → itemFits (item.Field a) ≡ true → Written (testText (item.Field a) []) (test (item.Field a))
 unfolding testText itemFits fieldText
 field-written a f =
     let h = halves f in
     row-written (field-row (a .field))
-    (values {x = fieldText a} (makes {h = λ (p : ℕ × (Operator × ℕ)). test (item.Field (record { field = a .field; mask = p .0; operator = p .1 .0; number = p .1 .1 }))}
-    (retexts (simp append-assoc) (joins (mask-of (maxField (a .field)) (a .mask) (h .0)) (joins (befores (operator-of (a .operator)) (stars (Row.more (signs 32) none))) (numeral-of (maxField (a .field)) (a .number) (h .1)))))))
+    (values {x = fieldText a}
+    (makes {h = λ (p : ℕ × (Operator × ℕ)). test (item.Field (record { field = a .field; mask = p .0; operator = p .1 .0; number = p .1 .1 }))}
+    (retexts (simp append-assoc)
+    (joins (mask-of (maxField (a .field)) (a .mask) (h .0))
+    (joins (befores (operator-of (a .operator)) (stars (Row.more (signs 32) none))) (numeral-of (maxField (a .field)) (a .number) (h .1)))))))
 
 size-written : (a : SizeTest) → itemFits (item.Size a) ≡ true → Written (testText (item.Size a) []) (test (item.Size a))
 unfolding testText itemFits
@@ -154,7 +173,9 @@ size-written a f =
 
 at-written : (a : AtTest) → itemFits (item.At a) ≡ true → Written (testText (item.At a) []) (test (item.At a))
 unfolding testText itemFits
-at-written a f = row-written at-row (values (makes {h = λ (p : ℕ × Bool). test (item.At (record { number = p .0; relative = p .1 }))} (joins (number-of maxWord (a .number) f) (relative-of (a .relative)))))
+at-written a f = row-written at-row
+    (values (makes {h = λ (p : ℕ × Bool). test (item.At (record { number = p .0; relative = p .1 }))}
+    (joins (number-of maxWord (a .number) f) (relative-of (a .relative)))))
 
 pub test-written : (it : Item) (al : List Address) → testFits (kindOf it) it al ≡ true → Written (testText it al) (Test it al)
 unfolding testText
@@ -178,7 +199,12 @@ pattern-written n b t =
     (values (makes {h = λ (p : Bool × List ℕ). Pattern (p .0) (p .1)}
     (joins (negation-of n) (skips (signs 34) (befores (pattern-of b (leb-true 1 (length b) (h .0)) (h .1)) (signs 34))))))
 
-context-of : (c : contexts.Context) → Of (or (keyword (text "packet") context.Packet) (or (keyword (text "uri") context.Uri) (or (preceded (word (text "h")) (or (keyword (text "eader") context.Header) (keyword (text "ost") context.Host))) (or (preceded (word (text "b")) (or (keyword (text "ody") context.Body) (keyword (text "anner") context.Banner))) (keyword (text "file") context.File))))) (contextText c) c
+context-of : (c : contexts.Context)
+    → Of (or (keyword (text "packet") context.Packet)
+    (or (keyword (text "uri") context.Uri)
+    (or (preceded (word (text "h")) (or (keyword (text "eader") context.Header) (keyword (text "ost") context.Host)))
+    (or (preceded (word (text "b")) (or (keyword (text "ody") context.Body) (keyword (text "anner") context.Banner)))
+    (keyword (text "file") context.File))))) (contextText c) c
 context-of context.Packet = lefts (words (text "packet") context.Packet)
 context-of context.Uri = rights (lefts (words (text "uri") context.Uri))
 context-of context.Header = rights (rights (lefts (skips (words (text "h") 0) (lefts (words (text "eader") context.Header)))))
@@ -198,7 +224,9 @@ reverse-of true = lefts (skips (signs 44) (words (text "reverse") true))
 reverse-of false = rights tells
 
 -- reverse stands after a reference
-shift-of : (r : Reference) (v : Bool) → (not v || not (sameReference r reference.Match)) ≡ true → Of (comma (reference.Match, false) (pair referenceWord (comma false (keyword (text "reverse") true)))) (referenceText r ++ textIf v (text ",reverse")) (r, v)
+shift-of : (r : Reference) (v : Bool) → (not v || not (sameReference r reference.Match)) ≡ true
+    → Of (comma (reference.Match, false) (pair referenceWord (comma false (keyword (text "reverse") true))))
+    (referenceText r ++ textIf v (text ",reverse")) (r, v)
 shift-of reference.Match true t = never (cc)
 shift-of reference.Match false t = rights tells
 shift-of reference.Packet v t = lefts (skips (signs 44) (joins (rights (lefts (words (text "packet") reference.Packet))) (reverse-of v)))
@@ -207,17 +235,22 @@ shift-of reference.Context v t = lefts (skips (signs 44) (joins (rights (rights 
 abbrev shifted : Bool × (ℕ × (Reference × Bool)) → OptionValue
 shifted p = Modified (Distance (record { offset = signed (p .0) (p .1 .0); reference = p .1 .1 .0; reverse = p .1 .1 .1 }))
 
-distance-written : (z : ℤ) (r : Reference) (v : Bool) → leb (natAbs z) maxWord ≡ true → (not v || not (sameReference r reference.Match)) ≡ true → Written (modifierText (Distance (record { offset = z; reference = r; reverse = v }))) (Modified (Distance (record { offset = z; reference = r; reverse = v })))
+distance-written : (z : ℤ) (r : Reference) (v : Bool) → leb (natAbs z) maxWord ≡ true → (not v || not (sameReference r reference.Match)) ≡ true
+    → Written (modifierText (Distance (record { offset = z; reference = r; reverse = v })))
+    (Modified (Distance (record { offset = z; reference = r; reverse = v })))
 unfolding modifierText
 distance-written (pos n) r v t u =
     row-written distance-row (values (makes {h = shifted} {a = (false, (n, (r, v)))} (joins (rights tells) (joins (number-of maxWord n t) (shift-of r v u)))))
 distance-written (negsuc n) r v t u =
-    row-written distance-row (values (makes {h = shifted} {a = (true, (suc n, (r, v)))} (joins (lefts (marks 45 true)) (joins (number-of maxWord (suc n) t) (shift-of r v u)))))
+    row-written distance-row
+    (values (makes {h = shifted} {a = (true, (suc n, (r, v)))} (joins (lefts (marks 45 true)) (joins (number-of maxWord (suc n) t) (shift-of r v u)))))
 
 within-written : (w : WithinValue) → leb (w .number) maxWord ≡ true → Written (modifierText (Within w)) (Modified (Within w))
 unfolding modifierText
 within-written w t =
-    row-written within-row (values (makes {h = λ (p : ℕ × Reference). Modified (Within (record { number = p .0; reference = p .1 }))} (joins (number-of maxWord (w .number) t) (reference-of (w .reference)))))
+    row-written within-row
+    (values (makes {h = λ (p : ℕ × Reference). Modified (Within (record { number = p .0; reference = p .1 }))}
+    (joins (number-of maxWord (w .number) t) (reference-of (w .reference)))))
 
 -- ---- all options
 

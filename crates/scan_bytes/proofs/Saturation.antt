@@ -32,7 +32,8 @@ module _ (base : ℕ) (low : 1 ≤ base) where
   capped-on x l =
       by-cases (ltb x farAbove)
       (λ t. rw t)
-      (λ t. let h = ltb-false x farAbove t in rw (t, le-ltb (valueOf base farAbove l) farAbove (grows farAbove l), le-ltb (valueOf base x l) farAbove (omega (arith, grows x l))))
+      (λ t. let h = ltb-false x farAbove t in
+      rw (t, le-ltb (valueOf base farAbove l) farAbove (grows farAbove l), le-ltb (valueOf base x l) farAbove (omega (arith, grows x l))))
 
   -- what the loop keeps: what is still to come of the sum
   pub record Sum (s : List ℕ) (at end v i : ℕ) : Type 0 where

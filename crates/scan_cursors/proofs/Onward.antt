@@ -127,7 +127,8 @@ module _ {A : Type 0} (f : Form A) (full : not (nullable f) ≡ true) (s : List 
   from-ahead (cursor.Failed p) h v (cursor.OutOfRange u n) q = never (cc)
   from-ahead (cursor.Failed p) h v (cursor.Failed u) q = omega arith
 
-pub ahead-more : {A : Type 0} {f : Form A} {s : List ℕ} {c d : Cursor} {v : A} → Inside s c → Reads f s c v d → not (nullable f) ≡ true → Ahead (placeOf c + 1) d
+pub ahead-more : {A : Type 0} {f : Form A} {s : List ℕ} {c d : Cursor} {v : A} → Inside s c → Reads f s c v d → not (nullable f) ≡ true
+    → Ahead (placeOf c + 1) d
 ahead-more {A} {f} {s} {c} {d} {v} h r full = from-ahead f full s c h v d (r .reads)
 
 -- how much is left of a text, and nothing where reading stopped

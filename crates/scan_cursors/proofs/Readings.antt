@@ -195,8 +195,10 @@ step-reads {A} {f} {s} {c} {d} {e} {v} i p j r =
 pub stopped-reads : {A : Type 0} (f : Form A) (s : List ℕ) (p : ℕ) (v : A) → p ≤ length s → Reads f s (cursor.Failed p) v (cursor.Failed p)
 stopped-reads f s p v h = record { reads = refl; inside = h }
 
-pub stopped-any : {A : Type 0} {f : Form A} {s : List ℕ} {c : Cursor} {p : ℕ} {v : A} → Reads f s c v (cursor.Failed p) → (w : A) → Reads f s c w (cursor.Failed p)
+pub stopped-any : {A : Type 0} {f : Form A} {s : List ℕ} {c : Cursor} {p : ℕ} {v : A} → Reads f s c v (cursor.Failed p) → (w : A)
+    → Reads f s c w (cursor.Failed p)
 stopped-any r w = record { reads = r .reads; inside = r .inside }
 
-pub over-any : {A : Type 0} {f : Form A} {s : List ℕ} {c : Cursor} {p n : ℕ} {v : A} → Reads f s c v (cursor.OutOfRange p n) → (w : A) → Reads f s c w (cursor.OutOfRange p n)
+pub over-any : {A : Type 0} {f : Form A} {s : List ℕ} {c : Cursor} {p n : ℕ} {v : A} → Reads f s c v (cursor.OutOfRange p n) → (w : A)
+    → Reads f s c w (cursor.OutOfRange p n)
 over-any r w = record { reads = r .reads; inside = r .inside }

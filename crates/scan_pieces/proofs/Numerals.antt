@@ -162,7 +162,8 @@ pub hex-inside : (s : List ℕ) (at : ℕ) → hexMarked s at ≡ true → at + 
 hex-inside s at e = omega (arith, begins-in x-sign s (at + 1) (both-right (begins zero-sign (drop at s)) (begins x-sign (drop (at + 1) s)) e))
 
 module _ (limit : ℕ) {s : List ℕ} {at : ℕ} {v : ℕ} {d : Cursor} where
-  pub hex-reads : hexMarked s at ≡ true → Reads (digitsWithin hexDigits 16 limit) s (cursor.Parsed (at + 2)) v d → Reads (numeral limit) s (cursor.Parsed at) v d
+  pub hex-reads : hexMarked s at ≡ true → Reads (digitsWithin hexDigits 16 limit) s (cursor.Parsed (at + 2)) v d
+      → Reads (numeral limit) s (cursor.Parsed at) v d
   hex-reads e r =
       let z = both-left (begins zero-sign (drop at s)) (begins x-sign (drop (at + 1) s)) e in
       let x = both-right (begins zero-sign (drop at s)) (begins x-sign (drop (at + 1) s)) e in

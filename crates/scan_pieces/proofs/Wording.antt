@@ -50,7 +50,8 @@ says-free : {A : Type 0} (w : List ℕ) (a : A) → free (keyword w a) ≡ true
 says-free [] a = refl
 says-free (b ∷ w) a = says-free w a
 
-says-on : {A B : Type 0} (h : A → B) (w : List ℕ) (a : A) (o : Scan ℕ) → ((l : List ℕ) → scan (keyword w (h a)) l ≡ onGot (scan (keyword w a) l) (λ x r. Got (h x) r))
+says-on : {A B : Type 0} (h : A → B) (w : List ℕ) (a : A) (o : Scan ℕ)
+    → ((l : List ℕ) → scan (keyword w (h a)) l ≡ onGot (scan (keyword w a) l) (λ x r. Got (h x) r))
     → onGot o (λ n r. scan (keyword w (h a)) r) ≡ onGot (onGot o (λ n r. scan (keyword w a) r)) (λ x r. Got (h x) r)
 says-on h w a (Got n r) e = e r
 says-on h w a (Stop r) e = refl

@@ -149,7 +149,8 @@ module _ {q : SearchInput} {k : ℕ} {b s d : List ℕ} {l : LastMatch} {chosen 
               on = omega (arith, g .on);
               inside = pattern-inside;
               ready = rw drop-drop at (stepping.ready-nowhere all sl sls here left s d l chosen (g .ready) p e n);
-              same = rw drop-drop at (nowhere-first ∙ stepping.nowhere-yes view l chosen on-bound passed (constraints sls rest) p own (sym holds ∙ not-false t y));
+              same = rw drop-drop at (nowhere-first
+                  ∙ stepping.nowhere-yes view l chosen on-bound passed (constraints sls rest) p own (sym holds ∙ not-false t y));
             }
 
         pub stop-nowhere : not t ≡ true → (r : Outcome) → r ≡ nothing → r ≡ found q s d l chosen on-bound (constraints (itemsLeft q k) b)

@@ -22,7 +22,8 @@ use Rattle.definitions.specs.Items.{Kind, patternFirst, patternsOf, afterItem}
 use Rattle.definitions.specs.WellFormed.{bytesOf}
 use Rattle.definitions.specs.Fields.{View}
 use Rattle.definitions.specs.Tests.{testHolds}
-use Rattle.definitions.specs.Placements.{Constraint, matched, unmatched, tested, patternConstraint, constraintBy, constraints, positives, unmatchedHolds, placements}
+use Rattle.definitions.specs.Placements.{Constraint, matched, unmatched, tested, patternConstraint, constraintBy, constraints, positives}
+use Rattle.definitions.specs.Placements.{unmatchedHolds, placements}
 use Rattle.definitions.proofs.table.Item as item-type
 use Rattle.definitions.proofs.OtherItems.{other-kind}
 use Rattle.list_laws.proofs.Firsts.{first-here, first-out}
@@ -174,7 +175,8 @@ module _ (v : View) (l : LastMatch) (chosen : Placement) (on-bound : Bool) (q : 
     test-no h = rw h (answer-nothing chosen on-bound q)
 
   module _ (p : Pattern) (b : List ℕ) where
-    pub nowhere-yes : unmatchedHolds v p b l ≡ true → answer chosen on-bound q (placements v (unmatched p b ∷ ws) l) ≡ answer chosen on-bound q (placements v ws l)
+    pub nowhere-yes : unmatchedHolds v p b l ≡ true
+        → answer chosen on-bound q (placements v (unmatched p b ∷ ws) l) ≡ answer chosen on-bound q (placements v ws l)
     unfolding placements
     nowhere-yes h = rw h
 

@@ -37,7 +37,8 @@ use Rattle.search_items.proofs.PassedItems.{found}
 
 -- ---- before the loop
 
-module _ (header : PacketHeader) (s d : List ℕ) (m : FieldMap) (p : Pattern) (own : List ℕ) (l : LastMatch) (ws : List Constraint) (chosen : Placement) (on-bound : Bool) where
+module _ (header : PacketHeader) (s d : List ℕ) (m : FieldMap) (p : Pattern) (own : List ℕ) (l : LastMatch) (ws : List Constraint) (chosen : Placement)
+    (on-bound : Bool) where
   starts-absent : present m (p .context) ≡ false → starts (seen header s d m) p own l ≡ []
   unfolding starts liesIn
   starts-absent e = keep-none (liesIn (seen header s d m) p own l) (startsTo (length (fieldOf s d m (p .context)))) (λ x. rw e)
@@ -133,7 +134,8 @@ pub record Tried (q : SearchInput) (k : ℕ) (rest s d : List ℕ) (l : LastMatc
   pub ahead : on-bound ≡ true → getD (q .bound) (chosen .count) (startAt 0) .at ≤ at
   pub same : found q s d l chosen on-bound (matched p own ∷ later q k rest) ≡ over q s d l chosen on-bound (later q k rest) p (standing (p .nocase) own f) to at
 
-pub tried-none : {q : SearchInput} {k : ℕ} {rest s d : List ℕ} {l : LastMatch} {chosen : Placement} {on-bound : Bool} {p : Pattern} {own f : List ℕ} {w : Window}
+pub tried-none : {q : SearchInput} {k : ℕ} {rest s d : List ℕ} {l : LastMatch} {chosen : Placement} {on-bound : Bool} {p : Pattern} {own f : List ℕ}
+    {w : Window}
     {t : Bool} {at : ℕ}
     → (k < q .count) × (q .count ≤ maxItems) → Trying (itemsLeft q (k + 1)) rest p own s d l chosen → length f < sizeBound → chosen .count < length (q .bound)
     → Spans p l (length f) w → f ≡ fieldOf s d (q .map) (p .context) → t ≡ present (q .map) (p .context) → not t ≡ false

@@ -19,7 +19,8 @@ use Rattle.definitions.specs.Lists.{none?, all?, count, sameBytes}
 use Rattle.definitions.specs.OptionValues.{OptionValue}
 use Rattle.definitions.specs.Tables.{tableOf}
 use Rattle.definitions.specs.Occurrences.{isPattern, missing}
-use Rattle.definitions.specs.Reading.{Located, optionValuesOf, Options, ended, refused, options, patternDash, refusedReading, acceptedReading, checkedTable, finished, readUnbounded, read}
+use Rattle.definitions.specs.Reading.{Located, optionValuesOf, Options, ended, refused, options, patternDash, refusedReading, acceptedReading}
+use Rattle.definitions.specs.Reading.{checkedTable, finished, readUnbounded, read}
 use Rattle.definitions.specs.Options.{printable, opening}
 use Rattle.definitions.specs.References.{usableIn}
 use Rattle.definitions.specs.Grammar.{Derives}
@@ -55,14 +56,16 @@ module _ (room : ℕ) (s : List ℕ) (located : List Located) (t : Table) (plain
   unfolding checkedTable
   is-checked j = rw (usable-exactly (optionValuesOf located) plain .1 (j .usable), j .complete) (ap acceptedReading (sym (j .table)))
 
-finished-is : (room : ℕ) (s : List ℕ) (o : Options) (t : Table) → finished room s o ≡ acceptedReading t → (located : List Located) × (o ≡ ended located) × (checkedTable room s located ≡ acceptedReading t)
+finished-is : (room : ℕ) (s : List ℕ) (o : Options) (t : Table) → finished room s o ≡ acceptedReading t
+    → (located : List Located) × (o ≡ ended located) × (checkedTable room s located ≡ acceptedReading t)
 finished-is room s (ended located) t e = (located, refl, e)
 finished-is room s (refused r p) t e = refused-never room r p t e
 
 -- ---- the whole text
 
 module _ (room : ℕ) (s : List ℕ) (t : Table) where
-  told-derives : s ≡ opening ++ drop (length opening) s → all? printable s ≡ true → (located : List Located) → checkedTable room s located ≡ acceptedReading t → Told (drop (length opening) s) [] located → Derives room s t
+  told-derives : s ≡ opening ++ drop (length opening) s → all? printable s ≡ true → (located : List Located)
+      → checkedTable room s located ≡ acceptedReading t → Told (drop (length opening) s) [] located → Derives room s t
   told-derives f p located q i =
       let j = subst (λ es. Checked room es t) (i .3) (checked-is room s located t (rw (i .3) (options-tests (i .1))) q) in
       record {

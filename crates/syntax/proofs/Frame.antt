@@ -68,7 +68,8 @@ unfolding sameBytes
 same-bytes [] [] e = refl
 same-bytes [] (b ∷ y) e = never (cc)
 same-bytes (a ∷ x) [] e = never (cc)
-same-bytes (a ∷ x) (b ∷ y) e = ap₂ (λ c z. c ∷ z) (eqb-true a b (both-left (eqb a b) (sameBytes x y) e)) (same-bytes x y (both-right (eqb a b) (sameBytes x y) e))
+same-bytes (a ∷ x) (b ∷ y) e =
+    ap₂ (λ c z. c ∷ z) (eqb-true a b (both-left (eqb a b) (sameBytes x y) e)) (same-bytes x y (both-right (eqb a b) (sameBytes x y) e))
 
 pub bytes-same : (x : List ℕ) → sameBytes x x ≡ true
 unfolding sameBytes

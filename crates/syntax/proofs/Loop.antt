@@ -45,7 +45,8 @@ passed-over s (b ∷ x) l at located =
     passed-over s x l (at + 1) located ∙ ap (λ n. options s l 0 n located) e
 
 -- an option's text is read, and the loop goes on after it
-pub option-taken : {x : List ℕ} {e : OptionValue} → OptionText x e → (s : List ℕ) (at : ℕ) (l : List ℕ) (located : List Located) → drop at s ≡ x ++ l → occurrenceCheck (optionValuesOf located) e ≡ check.Pass → options s (x ++ l) 0 at located ≡ options s l 0 (at + length x) (joined located at e)
+pub option-taken : {x : List ℕ} {e : OptionValue} → OptionText x e → (s : List ℕ) (at : ℕ) (l : List ℕ) (located : List Located) → drop at s ≡ x ++ l
+    → occurrenceCheck (optionValuesOf located) e ≡ check.Pass → options s (x ++ l) 0 at located ≡ options s l 0 (at + length x) (joined located at e)
 unfolding options sameBytes
 option-taken (option o n y {e} m q w) s at l located d f =
     let x : List ℕ = 45 ∷ (n ++ y) in
@@ -58,17 +59,24 @@ option-taken (option o n y {e} m q w) s at l located d f =
 abbrev pub Ends : List ℕ → List ℕ → ℕ → List Located → List OptionValue → Type 0
 Ends s l at located es = (told : List Located) × (options s l 0 at located ≡ ended told) × (optionValuesOf told ≡ optionValuesOf located ++ es)
 
-standing-parts : {before es : List OptionValue} {e : OptionValue} → Occurrences before (e ∷ es) → (occurrenceCheck before e ≡ check.Pass) × Occurrences (before ++ (e ∷ [])) es
+standing-parts : {before es : List OptionValue} {e : OptionValue} → Occurrences before (e ∷ es)
+    → (occurrenceCheck before e ≡ check.Pass) × Occurrences (before ++ (e ∷ [])) es
 standing-parts (Occurrences.more f st) = (f, st)
 
-pub options-read : {l : List ℕ} {es : List OptionValue} → OptionsText l es → (s : List ℕ) (at : ℕ) (located : List Located) → Occurrences (optionValuesOf located) es → drop at s ≡ l → Ends s l at located es
+pub options-read : {l : List ℕ} {es : List OptionValue} → OptionsText l es → (s : List ℕ) (at : ℕ) (located : List Located)
+    → Occurrences (optionValuesOf located) es → drop at s ≡ l → Ends s l at located es
 unfolding options
 options-read close s at located st d = (located, refl, sym (append-nil (optionValuesOf located)))
 options-read (space {l} o) s at located st d = options-read o s (at + 1) located st (after s at (32 ∷ []) l d)
 options-read (OptionsText.more {x} {l} {e} {es} t o) s at located st d =
     let p = standing-parts st in
-    let i = options-read o s (at + length x) (joined located at e) (subst (λ b. Occurrences b es) (sym (joined-options located at e)) (p .1)) (after s at x l d) in
-    (i .0, option-taken t s at l located d (p .0) ∙ i .1, i .2 ∙ ap (λ b. b ++ es) (joined-options located at e) ∙ append-assoc (optionValuesOf located) (e ∷ []) es)
+    let i = options-read o s (at + length x) (joined located at e) (subst (λ b. Occurrences b es) (sym (joined-options located at e)) (p .1))
+    (after s at x l d) in (
+      i .0,
+      option-taken t s at l located d (p .0) ∙ i .1,
+      i .2 ∙ ap (λ b. b ++ es) (joined-options located at e)
+          ∙ append-assoc (optionValuesOf located) (e ∷ []) es,
+    )
 
 -- ---- sound
 
@@ -76,7 +84,8 @@ check-split : (u : Check) (at : ℕ) (k : Options) (told : List Located) → unl
 check-split check.Pass at k told q = (refl, q)
 check-split (check.Refuse r) at k told q = never (cc)
 
-taken-split : (p : NamedOption) (es : List OptionValue) (at : ℕ) (k : OptionValue → ℕ → Options) (told : List Located) → optionStep p es at k ≡ ended told → (e : OptionValue) × (next : ℕ) × (p ≡ listed (Parsed e next)) × (occurrenceCheck es e ≡ check.Pass) × (k e next ≡ ended told)
+taken-split : (p : NamedOption) (es : List OptionValue) (at : ℕ) (k : OptionValue → ℕ → Options) (told : List Located) → optionStep p es at k ≡ ended told
+    → (e : OptionValue) × (next : ℕ) × (p ≡ listed (Parsed e next)) × (occurrenceCheck es e ≡ check.Pass) × (k e next ≡ ended told)
 taken-split unlisted es at k told q = never (cc)
 taken-split (listed (Parsed e next)) es at k told q = let i = check-split (occurrenceCheck es e) at (k e next) told q in (e, next, refl, i .0, i .1)
 taken-split (listed (OutOfRange p next)) es at k told q = never (cc)
@@ -84,7 +93,8 @@ taken-split (listed (Failed p)) es at k told q = never (cc)
 
 -- the text of some options, which may stand after those that were there and are told at the end
 abbrev pub Told : List ℕ → List Located → List Located → Type 1
-Told l located told = (es : List OptionValue) × OptionsText l es × Occurrences (optionValuesOf located) es × (optionValuesOf told ≡ optionValuesOf located ++ es)
+Told l located told =
+    (es : List OptionValue) × OptionsText l es × Occurrences (optionValuesOf located) es × (optionValuesOf told ≡ optionValuesOf located ++ es)
 
 none-nil : {A : Type 0} (l : List A) → none? l ≡ true → l ≡ []
 none-nil [] e = refl
@@ -103,14 +113,16 @@ module _ (s : List ℕ) (b : ℕ) (l : List ℕ) (at : ℕ) (located told : List
       ([], rw (eqb-true b 41 t, none-nil l u) close, none, ap optionValuesOf (sym y) ∙ sym (append-nil (optionValuesOf located))))
       (λ u. let z : refused refusal.NeitherOptionNorEnd (at + 1) ≡ ended told = rw u at q in impossible (cc))
 
-  option-told : drop at s ≡ b ∷ l → dashes (b ∷ l) ≡ true → (e : OptionValue) (next : ℕ) → optionAt s at ≡ listed (Parsed e next) → occurrenceCheck (optionValuesOf located) e ≡ check.Pass → Told (drop (next - (at + 1)) l) (joined located at e) told → Told (b ∷ l) located told
+  option-told : drop at s ≡ b ∷ l → dashes (b ∷ l) ≡ true → (e : OptionValue) (next : ℕ) → optionAt s at ≡ listed (Parsed e next)
+      → occurrenceCheck (optionValuesOf located) e ≡ check.Pass → Told (drop (next - (at + 1)) l) (joined located at e) told → Told (b ∷ l) located told
   option-told d t e next p f i =
       let w : b ∷ l ≡ 45 ∷ 45 ∷ drop 2 (b ∷ l) = front-exactly (text "--") (b ∷ l) .0 t in
       let o = read-option s at next e (drop 2 (b ∷ l)) (d ∙ w) p in
       let y = option-dashes (o .1) in
       let n : next ≡ at + suc (suc (length (y .0))) = o .3 ∙ ap (λ x. at + length x) (y .1) in
       let g : at + 1 + (next - (at + 1)) ≡ next = omega (arith, n) in
-      let h : drop (next - (at + 1)) l ≡ drop next s = ap (drop (next - (at + 1))) (sym (after s at (b ∷ []) l d)) ∙ drop-drop (next - (at + 1)) (at + 1) s ∙ ap (λ k. drop k s) g in
+      let h : drop (next - (at + 1)) l ≡ drop next s =
+      ap (drop (next - (at + 1))) (sym (after s at (b ∷ []) l d)) ∙ drop-drop (next - (at + 1)) (at + 1) s ∙ ap (λ k. drop k s) g in
       let z : o .0 ++ drop (next - (at + 1)) l ≡ b ∷ l = ap (λ r. o .0 ++ r) h ∙ sym (o .2) ∙ d in (
         e ∷ i .0,
         subst (λ r. OptionsText r (e ∷ i .0)) z (OptionsText.more (o .1) (i .1)),
@@ -118,7 +130,8 @@ module _ (s : List ℕ) (b : ℕ) (l : List ℕ) (at : ℕ) (located told : List
         i .3 ∙ ap (λ r. r ++ i .0) (joined-options located at e) ∙ append-assoc (optionValuesOf located) (e ∷ []) (i .0),
       )
 
-pub ended-options : (s l : List ℕ) (passed at : ℕ) (located told : List Located) → drop at s ≡ l → options s l passed at located ≡ ended told → Told (drop passed l) located told
+pub ended-options : (s l : List ℕ) (passed at : ℕ) (located told : List Located) → drop at s ≡ l → options s l passed at located ≡ ended told
+    → Told (drop passed l) located told
 unfolding options
 ended-options s [] passed at located told d q = impossible (cc)
 ended-options s (b ∷ l) (suc passed) at located told d q = ended-options s l passed (at + 1) located told (after s at (b ∷ []) l d) q
@@ -130,6 +143,7 @@ ended-options s (b ∷ l) zero at located told d q =
     (λ u. close-told s b l at located told u (rw (t, u) at q))
     (λ u. cases (dashes (b ∷ l))
     (λ w.
-    let p = taken-split (optionAt s at) (optionValuesOf located) at (λ e next. options s l (next - (at + 1)) (at + 1) (joined located at e)) told (rw (t, u, w) at q) in
+    let p = taken-split (optionAt s at) (optionValuesOf located) at (λ e next. options s l (next - (at + 1)) (at + 1) (joined located at e)) told
+    (rw (t, u, w) at q) in
     option-told s b l at located told d w (p .0) (p .1) (p .2) (p .3) (ended-options s l (p .1 - (at + 1)) (at + 1) (joined located at (p .0)) told d1 (p .4)))
     (λ w. let z : refused refusal.NeitherOptionNorEnd at ≡ ended told = rw (t, u, w) at q in impossible (cc))))

@@ -36,8 +36,12 @@ name-low b e = by-cases (between 65 90 b) (λ t. capital-name b t) (λ t. rw t a
 word-parts : (y : ℕ) (w : List ℕ) → plainWord (y ∷ w) ≡ true → (inName y ≡ true) × (lower y ≡ y) × (plainWord w ≡ true)
 unfolding plainWord
 word-parts y w p =
-    let q = both-left (inName y && eqb (lower y) y) (plainWord w) p in
-    (both-left (inName y) (eqb (lower y) y) q, eqb-true (lower y) y (both-right (inName y) (eqb (lower y) y) q), both-right (inName y && eqb (lower y) y) (plainWord w) p)
+    let q = both-left (inName y && eqb (lower y) y) (plainWord w) p in (
+      both-left (inName y) (eqb (lower y) y) q,
+      eqb-true (lower y) y (both-right (inName y) (eqb (lower y) y) q),
+      both-right (inName y && eqb (lower y) y)
+          (plainWord w) p,
+    )
 
 run-word : (n w : List ℕ) → sameWord n w ≡ true → plainWord w ≡ true → (r : List ℕ) → run inName r ≡ 0 → run inName (n ++ r) ≡ length n
 unfolding sameWord run
@@ -72,9 +76,11 @@ same-as (x ∷ n) (y ∷ w) (z ∷ u) e p =
     let p1 = word-parts y w p in
     rw (e1, p1 .1, same-as n w u (both-right (eqb (lower x) y) (sameWord n w) e) (p1 .2))
 
-row-found : {o : Option} {os : List Option} → Mem o os → distinct os ≡ true → allRows plainName os ≡ true → (n : List ℕ) → sameWord n (o .name) ≡ true → (s : List ℕ) (at : ℕ) → namedOption os n s at ≡ listed (readAt (o .form) s at)
+row-found : {o : Option} {os : List Option} → Mem o os → distinct os ≡ true → allRows plainName os ≡ true → (n : List ℕ) → sameWord n (o .name) ≡ true
+    → (s : List ℕ) (at : ℕ) → namedOption os n s at ≡ listed (readAt (o .form) s at)
 unfolding namedOption
-row-found (first-one {x} {xs} e) d w n q s at = rw (subst (λ (z : Option). sameWord n (z .name) ≡ true) e q) (ap (λ (z : Option). listed (readAt (z .form) s at)) (sym e))
+row-found (first-one {x} {xs} e) d w n q s at =
+    rw (subst (λ (z : Option). sameWord n (z .name) ≡ true) e q) (ap (λ (z : Option). listed (readAt (z .form) s at)) (sym e))
 row-found {o} (later-one {x} {xs} m) d w n q s at =
     let w1 = both-right (plainName x) (allRows plainName xs) w in
     let u = not-true (sameWord (o .name) (x .name)) (each-row (unlike x) m (both-left (allRows (unlike x) xs) (distinct xs) d)) in
@@ -82,14 +88,16 @@ row-found {o} (later-one {x} {xs} m) d w n q s at =
     rw z (row-found m (both-right (allRows (unlike x) xs) (distinct xs) d) w1 n q s at)
 
 -- the table reads a listed name's option by its form
-pub named-parsed : {o : Option} → Mem o optionTable → (n : List ℕ) → sameWord n (o .name) ≡ true → (s : List ℕ) (at : ℕ) → namedOption optionTable n s at ≡ listed (readAt (o .form) s at)
+pub named-parsed : {o : Option} → Mem o optionTable → (n : List ℕ) → sameWord n (o .name) ≡ true → (s : List ℕ) (at : ℕ)
+    → namedOption optionTable n s at ≡ listed (readAt (o .form) s at)
 named-parsed m n q s at = row-found m names-distinct names-plain n q s at
 
 -- what the rows read is of one of them
 abbrev pub Row-of : List Option → List ℕ → List ℕ → ℕ → OptionValue → ℕ → Type 1
 Row-of os n s at e next = (o : Option) × Mem o os × (sameWord n (o .name) ≡ true) × (readAt (o .form) s at ≡ Parsed e next)
 
-pub parsed-named : (os : List Option) (n s : List ℕ) (at : ℕ) (e : OptionValue) (next : ℕ) → namedOption os n s at ≡ listed (Parsed e next) → Row-of os n s at e next
+pub parsed-named : (os : List Option) (n s : List ℕ) (at : ℕ) (e : OptionValue) (next : ℕ) → namedOption os n s at ≡ listed (Parsed e next)
+    → Row-of os n s at e next
 unfolding namedOption
 parsed-named [] n s at e next q = impossible (cc)
 parsed-named (o ∷ os) n s at e next q =

@@ -23,20 +23,23 @@ use Rattle.syntax.proofs.Names.{no-name-front, name-run, named-parsed, 
 -- ---- a form at a place
 
 -- what is of the form and stands at a place is read, whatever is after it
-pub form-read : {f : Form OptionValue} → Alone f → (s : List ℕ) (at : ℕ) (y r : List ℕ) (e : OptionValue) → Means true f y e → drop at s ≡ y ++ r → readAt f s at ≡ Parsed e (at + length y)
+pub form-read : {f : Form OptionValue} → Alone f → (s : List ℕ) (at : ℕ) (y r : List ℕ) (e : OptionValue) → Means true f y e → drop at s ≡ y ++ r
+    → readAt f s at ≡ Parsed e (at + length y)
 unfolding readAt
 form-read {f} a s at y r e w d =
     let c = complete true f (a .is-fair) y e r w (a .ends-itself r) in
     let h = some-byte y (λ t. no-empty true f (a .is-full) e (subst (λ u. Means true f u e) t w)) in
     rw (d, c .0, c .1 refl) (ap (λ i. Parsed e i) (place-after s at y r d h))
 
-got-split : (s : List ℕ) (o : List (List ℕ)) (k : Scan OptionValue) (e : OptionValue) (n : ℕ) → placed s o k ≡ Parsed e n → (r : List ℕ) × (k ≡ Got e r) × (o ≡ []) × (n ≡ length s - length r)
+got-split : (s : List ℕ) (o : List (List ℕ)) (k : Scan OptionValue) (e : OptionValue) (n : ℕ) → placed s o k ≡ Parsed e n
+    → (r : List ℕ) × (k ≡ Got e r) × (o ≡ []) × (n ≡ length s - length r)
 got-split s [] (Got a r) e n q = let z : a ≡ e = cc in let y : length s - length r ≡ n = cc in (r, rw z, refl, sym y)
 got-split s (x ∷ o) (Got a r) e n q = never (cc)
 got-split s o (Stop r) e n q = never (cc)
 
 -- what is read at a place is of the form
-pub read-form : (f : Form OptionValue) (s : List ℕ) (at : ℕ) (e : OptionValue) (n : ℕ) → readAt f s at ≡ Parsed e n → (y : List ℕ) × (r : List ℕ) × (drop at s ≡ y ++ r) × Means true f y e × (n ≡ length s - length r)
+pub read-form : (f : Form OptionValue) (s : List ℕ) (at : ℕ) (e : OptionValue) (n : ℕ) → readAt f s at ≡ Parsed e n
+    → (y : List ℕ) × (r : List ℕ) × (drop at s ≡ y ++ r) × Means true f y e × (n ≡ length s - length r)
 unfolding readAt
 read-form f s at e n q =
     let c = got-split s (over f (drop at s)) (scan f (drop at s)) e n q in
@@ -49,7 +52,8 @@ read-form f s at e n q =
 pub option-dashes : {x : List ℕ} {e : OptionValue} → OptionText x e → (l : List ℕ) × (x ≡ 45 ∷ 45 ∷ l)
 option-dashes (option o n y m q w) = (n ++ y, refl)
 
-pub option-read : {x : List ℕ} {e : OptionValue} → OptionText x e → (s : List ℕ) (at : ℕ) (r : List ℕ) → drop at s ≡ x ++ r → optionAt s at ≡ listed (Parsed e (at + length x))
+pub option-read : {x : List ℕ} {e : OptionValue} → OptionText x e → (s : List ℕ) (at : ℕ) (r : List ℕ) → drop at s ≡ x ++ r
+    → optionAt s at ≡ listed (Parsed e (at + length x))
 unfolding optionAt
 option-read (option o n y {e} m q w) s at r d =
     let d2 : drop (at + 2) s ≡ n ++ (y ++ r) = after s at (45 ∷ 45 ∷ []) (n ++ (y ++ r)) (d ∙ ap (λ l. 45 ∷ 45 ∷ l) (append-assoc n y r)) in
@@ -65,7 +69,8 @@ abbrev pub Stands : List ℕ → ℕ → OptionValue → ℕ → Type 1
 Stands s at e next = (x : List ℕ) × OptionText x e × (drop at s ≡ x ++ drop next s) × (next ≡ at + length x)
 
 module _ (s : List ℕ) (at : ℕ) where
-  found : (next : ℕ) (e : OptionValue) (l w y r : List ℕ) (o : Option) → Mem o optionTable → sameWord w (o .name) ≡ true → Means true (o .form) y e → drop at s ≡ 45 ∷ 45 ∷ l → l ≡ w ++ (y ++ r) → next ≡ length s - length r → Stands s at e next
+  found : (next : ℕ) (e : OptionValue) (l w y r : List ℕ) (o : Option) → Mem o optionTable → sameWord w (o .name) ≡ true → Means true (o .form) y e
+      → drop at s ≡ 45 ∷ 45 ∷ l → l ≡ w ++ (y ++ r) → next ≡ length s - length r → Stands s at e next
   found next e l w y r o m q k d g z =
       let x : List ℕ = 45 ∷ 45 ∷ (w ++ y) in
       let d1 : drop at s ≡ x ++ r = d ∙ ap (λ u. 45 ∷ 45 ∷ u) (g ∙ sym (append-assoc w y r)) in

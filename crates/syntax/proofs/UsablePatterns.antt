@@ -130,7 +130,8 @@ patterns-counted [] t = refl
 patterns-counted (Name n ∷ es) t = patterns-counted es t
 patterns-counted (Protocol p ∷ es) t = patterns-counted es t
 patterns-counted (Flow f ∷ es) t = patterns-counted es t
-patterns-counted (Test it al ∷ es) t = ap length (skipped (kindOf it) (patternsOf (slotsIn es)) (both-left (noPattern (kindOf it)) (all? testOnly es) t)) ∙ patterns-counted es (both-right (noPattern (kindOf it)) (all? testOnly es) t)
+patterns-counted (Test it al ∷ es) t = ap length (skipped (kindOf it) (patternsOf (slotsIn es)) (both-left (noPattern (kindOf it)) (all? testOnly es) t))
+    ∙ patterns-counted es (both-right (noPattern (kindOf it)) (all? testOnly es) t)
 patterns-counted (Pattern n b ∷ es) t = ap suc (patterns-counted es t)
 patterns-counted (Modified m ∷ es) t = patterns-counted es t
 

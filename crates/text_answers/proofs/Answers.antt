@@ -39,7 +39,8 @@ module _ (t : Table) (out : List ℕ) where
   wrote Pass n after e b =
       ap (λ (l : List ℕ). text "ok\t" ++ l)
       (sym
-      (ap (λ (m : ℕ). take m after) (ap writeLength e) ∙ ap (take (length (canonicalText t))) b ∙ take-append-seam (canonicalText t) (drop (length (canonicalText t)) out)))
+      (ap (λ (m : ℕ). take m after) (ap writeLength e) ∙ ap (take (length (canonicalText t))) b
+      ∙ take-append-seam (canonicalText t) (drop (length (canonicalText t)) out)))
   wrote (Refuse r) n after e b = absurd (true≢false (ap isWritten e))
 
   declined : (d : Check) (r : Refusal) → writing.Refused r ≡ writtenIf d (length (canonicalText t)) → canonicalLine d t ≡ refusedLine r 0
@@ -65,7 +66,8 @@ module _ (t : Table) (out : List ℕ) where
 -- ---- the reader's answer
 
 module _ (s : List ℕ) (r : Reading) (e : r ≡ read documentLimits s) where
-  pub read-line : r .outcome ≡ Accepted → lineOf documentLimits s ≡ canonicalLine (writingCheck documentLimits (r .table) (documentLimits .canonical)) (r .table)
+  pub read-line : r .outcome ≡ Accepted
+      → lineOf documentLimits s ≡ canonicalLine (writingCheck documentLimits (r .table) (documentLimits .canonical)) (r .table)
   unfolding lineOf
   read-line o = rw (sym e, o)
 

@@ -8,7 +8,8 @@ use Rattle.forms.specs.Bytes.{text}
 use Rattle.definitions.specs.declared.table.Pattern.{Pattern}
 use Rattle.definitions.specs.OptionValues as entry
 use Rattle.definitions.specs.OptionValues.{OptionValue}
-use Rattle.definitions.specs.Canonical.{contextOption, noCaseOption, distanceOption, withinOption, patternOptions, textIf, modifierText, optionText, optionsText}
+use Rattle.definitions.specs.Canonical.{contextOption, noCaseOption, distanceOption, withinOption, patternOptions, textIf, modifierText, optionText}
+use Rattle.definitions.specs.Canonical.{optionsText}
 
 pub options-append : (es fs : List OptionValue) → optionsText (es ++ fs) ≡ optionsText es ++ optionsText fs
 unfolding optionsText

@@ -52,7 +52,8 @@ module _ (t : Table) where
       (λ f. absurd (let z : ⊥ = omega (arith, e ∙ most-full len maxCounted (le-of-lt (leb-false len maxCounted f)), h) in z))
 
   -- put into room that it fits, it can be taken from there
-  pub taken-back : {room after : List ℕ} {r : ℕ} → Puts room 0 (canonicalText t) after r → r ≤ documentLimits .canonical → length room ≡ documentLimits .canonical
+  pub taken-back : {room after : List ℕ} {r : ℕ} → Puts room 0 (canonicalText t) after r → r ≤ documentLimits .canonical
+      → length room ≡ documentLimits .canonical
       → canonicalText t ≡ take r after
   taken-back {room = room} p h g = sym (placed-whole room 0 p (omega (arith, h)) (omega (arith, h, g)))
 

@@ -42,19 +42,50 @@ put-answer-requires-3 c κs = tt
 
 returns : tie.Need-returns
 unfolding queryText
-returns c = told (ap (λ k. queryText (c .before .before .before .before .before .before .before .before .before .args .p .now) (c .before .before .before .before .before .before .before .before .before .args .decoded .now) (c .before .before .before .before .before .before .before .before .before .args .dir) (c .before .before .before .before .before .before .before .before .before .args .m) (c .before .before .before .before .before .before .before .before .before .args .t) (queryBy k (c .before .before .before .before .before .before .before .before .before .args .held))) (c .before .before .before .before .enum-told .given .1)) (c .before .before .put-list .ensures)
+returns c = told (ap
+    (λ k. queryText (c .before .before .before .before .before .before .before .before .before .args .p .now)
+    (c .before .before .before .before .before .before .before .before .before .args .decoded .now)
+    (c .before .before .before .before .before .before .before .before .before .args .dir)
+    (c .before .before .before .before .before .before .before .before .before .args .m)
+    (c .before .before .before .before .before .before .before .before .before .args .t)
+    (queryBy k (c .before .before .before .before .before .before .before .before .before .args .held)))
+    (c .before .before .before .before .enum-told .given .1)) (c .before .before .put-list .ensures)
 
 returns-2 : tie.Need-returns-2
 unfolding queryText
-returns-2 c = told (ap (λ k. queryText (c .before .before .before .before .before .before .before .before .before .before .args .p .now) (c .before .before .before .before .before .before .before .before .before .before .args .decoded .now) (c .before .before .before .before .before .before .before .before .before .before .args .dir) (c .before .before .before .before .before .before .before .before .before .before .args .m) (c .before .before .before .before .before .before .before .before .before .before .args .t) (queryBy k (c .before .before .before .before .before .before .before .before .before .before .args .held))) (c .before .before .before .before .before .enum-told2 .given .1) ∙ ap answerText (sym (c .before .before .before .first .ensures))) (c .before .before .put-answer .ensures)
+returns-2 c = told (ap
+    (λ k. queryText (c .before .before .before .before .before .before .before .before .before .before .args .p .now)
+    (c .before .before .before .before .before .before .before .before .before .before .args .decoded .now)
+    (c .before .before .before .before .before .before .before .before .before .before .args .dir)
+    (c .before .before .before .before .before .before .before .before .before .before .args .m)
+    (c .before .before .before .before .before .before .before .before .before .before .args .t)
+    (queryBy k (c .before .before .before .before .before .before .before .before .before .before .args .held)))
+    (c .before .before .before .before .before .enum-told2 .given .1) ∙ ap answerText (sym (c .before .before .before .first .ensures)))
+    (c .before .before .put-answer .ensures)
 
 returns-3 : tie.Need-returns-3
 unfolding queryText
-returns-3 c = told (ap (λ k. queryText (c .before .before .before .before .before .before .before .before .before .before .args .p .now) (c .before .before .before .before .before .before .before .before .before .before .args .decoded .now) (c .before .before .before .before .before .before .before .before .before .before .args .dir) (c .before .before .before .before .before .before .before .before .before .before .args .m) (c .before .before .before .before .before .before .before .before .before .before .args .t) (queryBy k (c .before .before .before .before .before .before .before .before .before .before .args .held))) (c .before .before .before .before .before .enum-told3 .given .1) ∙ ap answerText (sym (c .before .before .before .next .ensures))) (c .before .before .put-answer2 .ensures)
+returns-3 c = told (ap
+    (λ k. queryText (c .before .before .before .before .before .before .before .before .before .before .args .p .now)
+    (c .before .before .before .before .before .before .before .before .before .before .args .decoded .now)
+    (c .before .before .before .before .before .before .before .before .before .before .args .dir)
+    (c .before .before .before .before .before .before .before .before .before .before .args .m)
+    (c .before .before .before .before .before .before .before .before .before .before .args .t)
+    (queryBy k (c .before .before .before .before .before .before .before .before .before .before .args .held)))
+    (c .before .before .before .before .before .enum-told3 .given .1) ∙ ap answerText (sym (c .before .before .before .next .ensures)))
+    (c .before .before .put-answer2 .ensures)
 
 returns-4 : tie.Need-returns-4
 unfolding queryText
-returns-4 c = told (ap (λ k. queryText (c .before .before .before .before .before .before .before .before .before .before .args .p .now) (c .before .before .before .before .before .before .before .before .before .before .args .decoded .now) (c .before .before .before .before .before .before .before .before .before .before .args .dir) (c .before .before .before .before .before .before .before .before .before .before .args .m) (c .before .before .before .before .before .before .before .before .before .before .args .t) (queryBy k (c .before .before .before .before .before .before .before .before .before .before .args .held))) (c .before .before .before .before .before .enum-told4 .given .1) ∙ ap answerText (sym (c .before .before .before .first2 .ensures))) (c .before .before .put-answer3 .ensures)
+returns-4 c = told (ap
+    (λ k. queryText (c .before .before .before .before .before .before .before .before .before .before .args .p .now)
+    (c .before .before .before .before .before .before .before .before .before .before .args .decoded .now)
+    (c .before .before .before .before .before .before .before .before .before .before .args .dir)
+    (c .before .before .before .before .before .before .before .before .before .before .args .m)
+    (c .before .before .before .before .before .before .before .before .before .before .args .t)
+    (queryBy k (c .before .before .before .before .before .before .before .before .before .before .args .held)))
+    (c .before .before .before .before .before .enum-told4 .given .1) ∙ ap answerText (sym (c .before .before .before .first2 .ensures)))
+    (c .before .before .put-answer3 .ensures)
 
 same-length : tie.Need-same-length
 same-length c = same (returns c)

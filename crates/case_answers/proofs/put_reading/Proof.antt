@@ -19,10 +19,26 @@ put-unread-requires : tie.Need-put-unread-requires
 put-unread-requires c κs = tt
 
 returns : tie.Need-returns
-returns c = told (ap (λ o. outcomeText (c .before .before .before .before .before .before .before .before .before .before .args .p .now) (c .before .before .before .before .before .before .before .before .before .before .args .decoded .now) (c .before .before .before .before .before .before .before .before .before .before .args .dir) (c .before .before .before .before .before .before .before .before .before .before .args .m) o (c .before .before .before .before .before .before .before .before .before .before .args .reading .table) (queryBy (c .before .before .before .before .before .before .before .before .before .before .args .kind) (c .before .before .before .before .before .before .before .before .before .before .args .held))) (c .before .before .before .before .enum-told .given .1)) (c .before .before .put-query .ensures)
+returns c = told (ap
+    (λ o. outcomeText (c .before .before .before .before .before .before .before .before .before .before .args .p .now)
+    (c .before .before .before .before .before .before .before .before .before .before .args .decoded .now)
+    (c .before .before .before .before .before .before .before .before .before .before .args .dir)
+    (c .before .before .before .before .before .before .before .before .before .before .args .m) o
+    (c .before .before .before .before .before .before .before .before .before .before .args .reading .table)
+    (queryBy (c .before .before .before .before .before .before .before .before .before .before .args .kind)
+    (c .before .before .before .before .before .before .before .before .before .before .args .held)))
+    (c .before .before .before .before .enum-told .given .1)) (c .before .before .put-query .ensures)
 
 returns-2 : tie.Need-returns-2
-returns-2 c = told (ap (λ o. outcomeText (c .before .before .before .before .before .before .before .before .before .before .before .args .p .now) (c .before .before .before .before .before .before .before .before .before .before .before .args .decoded .now) (c .before .before .before .before .before .before .before .before .before .before .before .args .dir) (c .before .before .before .before .before .before .before .before .before .before .before .args .m) o (c .before .before .before .before .before .before .before .before .before .before .before .args .reading .table) (queryBy (c .before .before .before .before .before .before .before .before .before .before .before .args .kind) (c .before .before .before .before .before .before .before .before .before .before .before .args .held))) (c .before .before .before .before .before .outcome .given .1)) (c .before .before .put-unread .ensures)
+returns-2 c = told (ap
+    (λ o. outcomeText (c .before .before .before .before .before .before .before .before .before .before .before .args .p .now)
+    (c .before .before .before .before .before .before .before .before .before .before .before .args .decoded .now)
+    (c .before .before .before .before .before .before .before .before .before .before .before .args .dir)
+    (c .before .before .before .before .before .before .before .before .before .before .before .args .m) o
+    (c .before .before .before .before .before .before .before .before .before .before .before .args .reading .table)
+    (queryBy (c .before .before .before .before .before .before .before .before .before .before .before .args .kind)
+    (c .before .before .before .before .before .before .before .before .before .before .before .args .held)))
+    (c .before .before .before .before .before .outcome .given .1)) (c .before .before .put-unread .ensures)
 
 same-length : tie.Need-same-length
 same-length c = same (returns c)

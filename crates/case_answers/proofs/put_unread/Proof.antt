@@ -29,7 +29,9 @@ returns : tie.Need-returns
 returns c =
     told
     (ap (λ (n : ℕ). text "text " ++ (decimal n ++ (text " " ++ decimal (c .before .before .before .before .before .before .before .before .before .before .before .before .before .before .before .before .before .before .before .args .place)))) (sym (c .before .before .before .before .before .before .before .before .before .before .before .number-of .ensures)))
-    (then (c .before .before .before .before .before .before .before .before .before .before .before .before .before .before .before .put-word .ensures) (then (c .before .before .before .before .before .before .before .before .before .before .put-decimal .ensures) (then (c .before .before .before .before .before .before .put .ensures) (c .before .before .put-decimal2 .ensures))))
+    (then (c .before .before .before .before .before .before .before .before .before .before .before .before .before .before .before .put-word .ensures)
+    (then (c .before .before .before .before .before .before .before .before .before .before .put-decimal .ensures)
+    (then (c .before .before .before .before .before .before .put .ensures) (c .before .before .put-decimal2 .ensures))))
 
 same-length : tie.Need-same-length
 same-length c = same (returns c)

@@ -53,7 +53,8 @@ returns-2 : tie.Need-returns-2 Inv-loop μ-loop
 returns-2 c =
     let number = c .before .before .before in
     let test = number .before .before .before in
-    starting-halt _ _ _ _ _ (test .before .loop .inv .1) (test .loop-test .taken) _ (number .before .part-before .ensures) _ (number .parse-decimal .ensures) (c .before .enum-told .given .1) _ (c .plain-query2 .ensures)
+    starting-halt _ _ _ _ _ (test .before .loop .inv .1) (test .loop-test .taken) _ (number .before .part-before .ensures) _
+    (number .parse-decimal .ensures) (c .before .enum-told .given .1) _ (c .plain-query2 .ensures)
 
 plain-query-requires-3 : tie.Need-plain-query-requires-3 Inv-loop μ-loop
 plain-query-requires-3 c κs = tt
@@ -62,7 +63,8 @@ returns-3 : tie.Need-returns-3 Inv-loop μ-loop
 returns-3 c =
     let number = c .before .before .before .before .before in
     let test = number .before .before .before in
-    starting-full _ _ _ _ _ (test .before .loop .inv .1) (test .loop-test .taken) _ (number .before .part-before .ensures) _ (number .parse-decimal .ensures) (c .before .if2 .taken) _ (c .plain-query3 .ensures)
+    starting-full _ _ _ _ _ (test .before .loop .inv .1) (test .loop-test .taken) _ (number .before .part-before .ensures) _
+    (number .parse-decimal .ensures) (c .before .if2 .taken) _ (c .plain-query3 .ensures)
 
 start-of-requires : tie.Need-start-of-requires Inv-loop μ-loop
 start-of-requires c κs = tt
@@ -96,8 +98,11 @@ loop-less c = omega arith
 loop-again : tie.Need-loop-again Inv-loop μ-loop
 loop-again c =
     let number = c .before .before .before .before .before in
-    let test = number .before .before .before in
-    (_, starting-on _ _ _ _ _ (test .before .loop .inv .1) (test .loop-test .taken) _ (number .before .part-before .ensures) _ (number .parse-decimal .ensures) _ (c .before .before .before .n .given .1) (c .before .if2 .left) _ (c .start-of .ensures))
+    let test = number .before .before .before in (
+      _,
+      starting-on _ _ _ _ _ (test .before .loop .inv .1) (test .loop-test .taken) _ (number .before .part-before .ensures) _
+          (number .parse-decimal .ensures) _ (c .before .before .before .n .given .1) (c .before .if2 .left) _ (c .start-of .ensures),
+    )
 
 returns-4 : tie.Need-returns-4 Inv-loop μ-loop
 returns-4 c = starting-out _ _ _ _ _ (c .before .loop .inv .1) (omega arith)

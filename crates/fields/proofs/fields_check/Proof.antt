@@ -22,10 +22,14 @@ field-passes-requires-6 : tie.Need-field-passes-requires-6
 field-passes-requires-6 c κs = tt
 
 returns : tie.Need-returns
-returns c = check-of-six _ _ _ _ _ _ _ _ _ _ (c .before .before .before .before .before .before .field-passes .ensures) (c .before .before .before .before .before .field-passes2 .ensures) (c .before .before .before .before .field-passes3 .ensures) (c .before .before .before .field-passes4 .ensures) (c .before .before .field-passes5 .ensures) (c .before .field-passes6 .ensures) (c .if1 .taken)
+returns c = check-of-six _ _ _ _ _ _ _ _ _ _ (c .before .before .before .before .before .before .field-passes .ensures)
+    (c .before .before .before .before .before .field-passes2 .ensures) (c .before .before .before .before .field-passes3 .ensures)
+    (c .before .before .before .field-passes4 .ensures) (c .before .before .field-passes5 .ensures) (c .before .field-passes6 .ensures) (c .if1 .taken)
 
 returns-2 : tie.Need-returns-2
-returns-2 c = check-of-six _ _ _ _ _ _ _ _ _ _ (c .before .before .before .before .before .before .field-passes .ensures) (c .before .before .before .before .before .field-passes2 .ensures) (c .before .before .before .before .field-passes3 .ensures) (c .before .before .before .field-passes4 .ensures) (c .before .before .field-passes5 .ensures) (c .before .field-passes6 .ensures) (c .if1 .left)
+returns-2 c = check-of-six _ _ _ _ _ _ _ _ _ _ (c .before .before .before .before .before .before .field-passes .ensures)
+    (c .before .before .before .before .before .field-passes2 .ensures) (c .before .before .before .before .field-passes3 .ensures)
+    (c .before .before .before .field-passes4 .ensures) (c .before .before .field-passes5 .ensures) (c .before .field-passes6 .ensures) (c .if1 .left)
 
 pub fields-check-spec : {M : Type 1} → statement M
 fields-check-spec =

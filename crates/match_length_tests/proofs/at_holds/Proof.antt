@@ -15,7 +15,8 @@ returns : tie.Need-returns
 returns c = λ f.
     let a = c .before .before .before .before .before .args in
     let k = c .before .before .at-context in
-    at-absent f (a .payload .now) (a .decoded .now) (a .m) (k .result) (a .t) (a .last) (k .ensures) (sym (c .before .is-present .ensures) ∙ not-true _ (c .if1 .taken))
+    at-absent f (a .payload .now) (a .decoded .now) (a .m) (k .result) (a .t) (a .last) (k .ensures) (sym (c .before .is-present .ensures)
+    ∙ not-true _ (c .if1 .taken))
 
 at-start-requires : tie.Need-at-start-requires
 at-start-requires c κs = tt
@@ -33,7 +34,8 @@ returns-2 : tie.Need-returns-2
 returns-2 c = λ f.
     let a = c .before .before .before .before .before .before .before .before .before .args in
     let k = c .before .before .before .before .before .before .at-context in
-    at-present f (a .payload .now) (a .decoded .now) (a .m) (k .result) (a .t) (a .last) (k .ensures) (sym (c .before .before .before .before .before .is-present .ensures) ∙ not-false _ (c .before .before .before .before .if1 .left))
+    at-present f (a .payload .now) (a .decoded .now) (a .m) (k .result) (a .t) (a .last) (k .ensures)
+    (sym (c .before .before .before .before .before .is-present .ensures) ∙ not-false _ (c .before .before .before .before .if1 .left))
     (c .before .before .field-length .result) (c .before .of-word .result) (c .before .before .before .at-start .result) (c .at-exists .result)
     (c .before .before .field-length .ensures) (c .before .of-word .ensures) (c .before .before .before .at-start .ensures) (c .at-exists .ensures)
 

@@ -30,8 +30,10 @@ returns-2 : tie.Need-returns-2
 returns-2 c = λ f.
     let a = c .before .before .before .before .before .before .before .before .args in
     let k = c .before .before .before .before .before .size-context in
-    size-present f (a .payload .now) (a .decoded .now) (a .m) (k .result) (a .t) (k .ensures) (sym (c .before .before .before .before .is-present .ensures) ∙ not-false _ (c .before .before .before .if1 .left))
-    (c .before .before .field-length .result) (c .before .of-word .result) (c .order-holds .result) (c .before .before .field-length .ensures) (c .before .of-word .ensures) (c .order-holds .ensures)
+    size-present f (a .payload .now) (a .decoded .now) (a .m) (k .result) (a .t) (k .ensures) (sym (c .before .before .before .before .is-present .ensures)
+    ∙ not-false _ (c .before .before .before .if1 .left))
+    (c .before .before .field-length .result) (c .before .of-word .result) (c .order-holds .result) (c .before .before .field-length .ensures)
+    (c .before .of-word .ensures) (c .order-holds .ensures)
 
 pub size-holds-spec : {M : Type 1} → statement M
 size-holds-spec =

@@ -17,7 +17,12 @@ operator-holds-requires c κs = tt
 
 returns : tie.Need-returns
 unfolding fieldHolds
-returns c = simp (c .operator-holds .ensures, c .before .of-word2 .ensures, c .before .before .of-word .ensures, c .before .before .before .header-value .ensures)
+returns c = simp (
+  c .operator-holds .ensures,
+  c .before .of-word2 .ensures,
+  c .before .before .of-word .ensures,
+  c .before .before .before .header-value .ensures,
+)
 
 pub field-holds-spec : {M : Type 1} → statement M
 field-holds-spec =

@@ -51,7 +51,8 @@ loop-again c =
     let r = c .before .before .before .before .before .answer-to in (
       put .kept .0 ∙ l .inv .0,
       omega arith,
-      l .inv .2 ∙ run-step (x .t) (x .p .now) (x .decoded .now) (x .dir) (x .m) (x .queries .now) (l .out) (put .last .0) (l .h) (l .i) (r .result) (c .before .before .before .before .before .before .before .loop-test .taken) (omega arith) (r .ensures) (put .ensures) (put .kept .0),
+      l .inv .2 ∙ run-step (x .t) (x .p .now) (x .decoded .now) (x .dir) (x .m) (x .queries .now) (l .out) (put .last .0) (l .h) (l .i) (r .result)
+          (c .before .before .before .before .before .before .before .loop-test .taken) (omega arith) (r .ensures) (put .ensures) (put .kept .0),
     )
 
 same-length : tie.Need-same-length Inv-loop μ-loop
@@ -61,7 +62,8 @@ returns-2 : tie.Need-returns-2 Inv-loop μ-loop
 returns-2 c =
     let x = c .before .before .before .before .before .before .before .args in
     let l = c .before .loop in
-    run-done (x .t) (x .p .now) (x .decoded .now) (x .dir) (x .m) (x .held) (x .queries .now) (x .out .now) (l .out) (l .h) (l .i) (omega arith) (omega arith) (l .inv .2)
+    run-done (x .t) (x .p .now) (x .decoded .now) (x .dir) (x .m) (x .held) (x .queries .now) (x .out .now) (l .out) (l .h) (l .i) (omega arith)
+    (omega arith) (l .inv .2)
 
 pub run-spec : {M : Type 1} → statement M
 run-spec =

@@ -31,7 +31,8 @@ returns : tie.Need-returns
 returns c =
     let a = c .before .before .before .before in
     let x = a .before .before .before .args in
-    next-refused (x .t) (x .p .now) (x .decoded .now) (x .dir) (x .m) (a .check-input .ensures) (c .before .before .seen .given .1) (x .held) (c .refused .ensures)
+    next-refused (x .t) (x .p .now) (x .decoded .now) (x .dir) (x .m) (a .check-input .ensures) (c .before .before .seen .given .1) (x .held)
+    (c .refused .ensures)
 
 returns-2 : tie.Need-returns-2
 returns-2 c =

@@ -16,14 +16,23 @@ transport-short-requires c κs = tt
 
 returns-2 : tie.Need-returns-2
 unfolding datagramAnswer
-returns-2 c = rw (sym (c .before .before .before .is-fragment .ensures) ∙ c .before .before .if1 .left, sym (c .before .transport-short .ensures) ∙ c .if2 .taken)
+returns-2 c = rw (
+  sym (c .before .before .before .is-fragment .ensures) ∙ c .before .before .if1 .left,
+  sym (c .before .transport-short .ensures)
+      ∙ c .if2 .taken,
+)
 
 header-of-requires : tie.Need-header-of-requires
 header-of-requires c κs = tt
 
 returns-3 : tie.Need-returns-3
 unfolding datagramAnswer
-returns-3 c = rw (sym (c .before .before .before .before .is-fragment .ensures) ∙ c .before .before .before .if1 .left, sym (c .before .before .transport-short .ensures) ∙ c .before .if2 .left, c .header-of .ensures)
+returns-3 c = rw (
+  sym (c .before .before .before .before .is-fragment .ensures)
+      ∙ c .before .before .before .if1 .left,
+  sym (c .before .before .transport-short .ensures) ∙ c .before .if2 .left,
+  c .header-of .ensures,
+)
 
 pub datagram-header-spec : {M : Type 1} → statement M
 datagram-header-spec =

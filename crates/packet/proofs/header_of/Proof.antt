@@ -46,7 +46,20 @@ port-at-requires-2 c κs = omega arith
 
 returns : tie.Need-returns
 unfolding headerOf
-returns c = rw (c .port-at2 .ensures, c .before .port-at .ensures, c .before .before .be322 .ensures, c .before .before .before .be32 .ensures, c .before .before .before .before .be162 .ensures, c .before .before .before .before .before .be82 .ensures, c .before .before .before .before .before .before .be16 .ensures, c .before .before .before .before .before .before .before .be8 .ensures, c .before .before .before .before .before .before .before .before .protocol-of .ensures, c .before .before .before .before .before .before .before .before .before .transport-length .ensures .0, c .before .before .before .before .before .before .before .before .before .before .header-length .ensures .0, c .before .before .before .before .before .before .before .before .before .before .before .total-length .ensures)
+returns c = rw (
+  c .port-at2 .ensures,
+  c .before .port-at .ensures,
+  c .before .before .be322 .ensures,
+  c .before .before .before .be32 .ensures,
+  c .before .before .before .before .be162 .ensures,
+  c .before .before .before .before .before .be82 .ensures,
+  c .before .before .before .before .before .before .be16 .ensures,
+  c .before .before .before .before .before .before .before .be8 .ensures,
+  c .before .before .before .before .before .before .before .before .protocol-of .ensures,
+  c .before .before .before .before .before .before .before .before .before .transport-length .ensures .0,
+  c .before .before .before .before .before .before .before .before .before .before .header-length .ensures .0,
+  c .before .before .before .before .before .before .before .before .before .before .before .total-length .ensures,
+)
 
 pub header-of-spec : {M : Type 1} → statement M
 header-of-spec =

@@ -27,7 +27,13 @@ wrong-lengths-requires c κs = tt
 
 returns-3 : tie.Need-returns-3
 unfolding packetAnswer packetCheck
-returns-3 c = rw (sym (c .before .before .before .before .before .buffer-too-long .ensures) ∙ c .before .before .before .before .if1 .left, sym (c .before .before .before .not-ipv4 .ensures) ∙ c .before .before .if2 .left, sym (c .before .wrong-lengths .ensures) ∙ c .if3 .taken)
+returns-3 c = rw (
+  sym (c .before .before .before .before .before .buffer-too-long .ensures)
+      ∙ c .before .before .before .before .if1 .left,
+  sym (c .before .before .before .not-ipv4 .ensures)
+      ∙ c .before .before .if2 .left,
+  sym (c .before .wrong-lengths .ensures) ∙ c .if3 .taken,
+)
 
 total-length-requires : tie.Need-total-length-requires
 total-length-requires c κs = tt
@@ -39,7 +45,13 @@ part-datagram-header-start : tie.Need-part-datagram-header-start
 part-datagram-header-start c = search needs
 
 part-datagram-header-end : tie.Need-part-datagram-header-end
-part-datagram-header-end c = omega (arith, c .total-length .ensures, lengths (c .before .before .before .before .before .before .before .before .before .args .p .now) (sym (c .before .before .wrong-lengths .ensures) ∙ c .before .if3 .left) .total)
+part-datagram-header-end c =
+    omega (
+      arith,
+      c .total-length .ensures,
+      lengths (c .before .before .before .before .before .before .before .before .before .args .p .now)
+          (sym (c .before .before .wrong-lengths .ensures) ∙ c .before .if3 .left) .total,
+    )
 
 datagram-header-requires : tie.Need-datagram-header-requires
 datagram-header-requires c κs = tt
@@ -49,7 +61,14 @@ unfolding packetAnswer packetCheck datagramAnswer
 returns-4 c =
     let p = c .before .before .before .before .before .before .before .before .before .before .before .args .p .now in
     let d = datagram-part p (c .before .before .total-length .result) (c .before .before .total-length .ensures) in
-    rw (sym (c .before .before .before .before .before .before .before .before .buffer-too-long .ensures) ∙ c .before .before .before .before .before .before .before .if1 .left, sym (c .before .before .before .before .before .before .not-ipv4 .ensures) ∙ c .before .before .before .before .before .if2 .left, sym (c .before .before .before .before .wrong-lengths .ensures) ∙ c .before .before .before .if3 .left) (c .datagram-header .ensures ∙ ap datagramAnswer d)
+    rw (
+      sym (c .before .before .before .before .before .before .before .before .buffer-too-long .ensures)
+          ∙ c .before .before .before .before .before .before .before .if1 .left,
+      sym (c .before .before .before .before .before .before .not-ipv4 .ensures)
+          ∙ c .before .before .before .before .before .if2 .left,
+      sym (c .before .before .before .before .wrong-lengths .ensures)
+          ∙ c .before .before .before .if3 .left,
+    ) (c .datagram-header .ensures ∙ ap datagramAnswer d)
 
 pub packet-header-spec : {M : Type 1} → statement M
 packet-header-spec =

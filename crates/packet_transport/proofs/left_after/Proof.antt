@@ -13,10 +13,20 @@ sub-result : tie.Need-sub-result
 sub-result c = search needs
 
 returns : tie.Need-returns
-returns c = omega (arith, c .before .header-length .ensures .0, length-drop (headerLength (c .before .before .before .args .d .now)) (c .before .before .before .args .d .now))
+returns c = omega (
+  arith,
+  c .before .header-length .ensures .0,
+  length-drop (headerLength (c .before .before .before .args .d .now))
+      (c .before .before .before .args .d .now),
+)
 
 returns-2 : tie.Need-returns-2
-returns-2 c = omega (arith, c .before .header-length .ensures .0, length-drop (headerLength (c .before .before .before .args .d .now)) (c .before .before .before .args .d .now))
+returns-2 c = omega (
+  arith,
+  c .before .header-length .ensures .0,
+  length-drop (headerLength (c .before .before .before .args .d .now))
+      (c .before .before .before .args .d .now),
+)
 
 pub left-after-spec : {M : Type 1} → statement M
 left-after-spec = tie.close (tie.spec header-length-requires sub-result returns returns-2)

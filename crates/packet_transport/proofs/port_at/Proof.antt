@@ -25,7 +25,8 @@ be16-requires c κs = omega arith
 returns : tie.Need-returns
 returns c =
     let a = c .before .before .before .before .before .before .args in
-    let ports = rw (c .before .before .before .before .protocol-of .ensures) at (sym (c .before .before .before .has-ports .ensures) ∙ c .before .before .if1 .taken) in
+    let ports = rw (c .before .before .before .before .protocol-of .ensures) at (sym (c .before .before .before .has-ports .ensures)
+    ∙ c .before .before .if1 .taken) in
     rw (ports, c .be16 .ensures, c .before .header-length .ensures .0, be-drop 2 (headerLength (a .d .now)) (a .d .now) (a .at))
 
 returns-2 : tie.Need-returns-2

@@ -20,17 +20,24 @@ mul-result : tie.Need-mul-result
 mul-result c = search needs
 
 returns : tie.Need-returns
-returns c = (rw (eq-eqb _ 6 (sym (c .before .before .protocol-of .ensures) ∙ c .before .if1 .taken), c .tcp-words .ensures .0), omega (arith, c .tcp-words .ensures .1))
+returns c = (
+  rw (eq-eqb _ 6 (sym (c .before .before .protocol-of .ensures) ∙ c .before .if1 .taken), c .tcp-words .ensures .0),
+  omega (arith, c .tcp-words .ensures .1),
+)
 
 returns-2 : tie.Need-returns-2
 returns-2 c =
-    let same = c .before .before .protocol-of .ensures in
-    (rw (ne-eqb (protocolOf (c .before .before .before .before .args .d .now)) 6 (λ e. c .before .if1 .left (same ∙ e)), rw same at (c .if2 .taken)), omega arith)
+    let same = c .before .before .protocol-of .ensures in (
+      rw (ne-eqb (protocolOf (c .before .before .before .before .args .d .now)) 6 (λ e. c .before .if1 .left (same ∙ e)), rw same at (c .if2 .taken)),
+      omega arith,
+    )
 
 returns-3 : tie.Need-returns-3
 returns-3 c =
-    let same = c .before .before .protocol-of .ensures in
-    (rw (ne-eqb (protocolOf (c .before .before .before .before .args .d .now)) 6 (λ e. c .before .if1 .left (same ∙ e)), rw same at (c .if2 .left)), omega arith)
+    let same = c .before .before .protocol-of .ensures in (
+      rw (ne-eqb (protocolOf (c .before .before .before .before .args .d .now)) 6 (λ e. c .before .if1 .left (same ∙ e)), rw same at (c .if2 .left)),
+      omega arith,
+    )
 
 pub transport-length-spec : {M : Type 1} → statement M
 transport-length-spec =

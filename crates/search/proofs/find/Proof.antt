@@ -31,7 +31,8 @@ from-item-requires : tie.Need-from-item-requires
 from-item-requires c κs =
     let a = c .before .before .before .before .before .before .before .before in
     let x = a .args in
-    let room : length (x .t .bytes) ≡ documentLimits .room = length-unmapped _ (x .t .bytes) (documentLimits .room) (a .good .0 .1 .1 .1 .1 .1 .1 .0 .1 .0 .1) in
+    let room : length (x .t .bytes) ≡ documentLimits .room =
+    length-unmapped _ (x .t .bytes) (documentLimits .room) (a .good .0 .1 .1 .1 .1 .1 .1 .0 .1 .0 .1) in
     let first = ready-first (x .t) (a .pre .formed) (x .payload .now) (x .decoded .now) (omega arith) (a .pre .payload) (a .pre .decoded) in
     rw (c .empty .ensures) (few-items (x .t) (a .pre .formed), first)
 

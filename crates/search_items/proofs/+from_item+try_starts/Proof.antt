@@ -13,7 +13,8 @@ use Rattle.search_state.specs.Inputs.{itemsLeft}
 use Rattle.search_items.proofs.Stepping.{length-mapped, trying-bounded}
 use Rattle.search_items.proofs.PassedItems.{Gone, gone-none, gone-out, gone-test, stop-test, gone-nowhere, stop-nowhere, placed-first}
 use Rattle.search_items.proofs.PassedItems.{pattern-inside, pattern-bounded, pattern-trying}
-use Rattle.search_items.proofs.Trials.{try-absent, Tried, tried-none, own-fits, chosen-small, chosen-ready, tried-out, tried-past, tried-found, tried-vain}
+use Rattle.search_items.proofs.Trials.{try-absent, Tried, tried-none, own-fits, chosen-small, chosen-ready, tried-out, tried-past}
+use Rattle.search_items.proofs.Trials.{tried-found, tried-vain}
 use Prim.Native.Nat.{ℕ, _+_, _-_, _<_}
 use borrow.Fn.Kinds.{In}
 use borrow.Fn.PlainCycle.{Measures, is, falls, and}

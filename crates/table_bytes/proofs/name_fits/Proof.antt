@@ -26,7 +26,12 @@ returns-3 : tie.Need-returns-3
 unfolding nameFits
 returns-3 c =
     let len = c .before .before .before .before .before .args .len in
-    rw (le-leb 1 len (c .before .before .before .before .if1 .left), le-leb len maxName (c .before .before .before .if2 .left), sym (c .before .quotable-to .ensures) ∙ not-true _ (c .if3 .taken))
+    rw (
+      le-leb 1 len (c .before .before .before .before .if1 .left),
+      le-leb len maxName (c .before .before .before .if2 .left),
+      sym
+          (c .before .quotable-to .ensures) ∙ not-true _ (c .if3 .taken),
+    )
 
 zero-from-requires : tie.Need-zero-from-requires
 zero-from-requires c κs = tt
@@ -35,7 +40,12 @@ returns-4 : tie.Need-returns-4
 unfolding nameFits
 returns-4 c =
     let len = c .before .before .before .before .before .before .args .len in
-    rw (le-leb 1 len (c .before .before .before .before .before .if1 .left), le-leb len maxName (c .before .before .before .before .if2 .left), sym (c .before .before .quotable-to .ensures) ∙ not-false _ (c .before .if3 .left)) (c .zero-from .ensures)
+    rw (
+      le-leb 1 len (c .before .before .before .before .before .if1 .left),
+      le-leb len maxName (c .before .before .before .before .if2 .left),
+      sym
+          (c .before .before .quotable-to .ensures) ∙ not-false _ (c .before .if3 .left),
+    ) (c .zero-from .ensures)
 
 pub name-fits-spec : {M : Type 1} → statement M
 name-fits-spec =

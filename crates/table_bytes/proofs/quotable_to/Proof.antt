@@ -31,7 +31,8 @@ returns : tie.Need-returns Inv-loop μ-loop
 returns c =
     let args = c .before .before .before .before .before .before .args in
     let loop = c .before .before .before .before .loop in
-    sym (first-not (has quotable) _ (args .s .now) (args .n) (loop .i) (loop .inv .1) _ (c .before .before .before .loop-test .taken) (c .before .before .before .before .before .before .pre) (sym (c .before .in-class .ensures) ∙ not-true _ (c .if1 .taken)))
+    sym (first-not (has quotable) _ (args .s .now) (args .n) (loop .i) (loop .inv .1) _ (c .before .before .before .loop-test .taken)
+    (c .before .before .before .before .before .before .pre) (sym (c .before .in-class .ensures) ∙ not-true _ (c .if1 .taken)))
 
 add-i : tie.Need-add-i Inv-loop μ-loop
 add-i c = omega arith
@@ -42,11 +43,15 @@ loop-less c = omega arith
 loop-again : tie.Need-loop-again Inv-loop μ-loop
 loop-again c =
     let args = c .before .before .before .before .before .before .args in
-    let loop = c .before .before .before .before .loop in
-    (omega arith, first-on (has quotable) _ (args .s .now) (args .n) (loop .i) (loop .inv .1) _ (c .before .before .before .loop-test .taken) (c .before .before .before .before .before .before .pre) (sym (c .before .in-class .ensures) ∙ not-false _ (c .if1 .left)))
+    let loop = c .before .before .before .before .loop in (
+      omega arith,
+      first-on (has quotable) _ (args .s .now) (args .n) (loop .i) (loop .inv .1) _ (c .before .before .before .loop-test .taken)
+          (c .before .before .before .before .before .before .pre) (sym (c .before .in-class .ensures) ∙ not-false _ (c .if1 .left)),
+    )
 
 returns-2 : tie.Need-returns-2 Inv-loop μ-loop
-returns-2 c = sym (first-all (has quotable) _ (c .before .before .before .args .s .now) (c .before .before .before .args .n) (c .before .loop .i) (c .before .loop .inv .1) (c .loop-test .left))
+returns-2 c = sym (first-all (has quotable) _ (c .before .before .before .args .s .now) (c .before .before .before .args .n) (c .before .loop .i)
+    (c .before .loop .inv .1) (c .loop-test .left))
 
 pub quotable-to-spec : {M : Type 1} → statement M
 quotable-to-spec =

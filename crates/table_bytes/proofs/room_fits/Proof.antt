@@ -19,7 +19,8 @@ zero-from-requires c κs = tt
 returns-2 : tie.Need-returns-2
 returns-2 c =
     let args = c .before .before .before .args in
-    let bytes = first-fit (λ (b : ℕ). leb b maxByte) 0 (args .used) (args .s .now) (λ i. le-leb (getD (args .s .now) i 0) maxByte (omega (arith, c .before .before .shared-slice-known .given i))) in
+    let bytes = first-fit (λ (b : ℕ). leb b maxByte) 0 (args .used) (args .s .now)
+    (λ i. le-leb (getD (args .s .now) i 0) maxByte (omega (arith, c .before .before .shared-slice-known .given i))) in
     rw (le-leb (args .used) (length (args .s .now)) (c .before .if1 .left), bytes) (c .zero-from .ensures)
 
 pub room-fits-spec : {M : Type 1} → statement M

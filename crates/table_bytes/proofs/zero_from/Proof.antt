@@ -30,7 +30,8 @@ loop-less : tie.Need-loop-less Inv-loop μ-loop
 loop-less c = omega arith
 
 loop-again : tie.Need-loop-again Inv-loop μ-loop
-loop-again c = gather-on _ (c .before .before .before .args .s .now) (c .before .before .loop .bits) (c .before .before .loop .i) (c .before .before .loop .inv) (c .before .loop-test .taken)
+loop-again c = gather-on _ (c .before .before .before .args .s .now) (c .before .before .loop .bits) (c .before .before .loop .i)
+    (c .before .before .loop .inv) (c .before .loop-test .taken)
 
 returns : tie.Need-returns Inv-loop μ-loop
 returns c = sym (gather-out _ (c .before .before .args .s .now) (c .before .loop .bits) (c .before .loop .i) (c .before .loop .inv) (c .loop-test .left))

@@ -20,7 +20,8 @@ returns c = search needs
 
 returns-2 : tie.Need-returns-2
 returns-2 c =
-    let z : toZ w32 (ofZ w32 (c .before .before .before .distance .given .0 .0 .offset)) ≡ c .before .before .before .distance .given .0 .0 .offset = search needs in
+    let z : toZ w32 (ofZ w32 (c .before .before .before .distance .given .0 .0 .offset)) ≡ c .before .before .before .distance .given .0 .0 .offset =
+    search needs in
     simp (c .before .before .before .distance .given .1, c .offset-fits .ensures, z)
 
 pub distance-fits-spec : {M : Type 1} → statement M

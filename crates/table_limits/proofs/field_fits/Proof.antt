@@ -16,11 +16,19 @@ cast-result c = search needs
 
 returns : tie.Need-returns
 unfolding itemFits
-returns c = rw (← c .before .before .before .field-most .ensures, le-leb (c .before .before .before .before .args .a .mask) (c .before .before .before .field-most .result) (c .before .if1 .taken))
+returns c = rw (
+  ← c .before .before .before .field-most .ensures,
+  le-leb (c .before .before .before .before .args .a .mask)
+      (c .before .before .before .field-most .result) (c .before .if1 .taken),
+)
 
 returns-2 : tie.Need-returns-2
 unfolding itemFits
-returns-2 c = rw (← c .before .before .field-most .ensures, lt-leb (c .before .before .before .args .a .mask) (c .before .before .field-most .result) (c .if1 .left))
+returns-2 c = rw (
+  ← c .before .before .field-most .ensures,
+  lt-leb (c .before .before .before .args .a .mask) (c .before .before .field-most .result)
+      (c .if1 .left),
+)
 
 pub field-fits-spec : {M : Type 1} → statement M
 field-fits-spec = tie.close (tie.spec field-most-requires cast-if1 cast-result returns returns-2)

@@ -30,8 +30,10 @@ addresses-unused-requires c κs = tt
 
 returns-3 : tie.Need-returns-3
 returns-3 c =
-    let fits = sym (c .before .before .before .before .before .before .item-fits .ensures) ∙ not-false _ (c .before .before .before .before .before .if1 .left) in
-    rw (fits, ← c .before .before .before .address-count .ensures, sym (c .before .before .addresses-fit .ensures) ∙ not-false _ (c .before .if2 .left)) (c .addresses-unused .ensures)
+    let fits = sym (c .before .before .before .before .before .before .item-fits .ensures)
+    ∙ not-false _ (c .before .before .before .before .before .if1 .left) in
+    rw (fits, ← c .before .before .before .address-count .ensures, sym (c .before .before .addresses-fit .ensures) ∙ not-false _ (c .before .if2 .left))
+    (c .addresses-unused .ensures)
 
 pub slot-fits-spec : {M : Type 1} → statement M
 slot-fits-spec =

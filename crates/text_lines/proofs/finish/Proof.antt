@@ -28,7 +28,8 @@ returns c =
     let kept = answered .before in
     let test = kept .before .before in
     let answer = answered .answer-text .ensures in
-    one-waits (lineOf documentLimits) (test .before .before .before .last-line .ensures) (test .if1 .taken) (kept .kept .ensures) answer (ended .end-line .ensures)
+    one-waits (lineOf documentLimits) (test .before .before .before .last-line .ensures) (test .if1 .taken) (kept .kept .ensures) answer
+    (ended .end-line .ensures)
 
 same-length-2 : tie.Need-same-length-2
 same-length-2 c = search needs

@@ -27,13 +27,16 @@ put-refused-requires : tie.Need-put-refused-requires
 put-refused-requires c κs = search needs
 
 returns : tie.Need-returns
-returns c = told (ap (λ f. foundText f (c .before .before .before .before .before .before .before .before .args .a .placement)) (c .before .before .before .before .enum-told .given .1)) (c .before .before .put-placement .ensures)
+returns c = told (ap (λ f. foundText f (c .before .before .before .before .before .before .before .before .args .a .placement))
+    (c .before .before .before .before .enum-told .given .1)) (c .before .before .put-placement .ensures)
 
 returns-2 : tie.Need-returns-2
-returns-2 c = told (ap (λ f. foundText f (c .before .before .before .before .before .before .before .before .before .args .a .placement)) (c .before .before .before .before .before .enum-told2 .given .1)) (c .before .before .put-word .ensures)
+returns-2 c = told (ap (λ f. foundText f (c .before .before .before .before .before .before .before .before .before .args .a .placement))
+    (c .before .before .before .before .before .enum-told2 .given .1)) (c .before .before .put-word .ensures)
 
 returns-3 : tie.Need-returns-3
-returns-3 c = told (ap (λ f. foundText f (c .before .before .before .before .before .before .before .before .before .args .a .placement)) (c .before .before .before .before .before .found .given .1)) (c .before .before .put-refused .ensures)
+returns-3 c = told (ap (λ f. foundText f (c .before .before .before .before .before .before .before .before .before .args .a .placement))
+    (c .before .before .before .before .before .found .given .1)) (c .before .before .put-refused .ensures)
 
 same-length : tie.Need-same-length
 same-length c = same (returns c)

@@ -20,7 +20,8 @@ put-decimal-requires : tie.Need-put-decimal-requires
 put-decimal-requires c κs = search needs
 
 returns : tie.Need-returns
-returns c = told (ap (λ n. text "refused " ++ decimal n) (sym (c .before .before .before .number-of .ensures))) (then (c .before .before .before .before .before .before .before .put-word .ensures) (c .before .before .put-decimal .ensures))
+returns c = told (ap (λ n. text "refused " ++ decimal n) (sym (c .before .before .before .number-of .ensures)))
+    (then (c .before .before .before .before .before .before .before .put-word .ensures) (c .before .before .put-decimal .ensures))
 
 same-length : tie.Need-same-length
 same-length c = same (returns c)

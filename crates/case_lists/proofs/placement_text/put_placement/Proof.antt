@@ -13,7 +13,8 @@ put-requires-2 : tie.Need-put-requires-2
 put-requires-2 c κs = tt
 
 returns : tie.Need-returns
-returns c = then (c .before .before .before .before .before .before .before .before .before .before .put .ensures) (then (c .before .before .before .before .before .before .put-starts .ensures) (c .before .before .put2 .ensures))
+returns c = then (c .before .before .before .before .before .before .before .before .before .before .put .ensures)
+    (then (c .before .before .before .before .before .before .put-starts .ensures) (c .before .before .put2 .ensures))
 
 same-length : tie.Need-same-length
 same-length c = same (returns c)

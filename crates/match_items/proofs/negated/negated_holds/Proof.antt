@@ -20,13 +20,15 @@ lies-nowhere-requires : tie.Need-lies-nowhere-requires
 lies-nowhere-requires c κs =
     let s = c .before .before .before .before .before .before in
     let a = s .args in
-    let sizes = measured (a .payload .now) (a .decoded .now) (a .m) (a .p) (a .b .now) (a .last) (c .field-of .result .now) (s .pre) (c .field-of .ensures .0) in
+    let sizes = measured (a .payload .now) (a .decoded .now) (a .m) (a .p) (a .b .now) (a .last) (c .field-of .result .now) (s .pre)
+    (c .field-of .ensures .0) in
     (sizes, s .pre .own)
 
 returns-2 : tie.Need-returns-2
 returns-2 c = λ f.
     let a = c .before .before .before .before .before .before .before .args in
-    nowhere-present f (a .payload .now) (a .decoded .now) (a .m) (a .p) (a .b .now) (a .last) (sym (c .before .before .before .is-present .ensures) ∙ not-false _ (c .before .before .if1 .left))
+    nowhere-present f (a .payload .now) (a .decoded .now) (a .m) (a .p) (a .b .now) (a .last) (sym (c .before .before .before .is-present .ensures)
+    ∙ not-false _ (c .before .before .if1 .left))
     (c .before .field-of .result .now) (c .lies-nowhere .result) (c .before .field-of .ensures .0) (c .lies-nowhere .ensures)
 
 pub negated-holds-spec : {M : Type 1} → statement M

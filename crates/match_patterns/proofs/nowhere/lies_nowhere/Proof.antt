@@ -30,7 +30,8 @@ returns c =
     let w = c .before .before .before .before .window in
     let l = c .before .before .before .loop in
     let stands = standing (a .p .nocase) (a .b .now) (a .f .now) in
-    sym (ap none? (places-window (a .p) (a .b .now) (a .last) (a .f .now) (w .result) (w .ensures)) ∙ l .inv ∙ met stands (w .result .to) (l .at) (omega arith) (sym (c .before .stands-at .ensures) ∙ c .if1 .taken))
+    sym (ap none? (places-window (a .p) (a .b .now) (a .last) (a .f .now) (w .result) (w .ensures)) ∙ l .inv
+    ∙ met stands (w .result .to) (l .at) (omega arith) (sym (c .before .stands-at .ensures) ∙ c .if1 .taken))
 
 add-at : tie.Need-add-at Inv-loop μ-loop
 add-at c = omega arith
@@ -52,7 +53,8 @@ returns-2 c =
     let w = c .before .before .window in
     let l = c .before .loop in
     let stands = standing (a .p .nocase) (a .b .now) (a .f .now) in
-    sym (ap none? (places-window (a .p) (a .b .now) (a .last) (a .f .now) (w .result) (w .ensures)) ∙ l .inv ∙ ended stands (w .result .to) (l .at) (omega arith))
+    sym (ap none? (places-window (a .p) (a .b .now) (a .last) (a .f .now) (w .result) (w .ensures)) ∙ l .inv
+    ∙ ended stands (w .result .to) (l .at) (omega arith))
 
 pub lies-nowhere-spec : {M : Type 1} → statement M
 lies-nowhere-spec =

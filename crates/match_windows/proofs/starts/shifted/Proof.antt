@@ -18,7 +18,9 @@ backward-requires c κs = search needs
 returns : tie.Need-returns
 returns c =
     let a = c .before .before .before in
-    rw (c .before .before .if1 .taken) (shift-begins _-ℤ_ mag-difference (a .args .len) (a .args .d .offset) (a .pre .1) (record { sfits = c .before .struct-told .given .0 .1 }) (c .backward .result) (record { sfits = c .backward .ok }) (c .backward .ensures))
+    rw (c .before .before .if1 .taken)
+    (shift-begins _-ℤ_ mag-difference (a .args .len) (a .args .d .offset) (a .pre .1) (record { sfits = c .before .struct-told .given .0 .1 })
+    (c .backward .result) (record { sfits = c .backward .ok }) (c .backward .ensures))
 
 base-requires : tie.Need-base-requires
 base-requires c κs = tt
@@ -35,7 +37,8 @@ returns-2 c =
     let few : r .result < sizeBound = rw (r .ensures) (base-small (a .args .last) (a .args .d .reference) (a .pre .0)) in
     rw (c .before .before .before .if1 .left)
     (subst (λ (k : ℕ). Begins (pos k +ℤ a .args .d .offset) (toZ w64 (ofZ w64 (c .forward .result)))) (r .ensures)
-    (shift-begins _+ℤ_ near-sum (r .result) (a .args .d .offset) few (record { sfits = c .before .struct-told2 .given .0 .1 }) (c .forward .result) (record { sfits = c .forward .ok }) (c .forward .ensures)))
+    (shift-begins _+ℤ_ near-sum (r .result) (a .args .d .offset) few (record { sfits = c .before .struct-told2 .given .0 .1 }) (c .forward .result)
+    (record { sfits = c .forward .ok }) (c .forward .ensures)))
 
 pub shifted-spec : {M : Type 1} → statement M
 shifted-spec =

@@ -41,12 +41,17 @@ returns-2 c =
     let a = at .args in
     let v = c .before .before .before .before .within .given in
     let w = c .before .before .window-end in
-    let z : toZ w64 (ofZ w64 (w .result)) ≡ a .s +ℤ pos (v .0 .0 .number) = end-back (a .s) (w .result) (v .0 .0 .number) (at .fits .s) (record { sfits = w .ok }) (w .ensures) in
+    let z : toZ w64 (ofZ w64 (w .result)) ≡ a .s +ℤ pos (v .0 .0 .number) =
+    end-back (a .s) (w .result) (v .0 .0 .number) (at .fits .s) (record { sfits = w .ok }) (w .ensures) in
     to-none (a .s) (a .within) (v .0 .0) (a .len) (a .n) (v .1)
     (ap (leZ (pos (a .n))) (sym z) ∙ sym (c .before .reaches .ensures) ∙ not-true _ (c .if1 .taken))
 
 place-requires : tie.Need-place-requires
-place-requires c κs = (omega arith, reached-natural (c .before .before .before .before .before .before .args .n) (toZ w64 (ofZ w64 (c .before .before .window-end .result))) (sym (c .before .reaches .ensures) ∙ not-false _ (c .if1 .left)))
+place-requires c κs = (
+  omega arith,
+  reached-natural (c .before .before .before .before .before .before .args .n) (toZ w64 (ofZ w64 (c .before .before .window-end .result)))
+      (sym (c .before .reaches .ensures) ∙ not-false _ (c .if1 .left)),
+)
 
 room-requires-2 : tie.Need-room-requires-2
 room-requires-2 c κs = search needs
@@ -57,7 +62,8 @@ returns-3 c =
     let a = at .args in
     let v = c .before .before .before .before .before .before .within .given in
     let w = c .before .before .before .before .window-end in
-    let z : toZ w64 (ofZ w64 (w .result)) ≡ a .s +ℤ pos (v .0 .0 .number) = end-back (a .s) (w .result) (v .0 .0 .number) (at .fits .s) (record { sfits = w .ok }) (w .ensures) in
+    let z : toZ w64 (ofZ w64 (w .result)) ≡ a .s +ℤ pos (v .0 .0 .number) =
+    end-back (a .s) (w .result) (v .0 .0 .number) (at .fits .s) (record { sfits = w .ok }) (w .ensures) in
     to-some (a .s) (a .within) (v .0 .0) (a .len) (a .n) (v .1)
     (ap (leZ (pos (a .n))) (sym z) ∙ sym (c .before .before .before .reaches .ensures) ∙ not-false _ (c .before .before .if1 .left))
     (c .room2 .result)

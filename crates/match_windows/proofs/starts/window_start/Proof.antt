@@ -17,7 +17,11 @@ shifted-requires : tie.Need-shifted-requires
 shifted-requires c κs = search needs
 
 returns : tie.Need-returns
-returns c = rw (c .before .enum-told .given .1, ← free-start (c .before .before .before .args .last) (c .before .before .before .args .len) (c .before .before .before .args .within)) (begins-back (record { sfits = c .reached .ok }) (c .reached .ensures))
+returns c = rw (
+  c .before .enum-told .given .1,
+  ← free-start (c .before .before .before .args .last) (c .before .before .before .args .len)
+      (c .before .before .before .args .within),
+) (begins-back (record { sfits = c .reached .ok }) (c .reached .ensures))
 
 returns-2 : tie.Need-returns-2
 returns-2 c = rw (c .before .before .distance .given .1) (begins-back (record { sfits = c .shifted .ok }) (c .shifted .ensures))

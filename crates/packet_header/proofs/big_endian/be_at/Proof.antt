@@ -29,7 +29,11 @@ mul-v : tie.Need-mul-v Inv-loop μ-loop
 mul-v c =
     let a = c .before .before .before .before .args in
     let bytes : (k : ℕ) → getD (a .d .now) k 0 < 256 = λ k. c .before .before .before .shared-slice-known .given k .fits in
-    omega (arith, more-fits (a .d .now) bytes (a .at) _ _ _ (c .before .before .loop .inv .1) (c .byte-at .ensures) (omega (arith, c .before .before .before .before .pre .1)))
+    omega (
+      arith,
+      more-fits (a .d .now) bytes (a .at) _ _ _ (c .before .before .loop .inv .1) (c .byte-at .ensures)
+          (omega (arith, c .before .before .before .before .pre .1)),
+    )
 
 cast-v : tie.Need-cast-v Inv-loop μ-loop
 cast-v c = search needs
@@ -38,7 +42,11 @@ add-v : tie.Need-add-v Inv-loop μ-loop
 add-v c =
     let a = c .before .before .before .before .args in
     let bytes : (k : ℕ) → getD (a .d .now) k 0 < 256 = λ k. c .before .before .before .shared-slice-known .given k .fits in
-    omega (arith, more-fits (a .d .now) bytes (a .at) _ _ _ (c .before .before .loop .inv .1) (c .byte-at .ensures) (omega (arith, c .before .before .before .before .pre .1)))
+    omega (
+      arith,
+      more-fits (a .d .now) bytes (a .at) _ _ _ (c .before .before .loop .inv .1) (c .byte-at .ensures)
+          (omega (arith, c .before .before .before .before .pre .1)),
+    )
 
 add-i : tie.Need-add-i Inv-loop μ-loop
 add-i c = omega arith

@@ -23,7 +23,8 @@ returns c =
     λ located items held latest after.
     let start = c .before .before .before .before .before .before in
     rw (c .step-only .ensures, c .before .closing-step .ensures)
-    (goes-close (start .args .s .now) (start .args .at) (start .pre .inside) located (start .args .st) (start .args .bytes .now) _ (c .before .before .if1 .taken))
+    (goes-close (start .args .s .now) (start .args .at) (start .pre .inside) located (start .args .st) (start .args .bytes .now) _
+    (c .before .before .if1 .taken))
 
 dashes-at-requires : tie.Need-dashes-at-requires
 dashes-at-requires c κs = c .before .before .before .before .pre .inside

@@ -22,10 +22,13 @@ is-between-requires-3 : tie.Need-is-between-requires-3
 is-between-requires-3 c κs = tt
 
 returns-2 : tie.Need-returns-2
-returns-2 c = case-other (c .before .before .before .before .before .args .y) (c .before .before .before .before .before .args .b) _ (sym (c .before .before .before .before .is-between .ensures) ∙ c .before .before .before .if1 .left) (sym (c .before .before .is-between2 .ensures) ∙ c .before .if2 .taken) (c .is-between3 .ensures)
+returns-2 c = case-other (c .before .before .before .before .before .args .y) (c .before .before .before .before .before .args .b) _
+    (sym (c .before .before .before .before .is-between .ensures) ∙ c .before .before .before .if1 .left) (sym (c .before .before .is-between2 .ensures)
+    ∙ c .before .if2 .taken) (c .is-between3 .ensures)
 
 returns-3 : tie.Need-returns-3
-returns-3 c = case-only (c .before .before .before .before .args .y) (c .before .before .before .before .args .b) (sym (c .before .before .before .is-between .ensures) ∙ c .before .before .if1 .left) (sym (c .before .is-between2 .ensures) ∙ c .if2 .left)
+returns-3 c = case-only (c .before .before .before .before .args .y) (c .before .before .before .before .args .b)
+    (sym (c .before .before .before .is-between .ensures) ∙ c .before .before .if1 .left) (sym (c .before .is-between2 .ensures) ∙ c .if2 .left)
 
 pub in-case-spec : {M : Type 1} → statement M
 in-case-spec =

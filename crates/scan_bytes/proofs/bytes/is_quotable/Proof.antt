@@ -16,14 +16,16 @@ is-between-requires-2 c κs = tt
 
 returns-2 : tie.Need-returns-2
 unfolding has
-returns-2 c = in-later _ _ (sym (c .before .before .before .is-between .ensures) ∙ c .before .before .if1 .left) (in-this _ _ (sym (c .before .is-between2 .ensures) ∙ c .if2 .taken))
+returns-2 c = in-later _ _ (sym (c .before .before .before .is-between .ensures) ∙ c .before .before .if1 .left)
+    (in-this _ _ (sym (c .before .is-between2 .ensures) ∙ c .if2 .taken))
 
 is-between-requires-3 : tie.Need-is-between-requires-3
 is-between-requires-3 c κs = tt
 
 returns-3 : tie.Need-returns-3
 unfolding has
-returns-3 c = in-later _ _ (sym (c .before .before .before .before .is-between .ensures) ∙ c .before .before .before .if1 .left) (in-later _ _ (sym (c .before .before .is-between2 .ensures) ∙ c .before .if2 .left) (in-last _ (c .is-between3 .ensures)))
+returns-3 c = in-later _ _ (sym (c .before .before .before .before .is-between .ensures) ∙ c .before .before .before .if1 .left)
+    (in-later _ _ (sym (c .before .before .is-between2 .ensures) ∙ c .before .if2 .left) (in-last _ (c .is-between3 .ensures)))
 
 pub is-quotable-spec : {M : Type 1} → statement M
 is-quotable-spec =

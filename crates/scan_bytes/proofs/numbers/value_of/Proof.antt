@@ -22,10 +22,27 @@ digit-value-requires : tie.Need-digit-value-requires Inv-loop μ-loop
 digit-value-requires c κs = tt
 
 mul-cap : tie.Need-mul-cap Inv-loop μ-loop
-mul-cap c = omega (arith, product-fits (c .before .before .before .loop .v) (c .before .before .before .before .before .args .base) 0 (c .before .before .before .loop .inv .1 .small) (c .before .before .before .before .before .pre .3) (omega arith))
+mul-cap c = omega (
+  arith,
+  product-fits (c .before .before .before .loop .v) (c .before .before .before .before .before .args .base) 0
+      (c .before .before .before .loop .inv .1 .small) (c .before .before .before .before .before .pre .3) (omega arith),
+)
 
 add-cap : tie.Need-add-cap Inv-loop μ-loop
-add-cap c = let d = c .digit-value .ensures in omega (arith, product-fits (c .before .before .before .loop .v) (c .before .before .before .before .before .args .base) (c .digit-value .result) (c .before .before .before .loop .inv .1 .small) (c .before .before .before .before .before .pre .3) (omega (arith, d, digit-le (getD (c .before .before .before .before .before .args .s .now) (c .before .before .before .loop .i) 0), c .before .shared-slice-known2 .given (c .before .before .before .loop .i))))
+add-cap c = let d = c .digit-value .ensures in
+    omega (
+      arith,
+      product-fits (c .before .before .before .loop .v) (c .before .before .before .before .before .args .base) (c .digit-value .result)
+          (c .before .before .before .loop .inv .1 .small) (c .before .before .before .before .before .pre .3)
+          (omega (
+            arith,
+            d,
+            digit-le
+                (getD (c .before .before .before .before .before .args .s .now) (c .before .before .before .loop .i) 0),
+            c .before .shared-slice-known2 .given
+                (c .before .before .before .loop .i),
+          )),
+    )
 
 cap-requires : tie.Need-cap-requires Inv-loop μ-loop
 cap-requires c κs = tt
@@ -37,7 +54,12 @@ loop-less : tie.Need-loop-less Inv-loop μ-loop
 loop-less c = omega arith
 
 loop-again : tie.Need-loop-again Inv-loop μ-loop
-loop-again c = (c .before .before .before .before .loop .inv .0, sum-on _ _ _ _ _ _ _ (c .before .before .before .before .loop .inv .1) (c .before .before .before .loop-test .taken) (c .before .before .before .before .before .before .pre .1) _ (c .cap .ensures ∙ rw (c .before .digit-value .ensures)))
+loop-again c = (
+  c .before .before .before .before .loop .inv .0,
+  sum-on _ _ _ _ _ _ _ (c .before .before .before .before .loop .inv .1)
+      (c .before .before .before .loop-test .taken) (c .before .before .before .before .before .before .pre .1) _ (c .cap .ensures
+      ∙ rw (c .before .digit-value .ensures)),
+)
 
 returns : tie.Need-returns Inv-loop μ-loop
 returns c = sum-out _ _ _ _ _ _ _ (c .before .loop .inv .1) (c .loop-test .left)

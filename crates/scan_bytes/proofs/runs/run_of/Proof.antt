@@ -25,7 +25,8 @@ in-class-requires : tie.Need-in-class-requires Inv-loop μ-loop
 in-class-requires c κs = tt
 
 returns : tie.Need-returns Inv-loop μ-loop
-returns c = run-halt _ _ _ _ (c .before .before .before .before .loop .inv) (c .before .before .before .loop-test .taken) (sym (c .before .in-class .ensures) ∙ not-true _ (c .if1 .taken))
+returns c = run-halt _ _ _ _ (c .before .before .before .before .loop .inv) (c .before .before .before .loop-test .taken)
+    (sym (c .before .in-class .ensures) ∙ not-true _ (c .if1 .taken))
 
 add-i : tie.Need-add-i Inv-loop μ-loop
 add-i c = omega arith
@@ -34,7 +35,8 @@ loop-less : tie.Need-loop-less Inv-loop μ-loop
 loop-less c = omega arith
 
 loop-again : tie.Need-loop-again Inv-loop μ-loop
-loop-again c = run-on _ _ _ _ (c .before .before .before .before .loop .inv) (c .before .before .before .loop-test .taken) (sym (c .before .in-class .ensures) ∙ not-false _ (c .if1 .left))
+loop-again c = run-on _ _ _ _ (c .before .before .before .before .loop .inv) (c .before .before .before .loop-test .taken)
+    (sym (c .before .in-class .ensures) ∙ not-false _ (c .if1 .left))
 
 returns-2 : tie.Need-returns-2 Inv-loop μ-loop
 returns-2 c = run-out _ _ _ _ (c .before .loop .inv) (c .loop-test .left)

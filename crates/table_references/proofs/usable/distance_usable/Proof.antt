@@ -20,7 +20,12 @@ returns : tie.Need-returns
 returns c = search needs
 
 returns-2 : tie.Need-returns-2
-returns-2 c = simp (c .before .before .before .before .distance .given .1, sym (c .before .before .reference-usable .ensures) ∙ c .before .if1 .taken, c .reverse-usable .ensures)
+returns-2 c = simp (
+  c .before .before .before .before .distance .given .1,
+  sym (c .before .before .reference-usable .ensures)
+      ∙ c .before .if1 .taken,
+  c .reverse-usable .ensures,
+)
 
 returns-3 : tie.Need-returns-3
 returns-3 c = simp (c .before .before .before .distance .given .1, sym (c .before .reference-usable .ensures) ∙ c .if1 .left)

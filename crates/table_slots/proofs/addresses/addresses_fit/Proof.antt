@@ -34,7 +34,8 @@ returns c =
     let args = c .before .before .before .before .before .args in
     let loop = c .before .before .before .before .loop in
     let long : args .n ≤ length (args .t1) = omega arith in
-    sym (first-not addressFits _ (args .t1) (args .n) (loop .i) (loop .inv .1) _ (c .before .before .before .loop-test .taken) long (sym (c .before .address-fits .ensures) ∙ not-true _ (c .if1 .taken)))
+    sym (first-not addressFits _ (args .t1) (args .n) (loop .i) (loop .inv .1) _ (c .before .before .before .loop-test .taken) long
+    (sym (c .before .address-fits .ensures) ∙ not-true _ (c .if1 .taken)))
 
 add-i : tie.Need-add-i Inv-loop μ-loop
 add-i c = omega arith
@@ -46,11 +47,15 @@ loop-again : tie.Need-loop-again Inv-loop μ-loop
 loop-again c =
     let args = c .before .before .before .before .before .args in
     let loop = c .before .before .before .before .loop in
-    let long : args .n ≤ length (args .t1) = omega arith in
-    (omega arith, first-on addressFits _ (args .t1) (args .n) (loop .i) (loop .inv .1) _ (c .before .before .before .loop-test .taken) long (sym (c .before .address-fits .ensures) ∙ not-false _ (c .if1 .left)))
+    let long : args .n ≤ length (args .t1) = omega arith in (
+      omega arith,
+      first-on addressFits _ (args .t1) (args .n) (loop .i) (loop .inv .1) _ (c .before .before .before .loop-test .taken) long
+          (sym (c .before .address-fits .ensures) ∙ not-false _ (c .if1 .left)),
+    )
 
 returns-2 : tie.Need-returns-2 Inv-loop μ-loop
-returns-2 c = sym (first-all addressFits _ (c .before .before .args .t1) (c .before .before .args .n) (c .before .loop .i) (c .before .loop .inv .1) (c .loop-test .left))
+returns-2 c = sym (first-all addressFits _ (c .before .before .args .t1) (c .before .before .args .n) (c .before .loop .i) (c .before .loop .inv .1)
+    (c .loop-test .left))
 
 pub addresses-fit-spec : {M : Type 1} → statement M
 addresses-fit-spec =
