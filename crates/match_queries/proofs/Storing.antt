@@ -2,9 +2,10 @@
 use mathlib.Core.Path.{_≡_, sym, ap, _∙_}
 use mathlib.Core.List.{List, _∷_, _++_, map}
 use Prim.Native.Nat.{ℕ, suc, _+_, _≤_, _<_}
+use native.Mathlib.Numerals.{add-one}
 use native.Mathlib.Omega.{arith}
 use lib.ListN.{length, take, drop, getD, set, drop-of-length-le, length-map, List·getD-map}
-use lib.Seq.{sets, sets-eq}
+use lib.Seq.{drop-cons, sets, sets-eq}
 use Rattle.definitions.specs.declared.packets.Start.{Start}
 use Rattle.definitions.specs.Starts.{startAt, startNumber}
 
@@ -12,6 +13,12 @@ use Rattle.definitions.specs.Starts.{startAt, startNumber}
 
 pub stores-none : (out : List ℕ) (at : ℕ) (vs : List ℕ) → sets out at vs ≡ sets out (at + 0) (drop 0 vs)
 stores-none out at vs = let e : at + 0 ≡ at = omega arith in rw e
+
+stores-one : (out : List ℕ) (at : ℕ) (vs : List ℕ) (j : ℕ) → j < length vs
+    → sets out (at + j) (drop j vs) ≡ sets (set out (at + j) (getD vs j 0)) (at + (j + 1)) (drop (j + 1) vs)
+stores-one out at vs j h =
+    let e : at + (j + 1) ≡ suc (at + j) = omega arith in
+    rw (e, add-one j, drop-cons vs j 0 h)
 
 -- a list of starts, by their numbers
 pub stores-start : (out : List ℕ) (at : ℕ) (ss : List Start) (j : ℕ) (n : ℕ) → j < length ss → n ≡ startNumber (getD ss j (startAt 0))

@@ -12,13 +12,13 @@ ghost use Rattle.search_state.specs.Choosing.{push, answer, startFrom};
 use crate::outcomes::Outcome;
 use crate::outcomes::no_match;
 use definitions::packets::LastMatch;
-use definitions::packets::Match;
 use definitions::packets::Placement;
 use definitions::packets::Start;
 use definitions::table::Pattern;
 use match_starts::same_start;
 use match_starts::start_at;
 use match_starts::start_before;
+use table_references::usable::last_ending;
 
 // After the last item: the starts chosen are a placement, but for the one to pass itself.
 pub fn finish(chosen: Placement, on_bound: bool) -> Outcome
@@ -74,12 +74,5 @@ pub fn last_after(last: LastMatch, p: Pattern, s: Start) -> LastMatch
     requires { ⌜ s .at + p .len < sizeBound ⌝ }
     ensures { λ r. ⌜ r ≡ lastAfter last p s ⌝ }
 {
-    if p.negated {
-        return last;
-    }
-    let context = p.context;
-    LastMatch::Some(Match {
-        context,
-        end: s.at + p.len,
-    })
+    last_ending(last, p, s.at + p.len)
 }

@@ -1,7 +1,9 @@
 // Which references of one pattern are usable, after the last positive pattern before it.
 ghost use mathlib.Core.Path.{_≡_};
+ghost use Prim.Native.Nat.{_+_};
 ghost use lib.IntN.{pos};
 ghost use lib.Signed.{leZ};
+ghost use Rattle.definitions.specs.declared.packets.Start.{Start};
 ghost use Rattle.definitions.specs.Starts.{startAt};
 ghost use Rattle.definitions.specs.References.{contextNumber, referenceNumber, lastAfter, lastIn, referenceUsable, reverseUsable, distanceUsable, withinUsable, referencesAlike, usable};
 use definitions::packets::LastMatch;
@@ -37,18 +39,22 @@ fn reference_number(r: Reference) -> u8
     }
 }
 
-// The last positive pattern, after `p`.
-pub fn last_after(last: LastMatch, p: Pattern) -> LastMatch
-    ensures { λ r. ⌜ r ≡ lastAfter last p (startAt 0) ⌝ }
+// The last positive pattern, after `p` that ends at a place: a negated one moves no reference.
+pub fn last_ending(last: LastMatch, p: Pattern, end: usize) -> LastMatch
+    ensures { λ r. ⌜ ((s : Start) → end ≡ s .at + p .len → r ≡ lastAfter last p s) ⌝ }
 {
     if p.negated {
         return last;
     }
     let context = p.context;
-    LastMatch::Some(Match {
-        context,
-        end: p.len,
-    })
+    LastMatch::Some(Match { context, end })
+}
+
+// The same where it plays no part at which start `p` lies.
+pub fn last_after(last: LastMatch, p: Pattern) -> LastMatch
+    ensures { λ r. ⌜ r ≡ lastAfter last p (startAt 0) ⌝ }
+{
+    last_ending(last, p, p.len)
 }
 
 // The last positive pattern, if there is one, stands in the context.

@@ -31,14 +31,14 @@ stays (pos n) t = tt
 stays (negsuc n) t = absurd (true≢false t)
 
 module _ (z : ℤ) (h : SFits w32 z) where
-  bigEndian : SFits w64 z
-  bigEndian = record { sfits = omega (arith, h .sfits) }
+  fits-wide : SFits w64 z
+  fits-wide = record { sfits = omega (arith, h .sfits) }
 
   pub cast-fits : SFits w64 (toZ w32 (ofZ w32 z))
-  cast-fits = rw (toZ-ofZ w32 z h) bigEndian
+  cast-fits = rw (toZ-ofZ w32 z h) fits-wide
 
   pub widened : W z ≡ z
-  widened = rw (toZ-ofZ w32 z h) (toZ-ofZ w64 z bigEndian)
+  widened = rw (toZ-ofZ w32 z h) (toZ-ofZ w64 z fits-wide)
 
   turned : ltZ (W z) (pos 0) ≡ true → Turns z (pos 0 -ℤ z)
   turned t = turns z (h .sfits) (subst (λ (x : ℤ). ltZ x (pos 0) ≡ true) widened t)

@@ -23,11 +23,11 @@ use write_pattern_bytes::put_bytes;
 fn magnitude(z: i32) -> u64
     ensures { λ r. ⌜ r ≡ natAbs z ⌝ }
 {
-    let bigEndian = z as i64;
-    if bigEndian < 0 {
-        (-bigEndian) as u64
+    let wide = z as i64;
+    if wide < 0 {
+        (-wide) as u64
     } else {
-        bigEndian as u64
+        wide as u64
     }
 }
 

@@ -27,11 +27,14 @@ put-decimal-requires-2 c κs = tt
 
 returns : tie.Need-returns
 returns c =
+    let put = c .before .before .before .before .before .before in
+    let first = put .before .before .before .before in
+    let number = first .before in
+    let word = number .before .before .before .before in
+    let args = word .before .before .before .before .args in
     told
-    (ap (λ (n : ℕ). text "text " ++ (decimal n ++ (text " " ++ decimal (c .before .before .before .before .before .before .before .before .before .before .before .before .before .before .before .before .before .before .before .args .place)))) (sym (c .before .before .before .before .before .before .before .before .before .before .before .number-of .ensures)))
-    (then (c .before .before .before .before .before .before .before .before .before .before .before .before .before .before .before .put-word .ensures)
-    (then (c .before .before .before .before .before .before .before .before .before .before .put-decimal .ensures)
-    (then (c .before .before .before .before .before .before .put .ensures) (c .before .before .put-decimal2 .ensures))))
+    (ap (λ (n : ℕ). text "text " ++ (decimal n ++ (text " " ++ decimal (args .place)))) (sym (number .number-of .ensures)))
+    (then (word .put-word .ensures) (then (first .put-decimal .ensures) (then (put .put .ensures) (c .before .before .put-decimal2 .ensures))))
 
 same-length : tie.Need-same-length
 same-length c = same (returns c)

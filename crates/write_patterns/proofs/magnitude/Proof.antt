@@ -8,8 +8,8 @@ use borrow.Author.Needs.{needs}
 use Rattle.write_patterns.proofs.magnitude.Statement.{statement}
 use Rattle.write_patterns.proofs.magnitude.Tie as tie
 
-cast-be : tie.Need-cast-be
-cast-be c = let f : SFits w32 (c .args .z) = search needs in cast-fits (c .args .z) f
+cast-wide : tie.Need-cast-wide
+cast-wide c = let f : SFits w32 (c .args .z) = search needs in cast-fits (c .args .z) f
 
 sub-result : tie.Need-sub-result
 sub-result c = let f : SFits w32 (c .before .args .z) = search needs in turned-fits (c .before .args .z) f (c .if1 .taken)
@@ -28,4 +28,4 @@ returns-2 c = let f : SFits w32 (c .before .args .z) = search needs in ap natAbs
 
 pub magnitude-spec : {M : Type 1} → statement M
 magnitude-spec =
-    tie.close (tie.spec cast-be sub-result cast-result cast-result-2 returns returns-2)
+    tie.close (tie.spec cast-wide sub-result cast-result cast-result-2 returns returns-2)

@@ -1,16 +1,17 @@
--- Each return rewrites with the test that led there.
+-- The pattern ends its length after the start.
+use mathlib.Core.Path.{refl}
 use borrow.Author.Needs.{needs}
 use Rattle.search_state.proofs.chosen.last_after.Statement.{statement}
 use Rattle.search_state.proofs.chosen.last_after.Tie as tie
 
+add-last-ending : tie.Need-add-last-ending
+add-last-ending c = search needs
+
+last-ending-requires : tie.Need-last-ending-requires
+last-ending-requires c κs = tt
+
 returns : tie.Need-returns
-returns c = search needs
-
-add-t6 : tie.Need-add-t6
-add-t6 c = search needs
-
-returns-2 : tie.Need-returns-2
-returns-2 c = simp (c .before .before .if1 .left)
+returns c = c .last-ending .ensures _ refl
 
 pub last-after-spec : {M : Type 1} → statement M
-last-after-spec = tie.close (tie.spec returns add-t6 returns-2)
+last-after-spec = tie.close (tie.spec add-last-ending last-ending-requires returns)

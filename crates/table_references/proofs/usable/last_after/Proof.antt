@@ -1,14 +1,15 @@
--- Each return rewrites with the test that led there; a start at 0 adds nothing to the length.
+-- A start at 0 adds nothing to the length.
+use mathlib.Core.Path.{sym}
 use native.Mathlib.Nat.{zero-add}
-use borrow.Author.Needs.{needs}
+use Rattle.definitions.specs.Starts.{startAt}
 use Rattle.table_references.proofs.usable.last_after.Statement.{statement}
 use Rattle.table_references.proofs.usable.last_after.Tie as tie
 
-returns : tie.Need-returns
-returns c = search needs
+last-ending-requires : tie.Need-last-ending-requires
+last-ending-requires c κs = tt
 
-returns-2 : tie.Need-returns-2
-returns-2 c = simp (c .if1 .left, zero-add)
+returns : tie.Need-returns
+returns c = c .last-ending .ensures (startAt 0) (sym (zero-add _))
 
 pub last-after-spec : {M : Type 1} → statement M
-last-after-spec = tie.close (tie.spec returns returns-2)
+last-after-spec = tie.close (tie.spec last-ending-requires returns)
