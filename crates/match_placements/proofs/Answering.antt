@@ -28,7 +28,7 @@ use Rattle.fields.specs.Seen.{seen}
 use Rattle.search_state.specs.declared.outcomes.Outcome.{Outcome}
 use Rattle.search_state.specs.Outcomes.{outcomeOf}
 use Rattle.search_state.specs.Choosing.{afterIf}
-use Rattle.match_placements.specs.Listing.{answerOf, listIn, firstIn, nextIn}
+use Rattle.match_placements.specs.Listing.{answerOf, listIn, firstInList, nextInList}
 
 answer-head : (l : List (List Start)) → answerOf (outcomeOf l) ≡ headOf l
 answer-head [] = refl
@@ -43,31 +43,31 @@ module _ (t : Table) (f : PacketHeader) (s d : List ℕ) (dir : Direction) (m : 
   -- w is what the test of the fields says, y the answer given
   module _ {w : Check} (ew : w ≡ fieldsCheck s d m) {y : Answer} where
     module _ {r : Refusal} (k : w ≡ Refuse r) (g : y ≡ refusedAnswer r) where
-      pub first-refused : y ≡ firstIn t f s d dir m
-      unfolding firstIn
+      pub first-refused : y ≡ firstInList t f s d dir m
+      unfolding firstInList
       first-refused = rw (sym ew ∙ k) g
 
-      pub next-refused : (h : Placement) → y ≡ nextIn t f s d dir m h
-      unfolding nextIn
+      pub next-refused : (h : Placement) → y ≡ nextInList t f s d dir m h
+      unfolding nextInList
       next-refused h = rw (sym ew ∙ k) g
 
     module _ (k : w ≡ Pass) where
       pub first-found : (b : List Start) {x : Outcome} → x ≡ outcomeOf (keep (afterIf false b) (listIn t f s d dir m)) → y ≡ answerOf x
-          → y ≡ firstIn t f s d dir m
-      unfolding firstIn
+          → y ≡ firstInList t f s d dir m
+      unfolding firstInList
       first-found b e g = g ∙ rw (sym ew ∙ k, e, keep-every b (listIn t f s d dir m)) (answer-head (listIn t f s d dir m))
 
       -- n is the number of positive patterns
       module _ (h : Placement) {n : ℕ} (en : n ≡ positives (itemsOf t)) where
         pub next-found : h .count ≡ n → {x : Outcome} → x ≡ outcomeOf (keep (afterIf true (h .starts)) (listIn t f s d dir m)) → y ≡ answerOf x
-            → y ≡ nextIn t f s d dir m h
-        unfolding nextIn
+            → y ≡ nextInList t f s d dir m h
+        unfolding nextInList
         next-found eh e g =
             let short : (q : List Start) → Mem q (listIn t f s d dir m) → length q ≤ h .count = λ q i. omega (arith, listed-length t (seen f s d m) dir q i) in
             g
             ∙ rw (sym ew ∙ k, eq-eqb (h .count) (positives (itemsOf t)) (eh ∙ en), e, keep-take (h .count) (h .starts) (listIn t f s d dir m) short)
             (answer-head (keep (lexLess (take (h .count) (h .starts))) (listIn t f s d dir m)))
 
-        pub next-uncounted : (h .count ≡ n → ⊥) → y ≡ refusedAnswer refusal.EarlierCount → y ≡ nextIn t f s d dir m h
-        unfolding nextIn
+        pub next-uncounted : (h .count ≡ n → ⊥) → y ≡ refusedAnswer refusal.EarlierCount → y ≡ nextInList t f s d dir m h
+        unfolding nextInList
         next-uncounted ne g = g ∙ rw (sym ew ∙ k, ne-eqb (h .count) (positives (itemsOf t)) (λ z. ne (z ∙ sym en)))

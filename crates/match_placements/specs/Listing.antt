@@ -29,9 +29,9 @@ module _ (t : Table) (f : PacketHeader) (s d : List ℕ) (dir : Direction) (m : 
   listIn = listed t (seen f s d m) dir
 
   -- 35, or the first of the list, or none
-  unfoldable pub firstIn : Answer
-  firstIn = unless (fieldsCheck s d m) (headOf listIn)
+  unfoldable pub firstInList : Answer
+  firstInList = unless (fieldsCheck s d m) (headOf listIn)
 
   -- 35, then 36, which looks at the table alone; or the least of the list after the placement held, or none
-  unfoldable pub nextIn : Placement → Answer
-  nextIn h = unless (andThen (fieldsCheck s d m) (earlierCheck t s d dir m h)) (headOf (keep (lexLess (startsOf h)) listIn))
+  unfoldable pub nextInList : Placement → Answer
+  nextInList h = unless (andThen (fieldsCheck s d m) (earlierCheck t s d dir m h)) (headOf (keep (lexLess (startsOf h)) listIn))

@@ -5,7 +5,7 @@ mod positives;
 
 ghost use mathlib.Core.Path.{_≡_};
 ghost use Rattle.search.specs.Searching.{Searchable};
-ghost use Rattle.match_placements.specs.Listing.{firstIn, nextIn};
+ghost use Rattle.match_placements.specs.Listing.{firstInList, nextInList};
 use crate::answers::answered;
 use crate::answers::refused;
 use crate::positives::positive_count;
@@ -32,7 +32,7 @@ pub fn first_in<'a>(
     m: FieldMap,
 ) -> Answer
     requires { ⌜ Searchable t (now payload) (now decoded) ⌝ }
-    ensures { λ r. ⌜ r ≡ firstIn t header (now (payload .entry)) (now (decoded .entry)) dir m ⌝ }
+    ensures { λ r. ⌜ r ≡ firstInList t header (now (payload .entry)) (now (decoded .entry)) dir m ⌝ }
 {
     let check = fields_check(payload, decoded, m);
     if let Check::Refuse(r) = check {
@@ -62,7 +62,7 @@ pub fn next_in<'a>(
     held: Placement,
 ) -> Answer
     requires { ⌜ Searchable t (now payload) (now decoded) ⌝ }
-    ensures { λ r. ⌜ r ≡ nextIn t header (now (payload .entry)) (now (decoded .entry)) dir m held ⌝ }
+    ensures { λ r. ⌜ r ≡ nextInList t header (now (payload .entry)) (now (decoded .entry)) dir m held ⌝ }
 {
     let check = fields_check(payload, decoded, m);
     if let Check::Refuse(r) = check {

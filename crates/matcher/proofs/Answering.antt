@@ -18,7 +18,7 @@ use Rattle.definitions.specs.declared.answers.Answer.{Answer}
 use Rattle.definitions.specs.Fields.{fieldsCheck}
 use Rattle.definitions.specs.Answers.{refusedAnswer, headOf, unless, verdictBy, verdictAnswer, firstAnswer, nextAnswer}
 use Rattle.match_checks.specs.InputChecks.{inputHeader}
-use Rattle.match_placements.specs.Listing.{listIn, firstIn, nextIn}
+use Rattle.match_placements.specs.Listing.{listIn, firstInList, nextInList}
 use Rattle.match_placements.proofs.CheckedInput.{CheckedInput, refused-check, check-here, list-here}
 use Rattle.matcher.specs.Verdicts.{verdictOf}
 
@@ -46,14 +46,14 @@ verdict-head Pass (q ∷ l) = refl
 verdict-head (Refuse r) l = refl
 
 module _ {t : Table} {p d : List ℕ} {f : PacketHeader} {s : List ℕ} (c : CheckedInput t p d f s) (dir : Direction) (m : FieldMap) where
-  pub verdict-here : verdictOf (firstIn t f s d dir m .found) ≡ verdictAnswer t p d dir m
-  unfolding firstIn verdictAnswer
+  pub verdict-here : verdictOf (firstInList t f s d dir m .found) ≡ verdictAnswer t p d dir m
+  unfolding firstInList verdictAnswer
   verdict-here = rw (check-here c dir m, list-here c dir m) (verdict-head (fieldsCheck s d m) (listIn t f s d dir m))
 
-  pub first-here : firstIn t f s d dir m ≡ firstAnswer t p d dir m
-  unfolding firstIn firstAnswer
+  pub first-here : firstInList t f s d dir m ≡ firstAnswer t p d dir m
+  unfolding firstInList firstAnswer
   first-here = rw (check-here c dir m, list-here c dir m)
 
-  pub next-here : (h : Placement) → nextIn t f s d dir m h ≡ nextAnswer t p d dir m h
-  unfolding nextIn nextAnswer
+  pub next-here : (h : Placement) → nextInList t f s d dir m h ≡ nextAnswer t p d dir m h
+  unfolding nextInList nextAnswer
   next-here h = rw (check-here c dir m, list-here c dir m)

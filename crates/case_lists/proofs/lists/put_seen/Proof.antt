@@ -1,7 +1,7 @@
 -- The answer to "first" is written where it is no placement; else the placement, and those after it.
 use Rattle.definitions.specs.Fields.{fieldsCheck}
 use Rattle.write_bytes.proofs.Putting.{then, told, same-length as same}
-use Rattle.match_placements.specs.Listing.{listIn, firstIn}
+use Rattle.match_placements.specs.Listing.{listIn, firstInList}
 use Rattle.case_lists.proofs.Rest.{list-ordered}
 use Rattle.case_lists.proofs.Listing.{first-not, first-one}
 use Rattle.case_lists.proofs.lists.put_seen.Statement.{statement}
@@ -17,7 +17,7 @@ put-answer-requires : tie.Need-put-answer-requires
 put-answer-requires c κs = tt
 
 returns : tie.Need-returns
-unfolding firstIn
+unfolding firstInList
 returns c =
     let x = c .before .before .before .before .before .before .before .before .before .args in
     let w = fieldsCheck (x .payload .now) (x .decoded .now) (x .m) in
@@ -32,7 +32,7 @@ put-after-requires : tie.Need-put-after-requires
 put-after-requires c κs = c .before .before .before .before .before .before .before .before .before .before .before .before .before .pre
 
 returns-2 : tie.Need-returns-2
-unfolding firstIn
+unfolding firstInList
 returns-2 c =
     let p = c .before .before .before .before .before .before .before in
     let a = p .before .before .before .before .before in
