@@ -14,6 +14,7 @@ use Rattle.forms.specs.Bytes.{run}
 use Rattle.forms.proofs.Bools.{by-cases}
 use Rattle.definitions.specs.Lists.{all?}
 use Rattle.line_stream.specs.Steps.{inLine, lfFrom, lineFrom}
+use Rattle.list_laws.proofs.Runs.{run-le}
 
 -- ---- the search for it, byte by byte
 
@@ -32,11 +33,6 @@ module _ (s : List ℕ) (i : ℕ) where
 
 -- ---- bytes before the first LF
 
-front-le : (l : List ℕ) → run inLine l ≤ length l
-unfolding run
-front-le [] = omega arith
-front-le (b ∷ l) = by-cases (eqb b 10) (λ t. rw t (omega arith)) (λ f. rw f (omega (arith, front-le l)))
-
 front-ends : (l : List ℕ) → run inLine l < length l → getD l (run inLine l) 0 ≡ 10
 unfolding run
 front-ends [] h = absurd (not-suc-le-zero h)
@@ -54,7 +50,7 @@ front-whole (b ∷ l) = by-cases (eqb b 10) (λ t. rw t) (λ f. rw (f, f) (front
 
 module _ (s : List ℕ) (i : ℕ) where
   pub line-within : i ≤ length s → lfFrom s i ≤ length s
-  line-within h = omega (arith, h, front-le (drop i s), length-drop i s)
+  line-within h = omega (arith, h, run-le inLine (drop i s), length-drop i s)
 
   pub line-lf : lfFrom s i < length s → getD s (lfFrom s i) 0 ≡ 10
   line-lf h =

@@ -4,7 +4,7 @@ use mathlib.Core.Path.{_≡_, refl, sym, ap, ap₂, _∙_}
 use mathlib.Core.Bool.{Bool, true, false}
 use mathlib.Core.List.{List, [], _∷_, _++_}
 use mathlib.Core.Logic.{_↔_}
-use Prim.Native.Nat.{ℕ, suc, _+_, _-_, _≤_, _<_}
+use Prim.Native.Nat.{ℕ, suc, _+_, _-_, _<_}
 use native.Mathlib.Omega.{arith}
 use lib.ListN.{length, length-append, take, drop, length-drop, take-append-drop}
 use lib.Seq.{drop-drop, drop-append-seam, take-append-seam}
@@ -15,6 +15,7 @@ use Rattle.forms.proofs.Bools.{by-cases, both-left, both-right}
 use Rattle.forms.proofs.Sound.{never}
 use Rattle.definitions.specs.Lists.{all?, sameBytes}
 use Rattle.definitions.specs.Options.{printable, opening}
+use Rattle.list_laws.proofs.Runs.{run-le}
 
 -- ---- places
 
@@ -33,11 +34,6 @@ parted s at n r d = sym (take-append-drop n (drop at s)) ∙ ap (λ u. take n (d
 -- ---- printable
 
 module _ (p : ℕ → Bool) where
-  run-le : (s : List ℕ) → run p s ≤ length s
-  unfolding run
-  run-le [] = omega arith
-  run-le (b ∷ s) = by-cases (p b) (λ t. rw t (omega (arith, run-le s))) (λ t. rw t (omega arith))
-
   pub all-run : (s : List ℕ) → all? p s ≡ true → run p s ≡ length s
   unfolding all? run
   all-run [] e = refl
@@ -53,7 +49,7 @@ module _ (p : ℕ → Bool) where
 
   pub run-exactly : (s : List ℕ) → (ltb (run p s) (length s) ≡ false) ↔ (all? p s ≡ true)
   run-exactly s = (
-    λ e. let g = ltb-false (run p s) (length s) e in run-all s (omega (arith, g, run-le s)),
+    λ e. let g = ltb-false (run p s) (length s) e in run-all s (omega (arith, g, run-le p s)),
     λ e. let q = all-run s e in le-ltb (run p s) (length s) (omega (arith, q)),
   )
 
