@@ -22,7 +22,7 @@ use Rattle.match_placements.specs.Listing.{listIn, firstInList, nextInList}
 use Rattle.match_placements.proofs.CheckedInput.{CheckedInput, refused-check, check-here, list-here}
 use Rattle.matcher.specs.Verdicts.{verdictOf}
 
--- ---- a refusal is due: a is what was cleared, x the answer given
+-- ---- a refusal is due: a is what the checks answered, x the answer given
 
 module _ (t : Table) (p d : List ℕ) (dir : Direction) (m : FieldMap) {a : PacketAnswer} (e : a ≡ inputHeader t p d) {r : Refusal}
     (k : a ≡ packet.Refused r) where
@@ -38,7 +38,7 @@ module _ (t : Table) (p d : List ℕ) (dir : Direction) (m : FieldMap) {a : Pack
   unfolding nextAnswer
   next-refused h g = rw (refused-check t p d e k dir m) g
 
--- ---- the packet is cleared: f and s are its header fields and payload
+-- ---- the packet passed its checks: f and s are its header fields and payload
 
 verdict-head : (w : Check) (l : List (List Start)) → verdictOf (unless w (headOf l) .found) ≡ verdictBy w l
 verdict-head Pass [] = refl
