@@ -14,7 +14,7 @@ use Rattle.scan_cursors.specs.declared.Cursor.the-variants.{Parsed}
 use Rattle.scan_cursors.specs.Reads.{Reads}
 use Rattle.read_options.specs.declared.valued.Valued.{Valued}
 use Rattle.read_state.specs.State.{Apart}
-use Rattle.read_stored.proofs.Appended.{appended-none}
+use Rattle.read_quoted.proofs.Appended.{appended-none}
 use Rattle.read_by_name.specs.declared.parsed.ParsedOption.{ParsedOption}
 use Rattle.read_by_name.specs.Parsing.{plainOption, Parses}
 use Rattle.read_by_name.proofs.EndPlaces.{grown-none}

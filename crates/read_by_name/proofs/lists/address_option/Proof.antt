@@ -4,7 +4,7 @@ use mathlib.Core.List.{[]}
 use Rattle.read_value.specs.Values.{patternBytesOf, optionValueOf}
 use Rattle.scan_cursors.proofs.Readings.{made-reads, pair-reads}
 use Rattle.read_options.proofs.Closing.{valued-reads}
-use Rattle.read_stored.proofs.Appended.{appended-none}
+use Rattle.read_quoted.proofs.Appended.{appended-none}
 use Rattle.read_by_name.proofs.EndPlaces.{grown-none}
 use borrow.Author.Needs.{needs}
 use Rattle.read_by_name.proofs.lists.address_option.Statement.{statement}

@@ -9,7 +9,7 @@ use Rattle.scan_cursors.specs.Reads.{Reads}
 use Rattle.scan_cursors.proofs.Readings.{made-reads}
 use Rattle.scan_cursors.proofs.Onward.{came-going}
 use Rattle.read_options.proofs.Closing.{valued-reads}
-use Rattle.read_stored.proofs.Appended.{appended-none}
+use Rattle.read_quoted.proofs.Appended.{appended-none}
 use Rattle.read_by_name.proofs.EndPlaces.{grown-none}
 use borrow.Author.Needs.{needs}
 use Rattle.read_by_name.proofs.lists.name_option.Statement.{statement}

@@ -4,7 +4,7 @@ use mathlib.Core.List.{[]}
 use Rattle.read_value.specs.Values.{optionValueOf}
 use Rattle.scan_cursors.proofs.Readings.{made-reads, pair-reads}
 use Rattle.read_options.proofs.Closing.{valued-reads}
-use Rattle.read_stored.proofs.Appended.{ready-on, stored-after, stored-before}
+use Rattle.read_quoted.proofs.Appended.{ready-on, stored-after, stored-before}
 use borrow.Author.Needs.{needs}
 use Rattle.read_by_name.proofs.lists.pattern_option.Statement.{statement}
 use Rattle.read_by_name.proofs.lists.pattern_option.Tie as tie

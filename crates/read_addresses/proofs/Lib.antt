@@ -1,0 +1,2 @@
+-- How these scanners' readings go together.
+pub mod Commas

@@ -1,0 +1,2 @@
+-- What the scanners promise.
+pub mod Listing

@@ -1,0 +1,3 @@
+-- What the scanners promise.
+pub mod Quoting
+pub mod Storing

@@ -1,4 +1,0 @@
--- What the scanners promise.
-pub mod Quoting
-pub mod Storing
-pub mod Listing
