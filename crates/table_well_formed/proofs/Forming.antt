@@ -15,7 +15,7 @@ use Rattle.definitions.specs.Lists.{all?}
 use Rattle.definitions.specs.Items.{patternsOf, slotsOf}
 use Rattle.definitions.specs.References.{usableRun}
 use Rattle.definitions.specs.WellFormed.{isZero, nameFits, slotFits, slotUnused, patternCount, itemsFit, bytesOf, bytesFit, wellFormed}
-use Rattle.table_well_formed.specs.Walking.{slotsFit, itemsWell}
+use Rattle.table_well_formed.specs.ItemsTest.{slotsFit, itemsWell}
 
 pub few-items : (t : Table) → itemsFit t ≡ true → t .count ≤ maxItems
 unfolding itemsFit

@@ -20,8 +20,9 @@ use Rattle.definitions.specs.Starts.{startAt}
 use Rattle.definitions.specs.References.{lastAfter, usable, usableRun}
 use Rattle.definitions.specs.WellFormed.{slotFits, bytesOf}
 use Rattle.list_laws.proofs.Firsts.{first-here, first-out}
-use Rattle.table_well_formed.specs.declared.walking.Walk.{Walk}
-use Rattle.table_well_formed.specs.Walking.{started, mayFollow, kindPasses, mayPass, pastKind, pastItem, endsWell, slotsFit}
+use Rattle.table_items.specs.declared.Passed.{Passed}
+use Rattle.table_items.specs.Passing.{nonePassed, mayFollow, kindPasses, mayPass, pastKind, pastItem, endsWell}
+use Rattle.table_well_formed.specs.ItemsTest.{slotsFit}
 
 -- counting down from a number decides whether it is the sum
 sum-short : (left n m : ℕ) → left < n → eqb left (n + m) ≡ false
@@ -50,7 +51,7 @@ module _ (last : LastMatch) (p : Pattern) (ps : List Pattern) where
 counts : ℕ → ℕ → Bool → Bool → Bool
 counts count patterns spent run = leb patterns maxPatterns && (leb (count - patterns) maxTests && (spent && run))
 
-ending : ℕ → Walk → List Pattern → Bool
+ending : ℕ → Passed → List Pattern → Bool
 ending count w ps = counts count (w .patterns + length ps) (eqb (w .left) (bytesOf ps)) (eqb (usableRun (w .last) ps) (length ps))
 
 not-spent : (count patterns : ℕ) (run : Bool) → counts count patterns false run ≡ false
@@ -61,7 +62,7 @@ not-run : (count patterns : ℕ) (spent : Bool) → counts count patterns spent 
 unfolding counts
 not-run count patterns spent = simp and-false
 
-module _ (count : ℕ) (w : Walk) (ps : List Pattern) where
+module _ (count : ℕ) (w : Passed) (ps : List Pattern) where
   pattern-on : (p : Pattern) → mayFollow w p ≡ true → ending count w (p ∷ ps) ≡ ending count (pastKind w (patterned p)) ps
   unfolding ending bytesOf
   pattern-on p t =
@@ -89,19 +90,19 @@ module _ (count : ℕ) (w : Walk) (ps : List Pattern) where
   kind-not plainTest f = cc
 
 -- the walk's answer, where the slots sls are still to come
-pub answer : ℕ → Walk → List Slot → Bool
+pub answer : ℕ → Passed → List Slot → Bool
 answer count w sls = all? slotFits sls && ending count w (patternsOf sls)
 
 module _ (count : ℕ) where
-  walk-in : (used : ℕ) (sls : List Slot) → answer count (started used) sls ≡ slotsFit count used sls
+  walk-in : (used : ℕ) (sls : List Slot) → answer count (nonePassed used) sls ≡ slotsFit count used sls
   unfolding answer slotsFit ending counts
   walk-in used sls = rw zero-add
 
-  walk-out : (w : Walk) → answer count w [] ≡ endsWell w count
+  walk-out : (w : Passed) → answer count w [] ≡ endsWell w count
   unfolding answer ending counts all? patternsOf bytesOf usableRun
   walk-out w = rw (add-zero, and-true)
 
-  module _ (w : Walk) (sl : Slot) (sls : List Slot) where
+  module _ (w : Passed) (sl : Slot) (sls : List Slot) where
     walk-on : mayPass w sl ≡ true → answer count w (sl ∷ sls) ≡ answer count (pastItem w sl) sls
     unfolding answer all? patternsOf
     walk-on t = rw (both-left (slotFits sl) _ t, kind-on count w (patternsOf sls) (kindOf (sl .item)) (both-right (slotFits sl) _ t))
@@ -114,22 +115,22 @@ module _ (count : ℕ) where
         (λ n. rw n)
 
 -- what the loop keeps at the place i, where `count` of the items are in use
-pub record Walked (items : List Slot) (count used i : ℕ) (w : Walk) : Type 0 where
+pub record Walked (items : List Slot) (count used i : ℕ) (w : Passed) : Type 0 where
   pub inside : i ≤ count
   pub few : w .patterns ≤ i
   pub same : slotsFit count used (take count items) ≡ answer count w (drop i (take count items))
 
-past-few : (w : Walk) (k : Kind) → pastKind w k .patterns ≤ w .patterns + 1
+past-few : (w : Passed) (k : Kind) → pastKind w k .patterns ≤ w .patterns + 1
 past-few w unused = omega arith
 past-few w (addressed a) = omega arith
 past-few w (patterned p) = omega arith
 past-few w plainTest = omega arith
 
 module _ (items : List Slot) (count used : ℕ) where
-  pub walked-in : Walked items count used 0 (started used)
+  pub walked-in : Walked items count used 0 (nonePassed used)
   walked-in = record { inside = omega arith; few = omega arith; same = sym (walk-in count used (take count items)) }
 
-  module _ (i : ℕ) (w : Walk) (k : Walked items count used i w) where
+  module _ (i : ℕ) (w : Passed) (k : Walked items count used i w) where
     pub walked-out : count ≤ i → slotsFit count used (take count items) ≡ endsWell w count
     walked-out h = k .same ∙ ap (answer count w) (first-out items count i h) ∙ walk-out count w
 

@@ -1,2 +1,2 @@
--- What the contracts of `table_well_formed` cite: the code's own steps over the slots.
-pub mod Walking
+-- What the contracts of `table_well_formed` cite: the test of a table's items.
+pub mod ItemsTest

@@ -1,28 +1,26 @@
 // Whether a table is one that some text reads as: what refusal 20 goes by. Any numbers may stand in the table.
-mod walking;
-
 ghost use mathlib.Core.Path.{_≡_};
 ghost use Rattle.definitions.specs.WellFormed.{wellFormed};
-ghost use Rattle.table_well_formed.specs.Walking.{itemsWell};
-use crate::walking::begun;
-use crate::walking::ends_well;
-use crate::walking::may_pass;
-use crate::walking::past_item;
+ghost use Rattle.table_well_formed.specs.ItemsTest.{itemsWell};
 use definitions::limits::ITEMS;
 use definitions::table::Slot;
 use definitions::table::Table;
 use table_bytes::name_fits;
 use table_bytes::room_fits;
+use table_items::ends_well;
+use table_items::may_pass;
+use table_items::none_passed;
+use table_items::past_item;
 use table_slots::slot_unused;
 
-// The slots in use, then those after them, then what the walk ends with. Nothing called here takes the array: it would be copied at each call.
+// The slots in use, then those after them, then what those passed come to. Nothing called here takes the array: it would be copied at each call.
 fn items_fit(items: [Slot; ITEMS], count: usize, used: usize) -> bool
     ensures { λ r. ⌜ r ≡ itemsWell items count used ⌝ }
 {
     if ITEMS < count {
         return false;
     }
-    let mut w = begun(used);
+    let mut w = none_passed(used);
     let mut i = 0;
     while i < count {
         let slot = items[i];

@@ -9,7 +9,7 @@ use Rattle.definitions.specs.Limits.{maxItems}
 use Rattle.definitions.specs.Lists.{all?}
 use Rattle.definitions.specs.WellFormed.{slotUnused}
 use Rattle.list_laws.proofs.Every.{rest-on, rest-not, rest-out}
-use Rattle.table_well_formed.specs.Walking.{itemsWell}
+use Rattle.table_well_formed.specs.ItemsTest.{itemsWell}
 use Rattle.table_well_formed.proofs.ToEnd.{Walked, walked-in, walked-on, walked-not, walked-out}
 use Rattle.table_well_formed.proofs.items_fit.Statement.{statement}
 use Rattle.table_well_formed.proofs.items_fit.Tie as tie
@@ -30,11 +30,11 @@ returns : tie.Need-returns Inv-loop μ-loop Inv-loop2 μ-loop2
 unfolding itemsWell
 returns c = rw (lt-leb (c .before .args .count) maxItems (c .if1 .taken))
 
-begun-requires : tie.Need-begun-requires Inv-loop μ-loop Inv-loop2 μ-loop2
-begun-requires c κs = tt
+none-passed-requires : tie.Need-none-passed-requires Inv-loop μ-loop Inv-loop2 μ-loop2
+none-passed-requires c κs = tt
 
 loop-holds : tie.Need-loop-holds Inv-loop μ-loop Inv-loop2 μ-loop2
-loop-holds c = rw (c .begun .ensures) (walked-in _ _ _)
+loop-holds c = rw (c .none-passed .ensures) (walked-in _ _ _)
 
 mul-slot : tie.Need-mul-slot Inv-loop μ-loop Inv-loop2 μ-loop2
 mul-slot c = omega arith
@@ -137,7 +137,7 @@ items-fit-spec =
     Inv-loop2
     μ-loop2
     returns
-    begun-requires
+    none-passed-requires
     loop-holds
     mul-slot
     array-copy-out-slot

@@ -1,7 +1,7 @@
-// The walk over the slots in use: what the slots up to a place come to, and one slot more.
+// What the slots of a table that are passed so far come to, and one slot more: the steps of the test of its items.
 ghost use mathlib.Core.Path.{_≡_};
 ghost use Prim.Native.Nat.{_≤_};
-ghost use Rattle.table_well_formed.specs.Walking.{started, mayFollow, mayPass, Passable, pastItem, endsWell};
+ghost use Rattle.table_items.specs.Passing.{nonePassed, mayFollow, mayPass, Passable, pastItem, endsWell};
 use definitions::limits::PATTERNS;
 use definitions::limits::TESTS;
 use definitions::packets::LastMatch;
@@ -13,17 +13,17 @@ use table_references::usable::last_after;
 use table_slots::slot_fits;
 
 // How many patterns there are, how many of the bytes in use are not theirs, and the last positive pattern.
-pub struct Walk {
+pub struct Passed {
     pub patterns: usize,
     pub left: usize,
     pub last: LastMatch,
 }
 
 // No slot passed yet.
-pub fn begun(used: usize) -> Walk
-    ensures { λ r. ⌜ r ≡ started used ⌝ }
+pub fn none_passed(used: usize) -> Passed
+    ensures { λ r. ⌜ r ≡ nonePassed used ⌝ }
 {
-    Walk {
+    Passed {
         patterns: 0,
         left: used,
         last: LastMatch::None,
@@ -32,7 +32,7 @@ pub fn begun(used: usize) -> Walk
 
 // A pattern with no more bytes than are left, and with usable references. The bytes are counted down, since the lengths may be any numbers and
 // their sum too large.
-fn may_follow(w: Walk, p: Pattern) -> bool
+fn may_follow(w: Passed, p: Pattern) -> bool
     ensures { λ r. ⌜ r ≡ mayFollow w p ⌝ }
 {
     if w.left < p.len {
@@ -43,7 +43,7 @@ fn may_follow(w: Walk, p: Pattern) -> bool
 }
 
 // A slot that holds what it may; a pattern in it may follow those passed.
-pub fn may_pass(w: Walk, slot: Slot) -> bool
+pub fn may_pass(w: Passed, slot: Slot) -> bool
     ensures { λ r. ⌜ r ≡ mayPass w slot ⌝ }
 {
     if !slot_fits(slot) {
@@ -57,7 +57,7 @@ pub fn may_pass(w: Walk, slot: Slot) -> bool
 }
 
 // One slot more.
-pub fn past_item(w: Walk, slot: Slot) -> Walk
+pub fn past_item(w: Passed, slot: Slot) -> Passed
     requires { ⌜ Passable w slot ⌝ }
     ensures { λ r. ⌜ r ≡ pastItem w slot ⌝ }
 {
@@ -67,7 +67,7 @@ pub fn past_item(w: Walk, slot: Slot) -> Walk
     };
     let last = w.last;
     let next = last_after(last, p);
-    Walk {
+    Passed {
         patterns: w.patterns + 1,
         left: w.left - p.len,
         last: next,
@@ -75,7 +75,7 @@ pub fn past_item(w: Walk, slot: Slot) -> Walk
 }
 
 // The end, where so many items are in use: no more than 8 patterns and 16 tests, and no bytes left.
-pub fn ends_well(w: Walk, count: usize) -> bool
+pub fn ends_well(w: Passed, count: usize) -> bool
     requires { ⌜ w .patterns ≤ count ⌝ }
     ensures { λ r. ⌜ r ≡ endsWell w count ⌝ }
 {

@@ -5,9 +5,9 @@ use borrow.Author.Tests.{not-true, not-false}
 use borrow.Author.Needs.{needs}
 use Rattle.definitions.specs.Items.{Kind}
 use Rattle.definitions.proofs.OtherItems.{other-kind}
-use Rattle.table_well_formed.specs.Walking.{kindPasses}
-use Rattle.table_well_formed.proofs.walking.may_pass.Statement.{statement}
-use Rattle.table_well_formed.proofs.walking.may_pass.Tie as tie
+use Rattle.table_items.specs.Passing.{kindPasses}
+use Rattle.table_items.proofs.may_pass.Statement.{statement}
+use Rattle.table_items.proofs.may_pass.Tie as tie
 
 slot-fits-requires : tie.Need-slot-fits-requires
 slot-fits-requires c κs = tt

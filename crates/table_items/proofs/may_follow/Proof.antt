@@ -1,7 +1,7 @@
 -- Each return rewrites with the test that led there.
 use borrow.Author.Tests.{le-leb, lt-leb}
-use Rattle.table_well_formed.proofs.walking.may_follow.Statement.{statement}
-use Rattle.table_well_formed.proofs.walking.may_follow.Tie as tie
+use Rattle.table_items.proofs.may_follow.Statement.{statement}
+use Rattle.table_items.proofs.may_follow.Tie as tie
 
 returns : tie.Need-returns
 returns c =

@@ -3,8 +3,8 @@ use Prim.Native.Nat.{_-_}
 use borrow.Author.Tests.{le-leb, lt-leb}
 use borrow.Author.Needs.{needs}
 use Rattle.definitions.specs.Limits.{maxPatterns, maxTests}
-use Rattle.table_well_formed.proofs.walking.ends_well.Statement.{statement}
-use Rattle.table_well_formed.proofs.walking.ends_well.Tie as tie
+use Rattle.table_items.proofs.ends_well.Statement.{statement}
+use Rattle.table_items.proofs.ends_well.Tie as tie
 
 returns : tie.Need-returns
 returns c = rw (lt-leb (c .before .args .w .patterns) maxPatterns (c .if1 .taken))

@@ -1,4 +1,4 @@
--- An item that is no pattern is of one of three kinds, which leave the walk as it is; a pattern that may follow has no more bytes than are left.
+-- An item that is no pattern is of one of three kinds, which leave what is passed as it is; a pattern that may follow has no more bytes than are left.
 use mathlib.Core.Path.{_≡_, refl}
 use lib.Dec.{leb}
 use borrow.Author.Tests.{leb-true}
@@ -7,9 +7,9 @@ use Rattle.forms.proofs.Bools.{both-left, both-right}
 use Rattle.definitions.specs.Items.{Kind}
 use Rattle.definitions.specs.WellFormed.{slotFits}
 use Rattle.definitions.proofs.OtherItems.{other-kind}
-use Rattle.table_well_formed.specs.Walking.{pastKind}
-use Rattle.table_well_formed.proofs.walking.past_item.Statement.{statement}
-use Rattle.table_well_formed.proofs.walking.past_item.Tie as tie
+use Rattle.table_items.specs.Passing.{pastKind}
+use Rattle.table_items.proofs.past_item.Statement.{statement}
+use Rattle.table_items.proofs.past_item.Tie as tie
 
 enum-known-it : tie.Need-enum-known-it
 enum-known-it c = search needs
