@@ -28,7 +28,8 @@ use Rattle.fields.specs.Seen.{seen}
 use Rattle.search_state.specs.declared.outcomes.Outcome.{Outcome}
 use Rattle.search_state.specs.Outcomes.{outcomeOf}
 use Rattle.search_state.specs.Choosing.{afterIf}
-use Rattle.match_placements.specs.Listing.{answerOf, listIn, firstInList, nextInList}
+use Rattle.match_answers.specs.Answering.{answerOf}
+use Rattle.match_placements.specs.Listing.{listIn, firstInList, nextInList}
 
 answer-head : (l : List (List Start)) → answerOf (outcomeOf l) ≡ headOf l
 answer-head [] = refl

@@ -1,4 +1,3 @@
--- What a packet that passed its checks hands on, the answers of "first" and "next", and the number of positive patterns.
+-- What a packet that passed its checks hands on, and the answers of "first" and "next".
 pub mod CheckedInput
 pub mod Answering
-pub mod PositiveCounts

@@ -2,7 +2,6 @@
 -- decoded
 -- buffer d. Document 01, section "Meaning".
 use mathlib.Core.List.{List}
-use Rattle.forms.specs.Bytes.{if_then_else_}
 use Prim.Native.Nat.{ℕ}
 use Rattle.definitions.specs.declared.table.Table.{Table}
 use Rattle.definitions.specs.declared.packets.Direction.{Direction}
@@ -10,7 +9,6 @@ use Rattle.definitions.specs.declared.packets.PacketHeader.{PacketHeader}
 use Rattle.definitions.specs.declared.packets.FieldMap.{FieldMap}
 use Rattle.definitions.specs.declared.packets.Start.{Start}
 use Rattle.definitions.specs.declared.packets.Placement.{Placement}
-use Rattle.definitions.specs.declared.answers.Found.the-variants.{Placed, Nothing}
 use Rattle.definitions.specs.declared.answers.Answer.{Answer}
 use Rattle.definitions.specs.Lists.{keep}
 use Rattle.definitions.specs.Refusals.{andThen}
@@ -18,11 +16,6 @@ use Rattle.definitions.specs.Fields.{fieldsCheck}
 use Rattle.definitions.specs.Placements.{lexLess, listed}
 use Rattle.definitions.specs.Answers.{startsOf, headOf, unless, earlierCheck}
 use Rattle.fields.specs.Seen.{seen}
-use Rattle.search_state.specs.declared.outcomes.Outcome.{Outcome}
-
--- what a search has found, as an answer
-abbrev pub answerOf : Outcome → Answer
-answerOf x = record { found = if x .found then Placed else Nothing; placement = x .placement }
 
 module _ (t : Table) (f : PacketHeader) (s d : List ℕ) (dir : Direction) (m : FieldMap) where
   abbrev pub listIn : List (List Start)

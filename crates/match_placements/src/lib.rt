@@ -1,14 +1,8 @@
 // The list of placements by a datagram's header fields and payload: its first, and the least after a placement held. Refusals 35 and 36 come first, in this
 // order; those before them the caller has tested.
-pub mod answers;
-mod positives;
-
 ghost use mathlib.Core.Path.{_≡_};
 ghost use Rattle.search.specs.Searching.{Searchable};
 ghost use Rattle.match_placements.specs.Listing.{firstInList, nextInList};
-use crate::answers::answered;
-use crate::answers::refused;
-use crate::positives::positive_count;
 use definitions::answers::Answer;
 use definitions::answers::Check;
 use definitions::answers::Refusal;
@@ -20,6 +14,9 @@ use definitions::packets::Placement;
 use definitions::packets::Start;
 use definitions::table::Table;
 use fields::fields_check;
+use match_answers::answers::answered;
+use match_answers::answers::refused;
+use match_answers::positives::positive_count;
 use search::find;
 
 // Refusal 35, or the first of the list, or none.

@@ -17,10 +17,10 @@ use Rattle.definitions.specs.declared.answers.Verdict.the-variants as verdict
 use Rattle.definitions.specs.declared.answers.Answer.{Answer}
 use Rattle.definitions.specs.Fields.{fieldsCheck}
 use Rattle.definitions.specs.Answers.{refusedAnswer, headOf, unless, verdictBy, verdictAnswer, firstAnswer, nextAnswer}
+use Rattle.match_answers.specs.Verdicts.{verdictOf}
 use Rattle.match_checks.specs.InputChecks.{inputHeader}
 use Rattle.match_placements.specs.Listing.{listIn, firstInList, nextInList}
 use Rattle.match_placements.proofs.CheckedInput.{CheckedInput, refused-check, check-here, list-here}
-use Rattle.matcher.specs.Verdicts.{verdictOf}
 
 -- ---- a refusal is due: a is what the checks answered, x the answer given
 

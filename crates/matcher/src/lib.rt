@@ -2,31 +2,19 @@
 // and earlier placement; refusals 20 and 30 to 36 come first, in this order.
 ghost use mathlib.Core.Path.{_≡_};
 ghost use Rattle.definitions.specs.Answers.{verdictAnswer, firstAnswer, nextAnswer};
-ghost use Rattle.matcher.specs.Verdicts.{verdictOf};
 use definitions::answers::Answer;
-use definitions::answers::Found;
 use definitions::answers::PacketAnswer;
 use definitions::answers::Verdict;
 use definitions::packets::Direction;
 use definitions::packets::FieldMap;
 use definitions::packets::Placement;
 use definitions::table::Table;
+use match_answers::answers::refused;
+use match_answers::verdicts::verdict_of;
 use match_checks::check_input;
-use match_placements::answers::refused;
 use match_placements::first_in;
 use match_placements::next_in;
 use packet::payload_of;
-
-// The verdict that the answer to "first" comes to.
-fn verdict_of(f: Found) -> Verdict
-    ensures { λ v. ⌜ v ≡ verdictOf f ⌝ }
-{
-    match f {
-        Found::Placed => Verdict::Met,
-        Found::Nothing => Verdict::NotMet,
-        Found::Refused(r) => Verdict::Refused(r),
-    }
-}
 
 // THE VERDICT: met exactly if some placement meets the table.
 pub fn verdict<'a>(t: Table, p: &'a [u8], decoded: &'a [u8], dir: Direction, m: FieldMap) -> Verdict

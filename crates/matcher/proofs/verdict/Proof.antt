@@ -1,8 +1,8 @@
 -- A refusal is the first due of 20 and 30 to 34; else the verdict is what the first by header fields and payload comes to.
 use mathlib.Core.Path.{ap, _∙_}
 use Rattle.definitions.specs.declared.answers.Answer.{Answer}
+use Rattle.match_answers.specs.Verdicts.{verdictOf}
 use Rattle.match_placements.proofs.CheckedInput.{seen-checked, searchable}
-use Rattle.matcher.specs.Verdicts.{verdictOf}
 use Rattle.matcher.proofs.Answering.{verdict-refused, verdict-here}
 use Rattle.matcher.proofs.verdict.Statement.{statement}
 use Rattle.matcher.proofs.verdict.Tie as tie

@@ -1,7 +1,7 @@
 // What the entries make of an outcome or a refusal.
 ghost use mathlib.Core.Path.{_≡_};
 ghost use Rattle.definitions.specs.Answers.{refusedAnswer};
-ghost use Rattle.match_placements.specs.Listing.{answerOf};
+ghost use Rattle.match_answers.specs.Answering.{answerOf};
 use definitions::answers::Answer;
 use definitions::answers::Found;
 use definitions::answers::Refusal;

@@ -1,7 +1,7 @@
 -- By the case; a refusal stays one.
 use borrow.Author.Needs.{needs}
-use Rattle.matcher.proofs.verdict_of.Statement.{statement}
-use Rattle.matcher.proofs.verdict_of.Tie as tie
+use Rattle.match_answers.proofs.verdicts.verdict_of.Statement.{statement}
+use Rattle.match_answers.proofs.verdicts.verdict_of.Tie as tie
 
 enum-told : tie.Need-enum-told
 enum-told c = search needs

@@ -1,6 +1,6 @@
 -- Each return rewrites with the test that led there.
-use Rattle.match_placements.proofs.answers.answered.Statement.{statement}
-use Rattle.match_placements.proofs.answers.answered.Tie as tie
+use Rattle.match_answers.proofs.answers.answered.Statement.{statement}
+use Rattle.match_answers.proofs.answers.answered.Tie as tie
 
 returns : tie.Need-returns
 returns c = rw (c .if1 .taken)

@@ -4,9 +4,9 @@ use mathlib.Core.List.{[]}
 use Prim.Native.Nat.{_+_, _-_, _≤_}
 use native.Mathlib.Omega.{arith}
 use lib.ListN.{length, take, drop}
-use Rattle.match_placements.proofs.PositiveCounts.{positivesOf, bytes-aside, count-one, count-on, count-out}
-use Rattle.match_placements.proofs.positives.positive_count.Statement.{statement}
-use Rattle.match_placements.proofs.positives.positive_count.Tie as tie
+use Rattle.match_answers.proofs.PositiveCounts.{positivesOf, bytes-aside, count-one, count-on, count-out}
+use Rattle.match_answers.proofs.positives.positive_count.Statement.{statement}
+use Rattle.match_answers.proofs.positives.positive_count.Tie as tie
 
 abbrev Inv-loop : tie.InvT-loop
 Inv-loop count items n₀ i₀ n i = (n ≤ i) × (positivesOf (take count items) ≡ n + positivesOf (drop i (take count items)))

@@ -4,8 +4,8 @@ use Prim.Native.Nat.{ℕ}
 use Rattle.definitions.specs.Items.{Kind}
 use Rattle.definitions.specs.Placements.{constraintBy, positiveIn}
 use Rattle.definitions.proofs.OtherItems.{other-kind}
-use Rattle.match_placements.proofs.positives.positive_in.Statement.{statement}
-use Rattle.match_placements.proofs.positives.positive_in.Tie as tie
+use Rattle.match_answers.proofs.positives.positive_in.Statement.{statement}
+use Rattle.match_answers.proofs.positives.positive_in.Tie as tie
 
 enum-known-item : tie.Need-enum-known-item
 enum-known-item c = c .match .keys1

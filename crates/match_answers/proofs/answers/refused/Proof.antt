@@ -1,6 +1,6 @@
 -- The answer rewrites with what the callee ensures of the placement.
-use Rattle.match_placements.proofs.answers.refused.Statement.{statement}
-use Rattle.match_placements.proofs.answers.refused.Tie as tie
+use Rattle.match_answers.proofs.answers.refused.Statement.{statement}
+use Rattle.match_answers.proofs.answers.refused.Tie as tie
 
 empty-requires : tie.Need-empty-requires
 empty-requires c κs = tt

@@ -1,0 +1,2 @@
+-- The number of positive patterns.
+pub mod PositiveCounts

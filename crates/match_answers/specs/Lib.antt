@@ -1,0 +1,3 @@
+-- What the contracts of `match_answers` cite besides the definitions.
+pub mod Answering
+pub mod Verdicts

@@ -1,2 +1,0 @@
--- What the contracts of `matcher` cite besides the definitions.
-pub mod Verdicts
