@@ -17,9 +17,9 @@ use definitions::limits::PATTERNS;
 use definitions::table::Flow;
 use definitions::table::Slot;
 use definitions::table::Table;
+use read_references::usable_count;
 use read_state::State;
 use read_state::no_slot;
-use table_references::counting::usable_count;
 
 // The `n` bytes of `s` from `from` on, with zeros after them.
 fn copied(s: &[u8], from: usize, n: usize) -> [u8; NAME_BYTES]

@@ -7,10 +7,10 @@ use lib.ListN.{length, take, drop}
 use Rattle.definitions.specs.declared.packets.LastMatch.the-variants.{None}
 use Rattle.definitions.specs.References.{usableRun}
 use Rattle.definitions.specs.Items.{patternsOf}
-use Rattle.table_references.specs.Counting.{toCome}
-use Rattle.table_references.proofs.ToCome.{none-passed, slot-on, slots-end, past-count}
-use Rattle.table_references.proofs.counting.usable_count.Statement.{statement}
-use Rattle.table_references.proofs.counting.usable_count.Tie as tie
+use Rattle.read_references.specs.Counting.{toCome}
+use Rattle.read_references.proofs.ToCome.{none-passed, slot-on, slots-end, past-count}
+use Rattle.read_references.proofs.usable_count.Statement.{statement}
+use Rattle.read_references.proofs.usable_count.Tie as tie
 
 abbrev Inv-loop : tie.InvT-loop
 Inv-loop count items run₀ i₀ run i = (i ≤ count) × (run .count ≤ i) × (toCome run (drop i (take count items)) ≡ usableRun None (patternsOf (take count items)))

@@ -13,10 +13,10 @@ use Rattle.definitions.specs.declared.table.Pattern.{Pattern}
 use Rattle.definitions.specs.declared.table.Slot.{Slot}
 use Rattle.definitions.specs.Items.{Kind, unused, addressed, patterned, plainTest, kindOf, patternFirst, patternsOf}
 use Rattle.definitions.specs.References.{usable, usableRun}
-use Rattle.table_references.specs.declared.counting.Run.{Run}
+use Rattle.read_references.specs.declared.Run.{Run}
 use Rattle.list_laws.proofs.Choices.{if-true, if-false}
 use Rattle.list_laws.proofs.Firsts.{first-here, first-out}
-use Rattle.table_references.specs.Counting.{usableFrom, past, pastOpen, toCome}
+use Rattle.read_references.specs.Counting.{usableFrom, past, pastOpen, toCome}
 
 pub none-passed : (sls : List Slot) → toCome (record { count = 0; last = None; ended = false }) sls ≡ usableRun None (patternsOf sls)
 unfolding toCome

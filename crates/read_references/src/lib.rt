@@ -1,4 +1,4 @@
-// How many patterns among a table's items, from the first on, have usable references.
+// How many patterns among a table's items, from the first on, have usable references: what refusal 10 goes by.
 ghost use mathlib.Core.Path.{_≡_};
 ghost use Prim.Native.Nat.{_<_, _≤_};
 ghost use lib.ListN.{take};
@@ -6,14 +6,14 @@ ghost use Rattle.definitions.specs.declared.packets.LastMatch.the-variants.{Non
 ghost use Rattle.definitions.specs.Limits.{maxItems};
 ghost use Rattle.definitions.specs.Items.{kindOf, patternsOf};
 ghost use Rattle.definitions.specs.References.{usableRun};
-ghost use Rattle.table_references.specs.Counting.{usableFrom, past};
-use crate::usable::is_usable;
-use crate::usable::last_after;
+ghost use Rattle.read_references.specs.Counting.{usableFrom, past};
 use definitions::limits::ITEMS;
 use definitions::packets::LastMatch;
 use definitions::table::Item;
 use definitions::table::Pattern;
 use definitions::table::Slot;
+use table_references::usable::is_usable;
+use table_references::usable::last_after;
 
 // So many patterns at the front are usable, with the last positive one among them; `ended` at the first that is not.
 pub struct Run {

@@ -8,7 +8,7 @@ use Rattle.definitions.specs.declared.table.Slot.{Slot}
 use Rattle.definitions.specs.Items.{Kind, unused, addressed, patterned, plainTest, patternsOf}
 use Rattle.definitions.specs.Starts.{startAt}
 use Rattle.definitions.specs.References.{lastAfter, usable, usableRun}
-use Rattle.table_references.specs.declared.counting.Run.{Run}
+use Rattle.read_references.specs.declared.Run.{Run}
 
 -- a pattern more, and an item of any kind more
 unfoldable pub usableFrom : Run → Pattern → Run

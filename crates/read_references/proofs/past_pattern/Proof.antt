@@ -1,9 +1,9 @@
 -- Each return rewrites with what `is_usable` ensures of the test that led there.
 use mathlib.Core.Path.{sym, _∙_}
-use Rattle.table_references.specs.Counting.{usableFrom}
+use Rattle.read_references.specs.Counting.{usableFrom}
 use borrow.Author.Needs.{needs}
-use Rattle.table_references.proofs.counting.past_pattern.Statement.{statement}
-use Rattle.table_references.proofs.counting.past_pattern.Tie as tie
+use Rattle.read_references.proofs.past_pattern.Statement.{statement}
+use Rattle.read_references.proofs.past_pattern.Tie as tie
 
 is-usable-requires : tie.Need-is-usable-requires
 is-usable-requires c κs = search needs

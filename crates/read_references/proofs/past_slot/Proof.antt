@@ -2,10 +2,10 @@
 use mathlib.Core.Path.{_≡_, refl}
 use Rattle.definitions.specs.Items.{Kind}
 use Rattle.definitions.proofs.OtherItems.{other-kind}
-use Rattle.table_references.specs.Counting.{past, pastOpen}
+use Rattle.read_references.specs.Counting.{past, pastOpen}
 use borrow.Author.Needs.{needs}
-use Rattle.table_references.proofs.counting.past_slot.Statement.{statement}
-use Rattle.table_references.proofs.counting.past_slot.Tie as tie
+use Rattle.read_references.proofs.past_slot.Statement.{statement}
+use Rattle.read_references.proofs.past_slot.Tie as tie
 
 returns : tie.Need-returns
 unfolding past
