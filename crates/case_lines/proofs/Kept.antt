@@ -4,9 +4,9 @@ use mathlib.Core.List.{List}
 use Prim.Native.Nat.{ℕ, _<_}
 use lib.ListN.{take}
 use Rattle.forms.specs.Bytes.{text}
-use Rattle.case_answers.specs.CaseLines.{maxLine}
-use Rattle.case_answers.specs.CaseAnswers.{caseAnswer}
-use Rattle.case_answers.proofs.Columns.{long-line}
+use Rattle.case_lines.specs.CaseLines.{maxLine}
+use Rattle.case_lines.specs.CaseAnswers.{caseAnswer}
+use Rattle.case_lines.proofs.Columns.{long-line}
 use Rattle.line_stream.proofs.Keeping.{kept-beyond}
 
 pub kept-case : (m : ℕ) (s : List ℕ) → maxLine < m → caseAnswer (take m s) ≡ caseAnswer s

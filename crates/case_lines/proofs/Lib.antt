@@ -1,3 +1,4 @@
--- What the code keeps of a line is enough, and what is fed is the program placements.
+-- How the columns of a line go together; what the code keeps of a line is enough, and what is fed is the program placements.
+pub mod Columns
 pub mod Kept
 pub mod Whole

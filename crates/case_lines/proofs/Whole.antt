@@ -5,8 +5,8 @@ use mathlib.Core.List.{List}
 use Prim.Native.Nat.{ℕ, _+_, _<_, _^_}
 use lib.ListN.{length}
 use Rattle.definitions.specs.Lines.{outputOver}
-use Rattle.case_answers.specs.CaseLines.{maxLine}
-use Rattle.case_answers.specs.CaseAnswers.{caseAnswer}
+use Rattle.case_lines.specs.CaseLines.{maxLine}
+use Rattle.case_lines.specs.CaseAnswers.{caseAnswer}
 use Rattle.line_stream.specs.Runs.{Runs}
 use Rattle.line_stream.proofs.Running.{runs-output}
 use Rattle.case_lines.proofs.Kept.{kept-case}

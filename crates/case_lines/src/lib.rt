@@ -1,10 +1,12 @@
 // The placements program's work on slices: cases one a line in, answers out, in parts of any length.
+pub mod answers;
+
 ghost use lib.ListN.{take};
-ghost use Rattle.case_answers.specs.CaseAnswers.{caseAnswer};
+ghost use Rattle.case_lines.specs.CaseAnswers.{caseAnswer};
 ghost use Rattle.write_bytes.specs.Puts.{Puts};
 ghost use Rattle.line_stream.specs.Stream.{lastLine, Feeds};
-use case_answers::PAIRS;
-use case_answers::answer_case;
+use crate::answers::PAIRS;
+use crate::answers::answer_case;
 use line_stream::Begun;
 use line_stream::Fed;
 use line_stream::end_line;

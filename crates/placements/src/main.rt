@@ -1,6 +1,6 @@
 // Answers cases, one a line: standard input and output (crate line_io) around the work on lines (crate case_lines).
 ghost use Prim.Native.Nat.{_<_};
-use case_answers::LINE_BYTES;
+use case_lines::answers::LINE_BYTES;
 use case_lines::feed;
 use case_lines::finish;
 use line_io::BLOCK;

@@ -6,7 +6,7 @@ use lib.ListN.{take}
 use Rattle.definitions.specs.declared.answers.Refusal.the-variants.{TextLength}
 use Rattle.definitions.specs.Limits.{documentLimits}
 use Rattle.definitions.specs.Lines.{refusedLine, lineOf}
-use Rattle.text_answers.proofs.Answers.{too-long}
+use Rattle.text_lines.proofs.AnswerTexts.{too-long}
 use Rattle.line_stream.proofs.Keeping.{kept-beyond}
 
 pub kept-line : (m : ℕ) (s : List ℕ) → documentLimits .text < m → lineOf documentLimits (take m s) ≡ lineOf documentLimits s

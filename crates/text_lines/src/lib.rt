@@ -1,9 +1,12 @@
 // The line program's work on slices: texts one a line in, answers out, in parts of any length.
+pub mod answers;
+
 ghost use lib.ListN.{take};
 ghost use Rattle.definitions.specs.Limits.{documentLimits};
 ghost use Rattle.definitions.specs.Lines.{lineOf};
 ghost use Rattle.write_bytes.specs.Puts.{Puts};
 ghost use Rattle.line_stream.specs.Stream.{lastLine, Feeds};
+use crate::answers::answer_text;
 use line_stream::Begun;
 use line_stream::Fed;
 use line_stream::end_line;
@@ -11,7 +14,6 @@ use line_stream::first_line;
 use line_stream::kept;
 use line_stream::last_line;
 use line_stream::next_line;
-use text_answers::answer_text;
 
 // Takes bytes of the input until all are taken, or an answer has no room in the output.
 pub fn feed(input: &[u8], line: &mut [u8], out: &mut [u8], begun: Begun) -> Fed

@@ -1,5 +1,5 @@
 -- The loop is line_stream's, the answer a case's.
-use Rattle.case_answers.specs.CaseAnswers.{caseAnswer}
+use Rattle.case_lines.specs.CaseAnswers.{caseAnswer}
 use Rattle.line_stream.specs.Steps.{turnsLeft}
 use Rattle.line_stream.proofs.Loop as loop
 use Rattle.case_lines.proofs.feed.Statement.{statement}

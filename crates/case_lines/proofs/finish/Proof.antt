@@ -1,6 +1,6 @@
 -- The last line is answered as any other, or there is none.
 use borrow.Author.Needs.{needs}
-use Rattle.case_answers.specs.CaseAnswers.{caseAnswer}
+use Rattle.case_lines.specs.CaseAnswers.{caseAnswer}
 use Rattle.line_stream.proofs.Finish.{one-waits, none-waits}
 use Rattle.case_lines.proofs.finish.Statement.{statement}
 use Rattle.case_lines.proofs.finish.Tie as tie

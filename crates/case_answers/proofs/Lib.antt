@@ -1,2 +1,0 @@
--- How the columns of a line go together.
-pub mod Columns

@@ -1,4 +1,0 @@
--- What the contracts of `case_answers` cite.
-pub mod CaseLines
-pub mod CaseAnswers
-pub mod Columns

@@ -1,0 +1,112 @@
+-- The columns of a line together: the room that pairs need, each way in which a line is bad, and the line as its columns.
+use mathlib.Core.Path.{_≡_, refl, sym, ap, _∙_}
+use mathlib.Core.Bool.{Bool, true, false, _&&_, and-false}
+use mathlib.Core.List.{List}
+use Prim.Native.Nat.{ℕ, _*_, _≤_, _<_}
+use native.Mathlib.Omega.{arith}
+use lib.ListN.{length}
+use borrow.Author.Tests.{le-leb, lt-leb}
+use Rattle.forms.specs.Bytes.{text}
+use Rattle.definitions.specs.declared.packets.Direction.{Direction}
+use Rattle.definitions.specs.declared.packets.FieldMap.{FieldMap}
+use Rattle.definitions.specs.declared.answers.Reading.{Reading}
+use Rattle.definitions.specs.Limits.{documentLimits}
+use Rattle.definitions.specs.Reading.{read}
+use Rattle.definitions.specs.Cases.{pairs}
+use Rattle.line_parts.specs.Parts.{contains, partBefore, partAfter, afterParts}
+use Rattle.line_parts.proofs.Delimiters.{part-le}
+use Rattle.line_numbers.specs.HexPairs.{isHex}
+use Rattle.line_packets.specs.declared.packets.PacketColumns.{PacketColumns}
+use Rattle.line_packets.specs.Directions.{isDirection}
+use Rattle.line_packets.specs.FieldMaps.{isMap}
+use Rattle.line_packets.specs.Packets.{isPacket, packetOf}
+use Rattle.case_columns.specs.Queries.{Query, isQuery, queryOf}
+use Rattle.case_lines.specs.CaseLines.{maxLine, isCase, caseOf}
+use Rattle.case_lines.specs.CaseAnswers.{readingText, caseAnswer}
+use Rattle.case_lines.specs.Columns.{maxPairs, areColumns, columnsText}
+
+-- a lent array is long enough for the pairs of a line
+pub room-is : {n : ℕ} → n ≡ maxPairs → maxLine ≤ n * 2
+room-is e = omega (arith, e)
+
+pub formed-is :
+    {x u y v : List ℕ} {r q : Reading} (dir : Direction) (m : FieldMap) (a : Query) → x ≡ u → y ≡ v → r ≡ q
+    → readingText u v dir m q a ≡ readingText x y dir m r a
+formed-is {x = x} {u = u} {y = y} {v = v} {r = r} {q = q} dir m a e f g =
+    ap (λ (w : List ℕ). readingText w v dir m q a) (sym e)
+    ∙ ap (λ (w : List ℕ). readingText x w dir m q a) (sym f)
+    ∙ ap (λ (w : Reading). readingText x y dir m w a) (sym g)
+
+-- ---- the columns
+
+and-last : (b c e g h : Bool) → (b && (c && (e && (g && h)))) ≡ ((b && (c && (e && g))) && h)
+and-last true true true g h = refl
+and-last true true false g h = refl
+and-last true false e g h = refl
+and-last false c e g h = refl
+
+module _ (o p f d a s : List ℕ) where
+  are-columns : areColumns o p f d a s ≡ (isPacket o p f d && isQuery a)
+  unfolding areColumns isPacket
+  are-columns = and-last (isDirection o) (isHex p) (isMap f) (isHex d) (isQuery a)
+
+  pub no-query : isQuery a ≡ false → columnsText o p f d a s ≡ text "bad"
+  unfolding columnsText
+  no-query n = rw (are-columns, n, and-false (isPacket o p f d))
+
+  pub no-packet : isPacket o p f d ≡ false → columnsText o p f d a s ≡ text "bad"
+  unfolding columnsText
+  no-packet n = rw (are-columns, n)
+
+  pub good-columns :
+      isQuery a ≡ true → isPacket o p f d ≡ true → (v : PacketColumns) → v ≡ packetOf o p f d → (k : Query) → k ≡ queryOf a
+      → columnsText o p f d a s ≡ readingText (pairs p) (pairs d) (v .direction) (v .fields) (read documentLimits s) k
+  unfolding columnsText
+  good-columns t u v ve k ke = rw (are-columns, t, u, ve, ke)
+
+-- ---- the line
+
+pub long-line : (l : List ℕ) → maxLine < length l → caseAnswer l ≡ text "bad"
+unfolding caseAnswer isCase
+long-line l h = rw (lt-leb (length l) maxLine h)
+
+module _
+    (l r1 r2 r3 r4 : List ℕ) (h : length l ≤ maxLine)
+    (q1 : r1 ≡ partAfter 9 l) (q2 : r2 ≡ partAfter 9 r1) (q3 : r3 ≡ partAfter 9 r2) (q4 : r4 ≡ partAfter 9 r3)
+  where
+    two : r2 ≡ partAfter 9 (partAfter 9 l)
+    two = q2 ∙ ap (partAfter 9) q1
+
+    three : r3 ≡ partAfter 9 (partAfter 9 (partAfter 9 l))
+    three = q3 ∙ ap (partAfter 9) two
+
+    four : r4 ≡ partAfter 9 (partAfter 9 (partAfter 9 (partAfter 9 l)))
+    four = q4 ∙ ap (partAfter 9) three
+
+    pub few-tabs : contains 9 r4 ≡ false → caseAnswer l ≡ text "bad"
+    unfolding caseAnswer isCase afterParts
+    few-tabs e = rw (le-leb (length l) maxLine h, ap (contains 9) (sym four) ∙ e)
+
+    pub packet-le : (x : List ℕ) → x ≡ partBefore 9 r1 → length x ≤ maxLine
+    unfolding afterParts
+    packet-le x e = omega (arith, ap length (e ∙ ap (partBefore 9) q1), part-le 9 1 l, h)
+
+    pub decoded-le : (x : List ℕ) → x ≡ partBefore 9 r3 → length x ≤ maxLine
+    unfolding afterParts
+    decoded-le x e = omega (arith, ap length (e ∙ ap (partBefore 9) three), part-le 9 3 l, h)
+
+    pub as-columns :
+        contains 9 r4 ≡ true → (o p f d a s : List ℕ) → o ≡ partBefore 9 l → p ≡ partBefore 9 r1 → f ≡ partBefore 9 r2
+        → d ≡ partBefore 9 r3 → a ≡ partBefore 9 r4 → s ≡ partAfter 9 r4 → caseAnswer l ≡ columnsText o p f d a s
+    unfolding caseAnswer isCase caseOf afterParts columnsText areColumns
+    as-columns e o p f d a s oe pe fe de ae se =
+        rw (
+          le-leb (length l) maxLine h,
+          ap (contains 9) (sym four) ∙ e,
+          oe,
+          pe ∙ ap (partBefore 9) q1,
+          fe ∙ ap (partBefore 9) two,
+          de ∙ ap (partBefore 9) three,
+          ae ∙ ap (partBefore 9) four,
+          se ∙ ap (partAfter 9) four,
+        )

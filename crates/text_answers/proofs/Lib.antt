@@ -1,2 +1,0 @@
--- How the answer to a text follows.
-pub mod Answers
