@@ -5,10 +5,10 @@ use mathlib.Core.List.{List, [], _∷_}
 use Rattle.forms.specs.Scan.{isLL1}
 use Rattle.definitions.specs.Options.{Option, optionTable}
 
-unfoldable pub allFair : List Option → Bool
-allFair [] = true
-allFair (o ∷ os) = isLL1 (o .form) && allFair os
+unfoldable pub allLL1 : List Option → Bool
+allLL1 [] = true
+allLL1 (o ∷ os) = isLL1 (o .form) && allLL1 os
 
-pub options-one-byte : allFair optionTable ≡ true
-unfolding allFair optionTable
+pub options-one-byte : allLL1 optionTable ≡ true
+unfolding allLL1 optionTable
 options-one-byte = refl

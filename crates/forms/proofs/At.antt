@@ -11,9 +11,9 @@ use Rattle.forms.proofs.Bools.{by-cases}
 use Rattle.forms.specs.Form.{Class, has, Form, pure, byte, pair, alt, many, fmap, bound}
 use Rattle.forms.specs.Scan.{Scan, Got, Stop, onGot, nullable, firstSet, begins, scan, onward, over}
 use Rattle.forms.specs.Pieces.{preceded, terminated}
-use Rattle.forms.specs.Place.{Read, Parsed, OutOfRange, Failed, within, placed, readAt, mapRead, farther, both-read, bounded}
+use Rattle.forms.specs.Place.{Read, Parsed, OutOfRange, Failed, within, placed, readAt, mapRead, outOfRangeAt, both-read, bounded}
 use Rattle.forms.proofs.Sound.{sound-loose}
-use Rattle.forms.proofs.Places.{star-unroll, star-over}
+use Rattle.forms.proofs.Places.{many-unroll, many-over}
 
 -- what is left at a place is the text from the place that its length tells
 left-at : (s : List ℕ) (i : ℕ) (x r : List ℕ) → i ≤ length s → drop i s ≡ x ++ r → (drop (length s - length r) s ≡ r) × (length s - length r ≤ length s)
@@ -56,18 +56,18 @@ map-one h s [] (Got a r) = refl
 map-one h s (x ∷ o) (Got a r) = refl
 map-one h s o (Stop r) = refl
 
-pub made-at : {A B : Type 0} (h : A → B) (f : Form A) (s : List ℕ) (i : ℕ) → readAt (fmap h f) s i ≡ mapRead h (readAt f s i)
+pub fmap-at : {A B : Type 0} (h : A → B) (f : Form A) (s : List ℕ) (i : ℕ) → readAt (fmap h f) s i ≡ mapRead h (readAt f s i)
 unfolding readAt scan over
-made-at h f s i = map-one h s (over f (drop i s)) (scan f (drop i s))
+fmap-at h f s i = map-one h s (over f (drop i s)) (scan f (drop i s))
 
 pub alt-at : {A : Type 0} (f g : Form A) (s : List ℕ) (i : ℕ)
     → readAt (alt f g) s i ≡ (if begins (firstSet f) (drop i s) then (readAt f s i) else (readAt g s i))
 unfolding readAt scan over
 alt-at f g s i = by-cases (begins (firstSet f) (drop i s)) (λ t. rw t) (λ t. rw t)
 
-pub tell-at : {A : Type 0} (a : A) (s : List ℕ) (i : ℕ) → i ≤ length s → readAt (pure a) s i ≡ Parsed a i
+pub pure-at : {A : Type 0} (a : A) (s : List ℕ) (i : ℕ) → i ≤ length s → readAt (pure a) s i ≡ Parsed a i
 unfolding readAt scan over
-tell-at a s i h = ap (Parsed a) (place-at s i h)
+pure-at a s i h = ap (Parsed a) (place-at s i h)
 
 bound-one : {A : Type 0} (t : A → Bool) (j : A → ℕ) (s l : List ℕ) (o : List (List ℕ)) (r : Scan A)
     → placed s (o ++ onward r (λ a m. (if t a then [] else (drop (j a) l ∷ [])))) r ≡ bounded t (λ a. length s - length (drop (j a) l)) (placed s o r)
@@ -101,28 +101,28 @@ mapped-both {A} {B} {C} h (Parsed a n) k = by (k n)
     by (Failed p) = refl
 mapped-both {A} {B} {C} h (OutOfRange p n) k = by (k n)
   where
-    by : (r : Read B) → mapRead h (farther {B = A × B} p r) ≡ farther p r
+    by : (r : Read B) → mapRead h (outOfRangeAt {B = A × B} p r) ≡ outOfRangeAt p r
     by (Parsed b m) = refl
     by (OutOfRange q m) = refl
     by (Failed q) = refl
 mapped-both h (Failed p) k = refl
 
 module _ {A B : Type 0} (f : Form A) (g : Form B) (s : List ℕ) (i : ℕ) (h : i ≤ length s) where
-  pub skip-at : readAt (preceded f g) s i ≡ both-read (λ (x : A) (y : B). y) (readAt f s i) (λ n. readAt g s n)
-  skip-at = made-at (λ (p : A × B). p .1) (pair f g) s i ∙ ap (mapRead (λ (p : A × B). p .1)) (pair-at f g s i h)
+  pub preceded-at : readAt (preceded f g) s i ≡ both-read (λ (x : A) (y : B). y) (readAt f s i) (λ n. readAt g s n)
+  preceded-at = fmap-at (λ (p : A × B). p .1) (pair f g) s i ∙ ap (mapRead (λ (p : A × B). p .1)) (pair-at f g s i h)
       ∙ mapped-both (λ (p : A × B). p .1) (readAt f s i) (λ n. readAt g s n)
 
-  pub before-at : readAt (terminated f g) s i ≡ both-read (λ (x : A) (y : B). x) (readAt f s i) (λ n. readAt g s n)
-  before-at = made-at (λ (p : A × B). p .0) (pair f g) s i ∙ ap (mapRead (λ (p : A × B). p .0)) (pair-at f g s i h)
+  pub terminated-at : readAt (terminated f g) s i ≡ both-read (λ (x : A) (y : B). x) (readAt f s i) (λ n. readAt g s n)
+  terminated-at = fmap-at (λ (p : A × B). p .0) (pair f g) s i ∙ ap (mapRead (λ (p : A × B). p .0)) (pair-at f g s i h)
       ∙ mapped-both (λ (p : A × B). p .0) (readAt f s i) (λ n. readAt g s n)
 
 -- one more, or none
-pub star-at : {A : Type 0} (f : Form A) → not (nullable f) ≡ true → (s : List ℕ) (i : ℕ) → i ≤ length s
+pub many-at : {A : Type 0} (f : Form A) → not (nullable f) ≡ true → (s : List ℕ) (i : ℕ) → i ≤ length s
     → readAt (many f) s i
     ≡ (if begins (firstSet f) (drop i s) then (both-read (λ (x : A) (xs : List A). x ∷ xs) (readAt f s i) (λ n. readAt (many f) s n)) else (Parsed [] i))
 unfolding readAt
-star-at {A} f n s i h =
-    rw (star-unroll f n (drop i s), star-over f n (drop i s))
+many-at {A} f n s i h =
+    rw (many-unroll f n (drop i s), many-over f n (drop i s))
     (by-cases (begins (firstSet f) (drop i s))
     (λ t. rw t (join-two (λ (x : A) (xs : List A). x ∷ xs) f (many f) s i h (scan f (drop i s)) refl))
     (λ t. rw (t, place-at s i h)))

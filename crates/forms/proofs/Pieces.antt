@@ -15,9 +15,9 @@ use Rattle.forms.specs.Pieces.{preceded, some}
 use Rattle.forms.proofs.Sound.{never}
 
 module _ {A B : Type 0} (f : Form A) (g : Form B) (l : List ℕ) where
-  pub skip-scan : scan (preceded f g) l ≡ onGot (scan f l) (λ a r. scan g r)
+  pub preceded-scan : scan (preceded f g) l ≡ onGot (scan f l) (λ a r. scan g r)
   unfolding scan
-  skip-scan = go (scan f l)
+  preceded-scan = go (scan f l)
     where
       go2 : (a : A) (o : Scan B) → onGot (onGot o (λ b t. Got (a, b) t)) (λ (p : A × B) r. Got (p .1) r) ≡ o
       go2 a (Got b t) = refl
@@ -36,9 +36,9 @@ module _ (c : Class) (p : ℕ → Bool) (e : (b : ℕ) → has c b ≡ p b) wher
   loop-bytes (suc k) [] h = refl
   loop-bytes (suc k) (b ∷ l) h = by-cases (p b) (λ t. rw (e b, t, loop-bytes k l (omega (arith, h)))) (λ t. rw (e b, t))
 
-  pub star-bytes : (l : List ℕ) → scan (many (byte c)) l ≡ Got (take (run p l) l) (drop (run p l) l)
+  pub many-bytes : (l : List ℕ) → scan (many (byte c)) l ≡ Got (take (run p l) l) (drop (run p l) l)
   unfolding scan
-  star-bytes l = loop-bytes (length l) l (le-refl _)
+  many-bytes l = loop-bytes (length l) l (le-refl _)
 
   pub some-bytes : (l : List ℕ) → scan (some (byte c)) l ≡ (if eqb (run p l) 0 then (Stop l) else (Got (take (run p l) l) (drop (run p l) l)))
   unfolding scan run
@@ -59,21 +59,24 @@ onward-none : {A : Type 0} (o : Scan A) (k : A → List ℕ → List (List ℕ))
 onward-none (Got a r) k h = h a r
 onward-none (Stop r) k h = refl
 
-overs-free : {A : Type 0} (c : Class) (s : List ℕ → Scan A) (o : List ℕ → List (List ℕ)) → ((l : List ℕ) → o l ≡ []) → (k : ℕ) (l : List ℕ)
+overs-unbounded : {A : Type 0} (c : Class) (s : List ℕ → Scan A) (o : List ℕ → List (List ℕ)) → ((l : List ℕ) → o l ≡ []) → (k : ℕ) (l : List ℕ)
     → overs c s o k l ≡ []
 unfolding overs
-overs-free c s o h zero l = refl
-overs-free {A} c s o h (suc k) l =
-    by-cases (begins c l) (λ t. rw (t, h l) (onward-none (s l) (λ a r. overs c s o k r) (λ a r. overs-free c s o h k r))) (λ t. rw t)
+overs-unbounded c s o h zero l = refl
+overs-unbounded {A} c s o h (suc k) l =
+    by-cases (begins c l) (λ t. rw (t, h l) (onward-none (s l) (λ a r. overs c s o k r) (λ a r. overs-unbounded c s o h k r))) (λ t. rw t)
 
-pub over-free : {A : Type 0} (f : Form A) → free f ≡ true → (l : List ℕ) → over f l ≡ []
+pub over-unbounded : {A : Type 0} (f : Form A) → free f ≡ true → (l : List ℕ) → over f l ≡ []
 unfolding over
-over-free (pure a) w l = refl
-over-free (byte c) w l = refl
-over-free (pair f g) w l =
-    rw (over-free f (both-left (free f) (free g) w) l) (onward-none (scan f l) (λ a r. over g r) (λ a r. over-free g (both-right (free f) (free g) w) r))
-over-free (alt f g) w l =
-    by-cases (begins (firstSet f) l) (λ t. rw t (over-free f (both-left (free f) (free g) w) l)) (λ t. rw t (over-free g (both-right (free f) (free g) w) l))
-over-free (many f) w l = overs-free (firstSet f) (λ m. scan f m) (λ m. over f m) (λ m. over-free f w m) (length l) l
-over-free (fmap h f) w l = over-free f w l
-over-free (bound p j f) w l = never (cc)
+over-unbounded (pure a) w l = refl
+over-unbounded (byte c) w l = refl
+over-unbounded (pair f g) w l =
+    rw (over-unbounded f (both-left (free f) (free g) w) l)
+    (onward-none (scan f l) (λ a r. over g r) (λ a r. over-unbounded g (both-right (free f) (free g) w) r))
+over-unbounded (alt f g) w l =
+    by-cases (begins (firstSet f) l)
+    (λ t. rw t (over-unbounded f (both-left (free f) (free g) w) l))
+    (λ t. rw t (over-unbounded g (both-right (free f) (free g) w) l))
+over-unbounded (many f) w l = overs-unbounded (firstSet f) (λ m. scan f m) (λ m. over f m) (λ m. over-unbounded f w m) (length l) l
+over-unbounded (fmap h f) w l = over-unbounded f w l
+over-unbounded (bound p j f) w l = never (cc)

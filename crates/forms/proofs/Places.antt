@@ -284,15 +284,15 @@ eats-of f n l v r e =
     omega (arith, h, ap length (i .1) ∙ length-append (i .0) r)
 
 -- one turn of a star
-pub star-unroll : {A : Type 0} (f : Form A) → not (nullable f) ≡ true → (l : List ℕ)
+pub many-unroll : {A : Type 0} (f : Form A) → not (nullable f) ≡ true → (l : List ℕ)
     → scan (many f) l ≡ (if begins (firstSet f) l then (onGot (scan f l) (λ a r. onGot (scan (many f) r) (λ vs t. Got (a ∷ vs) t))) else (Got [] l))
 unfolding scan once
-star-unroll f n l = unroll (firstSet f) (λ m. scan f m) (λ m v r e. eats-of f n m v r e) l
+many-unroll f n l = unroll (firstSet f) (λ m. scan f m) (λ m v r e. eats-of f n m v r e) l
 
-pub star-over : {A : Type 0} (f : Form A) → not (nullable f) ≡ true → (l : List ℕ)
+pub many-over : {A : Type 0} (f : Form A) → not (nullable f) ≡ true → (l : List ℕ)
     → over (many f) l ≡ (if begins (firstSet f) l then (over f l ++ onward (scan f l) (λ a r. over (many f) r)) else [])
 unfolding over
-star-over f n l = unroll-over (firstSet f) (λ m. scan f m) (λ m v r e. eats-of f n m v r e) (λ m. over f m) l
+many-over f n l = unroll-over (firstSet f) (λ m. scan f m) (λ m v r e. eats-of f n m v r e) (λ m. over f m) l
 
 local : {A : Type 0} (f : Form A) → isLL1 f ≡ true → (l : List ℕ) → Local (λ m. scan f m) l
 unfolding scan

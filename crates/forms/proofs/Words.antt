@@ -1,4 +1,4 @@
--- A word's form means the word in any letter case (`says-means`).
+-- A word's form means the word in any letter case (`keyword-means`).
 use mathlib.Core.Path.{_≡_, refl, sym, ap, _∙_}
 use mathlib.Core.Bool.{Bool, true, false, not, _&&_}
 use mathlib.Core.List.{List, [], _∷_, _++_}
@@ -84,23 +84,23 @@ small-parts : (y : ℕ) (w : List ℕ) → small (y ∷ w) ≡ true → (capital
 unfolding small
 small-parts y w s = (not-true (capital y) (both-left (not (capital y)) (small w) s), both-right (not (capital y)) (small w) s)
 
-says-is : {A : Type 0} (k : Bool) (w : List ℕ) (a : A) → small w ≡ true → (x : List ℕ) (v : A) → Means k (keyword w a) x v → (sameWord x w ≡ true) × (v ≡ a)
+keyword-is : {A : Type 0} (k : Bool) (w : List ℕ) (a : A) → small w ≡ true → (x : List ℕ) (v : A) → Means k (keyword w a) x v → (sameWord x w ≡ true) × (v ≡ a)
 unfolding Means sameWord
-says-is k [] a s x v m = let e = m .0 in (rw e, m .1)
-says-is k (y ∷ w) a s x v m =
+keyword-is k [] a s x v m = let e = m .0 in (rw e, m .1)
+keyword-is k (y ∷ w) a s x v m =
     let c = small-parts y w s in
     let r = m .2 in
-    let i = says-is k w a (c .1) (r .1) (m .0 .1) (r .4) in
+    let i = keyword-is k w a (c .1) (r .1) (m .0 .1) (r .4) in
     let e : x ≡ m .0 .0 ∷ r .1 = r .2 ∙ ap (λ t. t ++ r .1) (r .3 .0) in
     let q : eqb (lower (m .0 .0)) y ≡ true = sym (any-case y (m .0 .0) (c .0)) ∙ r .3 .1 in
     (ap (λ t. sameWord t (y ∷ w)) e ∙ ap (λ t. t && sameWord (r .1) w) q ∙ i .0, m .1 ∙ i .1)
 
-says-makes : {A : Type 0} (k : Bool) (w : List ℕ) (a : A) → small w ≡ true → (x : List ℕ) (v : A) → sameWord x w ≡ true → v ≡ a → Means k (keyword w a) x v
+keyword-makes : {A : Type 0} (k : Bool) (w : List ℕ) (a : A) → small w ≡ true → (x : List ℕ) (v : A) → sameWord x w ≡ true → v ≡ a → Means k (keyword w a) x v
 unfolding Means sameWord
-says-makes k [] a s [] v e q = (refl, q)
-says-makes k [] a s (b ∷ x) v e q = never (cc)
-says-makes k (y ∷ w) a s [] v e q = never (cc)
-says-makes k (y ∷ w) a s (b ∷ x) v e q =
+keyword-makes k [] a s [] v e q = (refl, q)
+keyword-makes k [] a s (b ∷ x) v e q = never (cc)
+keyword-makes k (y ∷ w) a s [] v e q = never (cc)
+keyword-makes k (y ∷ w) a s (b ∷ x) v e q =
     let c = small-parts y w s in (
       (b, v),
       refl,
@@ -109,12 +109,12 @@ says-makes k (y ∷ w) a s (b ∷ x) v e q =
         x,
         refl,
         (refl, any-case y b (c .0) ∙ both-left (eqb (lower b) y) (sameWord x w) e),
-        says-makes k w a (c .1) x v
+        keyword-makes k w a (c .1) x v
             (both-right (eqb (lower b) y) (sameWord x w) e) q,
       ),
     )
 
 -- THE MEANING of a word's form: the word, its letters in either case
-pub says-means : {A : Type 0} (k : Bool) (w : List ℕ) (a : A) → small w ≡ true → (x : List ℕ) (v : A)
+pub keyword-means : {A : Type 0} (k : Bool) (w : List ℕ) (a : A) → small w ≡ true → (x : List ℕ) (v : A)
     → Means k (keyword w a) x v ↔ ((sameWord x w ≡ true) × (v ≡ a))
-says-means k w a s x v = (λ m. says-is k w a s x v m, λ m. says-makes k w a s x v (m .0) (m .1))
+keyword-means k w a s x v = (λ m. keyword-is k w a s x v m, λ m. keyword-makes k w a s x v (m .0) (m .1))

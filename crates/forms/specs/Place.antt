@@ -32,15 +32,15 @@ mapRead h (Parsed a n) = Parsed (h a) n
 mapRead h (OutOfRange p n) = OutOfRange p n
 mapRead h (Failed p) = Failed p
 
-abbrev pub farther : {A B : Type 0} → ℕ → Read A → Read B
-farther p (Parsed a n) = OutOfRange p n
-farther p (OutOfRange q n) = OutOfRange p n
-farther p (Failed q) = Failed q
+abbrev pub outOfRangeAt : {A B : Type 0} → ℕ → Read A → Read B
+outOfRangeAt p (Parsed a n) = OutOfRange p n
+outOfRangeAt p (OutOfRange q n) = OutOfRange p n
+outOfRangeAt p (Failed q) = Failed q
 
 -- the one, and from the end of it the other
 abbrev pub both-read : {A B C : Type 0} → (A → B → C) → Read A → (ℕ → Read B) → Read C
 both-read h (Parsed a n) k = mapRead (h a) (k n)
-both-read h (OutOfRange p n) k = farther p (k n)
+both-read h (OutOfRange p n) k = outOfRangeAt p (k n)
 both-read h (Failed p) k = Failed p
 
 abbrev pub bounded : {A : Type 0} → (A → Bool) → (A → ℕ) → Read A → Read A

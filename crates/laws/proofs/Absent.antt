@@ -224,14 +224,14 @@ slot-reads (item.At t) al b c m l = absurd (not-nil m)
 slot-reads (item.Pattern p) al b c m l = subst (Mem c) (sym (pattern-reads p _ l)) m
 
 -- a slot's item is among the items, with some pattern bytes
-slot-wanted : (sl : Slot) (sls : List Slot) (b : List ℕ) → Mem sl sls
+slot-constraint : (sl : Slot) (sls : List Slot) (b : List ℕ) → Mem sl sls
     → (d : List ℕ) × Mem (constraintBy (kindOf (sl .item)) (sl .item) (sl .addresses) d) (constraints sls b)
 unfolding constraints
-slot-wanted sl [] b m = absurd (not-nil m)
-slot-wanted sl (x ∷ sls) b m =
+slot-constraint sl [] b m = absurd (not-nil m)
+slot-constraint sl (x ∷ sls) b m =
     ⊎-elim
     (λ e. (b, here (ap (λ (y : Slot). constraintBy (kindOf (y .item)) (y .item) (y .addresses) b) e)))
-    (λ n. let r = slot-wanted sl sls (afterItem (kindOf (x .item)) b) n in (r .0, there (r .1)))
+    (λ n. let r = slot-constraint sl sls (afterItem (kindOf (x .item)) b) n in (r .0, there (r .1)))
     (cases-cons m)
 
 module _ (t : Table) (sl : Slot) (c : Context) (inUse : Mem sl (slotsOf t)) (looks : Mem c (fieldsOf (sl .item))) (m : FieldMap) (absent : present m c ≡ false)
@@ -240,7 +240,7 @@ module _ (t : Table) (sl : Slot) (c : Context) (inUse : Mem sl (slotsOf t)) (loo
   pub absent-table : listed t (viewOf packet decoded m) dir ≡ []
   unfolding listed itemsOf
   absent-table =
-      let w = slot-wanted sl (slotsOf t) (t .bytes) inUse in
+      let w = slot-constraint sl (slotsOf t) (t .bytes) inUse in
       only-none (headHolds t (viewOf packet decoded m) dir) _
       (absent-none (viewOf packet decoded m) (constraints (slotsOf t) (t .bytes)) _ c (w .1) (slot-reads (sl .item) (sl .addresses) (w .0) c looks) absent None)
 

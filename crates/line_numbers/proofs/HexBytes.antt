@@ -11,7 +11,7 @@ use borrow.Author.Tests.{leb-true, lt-ltb}
 use Rattle.forms.specs.Bytes.{between}
 use Rattle.forms.specs.Form.{has}
 use Rattle.forms.proofs.Bools.{by-cases, both-left, both-right}
-use Rattle.scan_bytes.specs.Capped.{farAbove, capped}
+use Rattle.scan_bytes.specs.Capped.{numberCap, capped}
 use Rattle.definitions.specs.Lists.{all?}
 use Rattle.definitions.specs.Numbers.{hexDigits, digitValue, valueOf}
 use Rattle.definitions.specs.Cases.{pairs}
@@ -76,7 +76,7 @@ module _ (s : List ℕ) (i : ℕ) (good : isHex s ≡ true) (h : i + 1 < length 
       ∙ ap (λ (n : ℕ). capped (valueOf 16 0 (take n (drop i s)))) two
       ∙ ap (λ (l : List ℕ). capped (valueOf 16 0 (take 2 l))) (two-on s i h)
       ∙ ap capped value
-      ∙ rw (lt-ltb (pairAt s i) farAbove (omega (arith, pair-small)))
+      ∙ rw (lt-ltb (pairAt s i) numberCap (omega (arith, pair-small)))
 
   pub pair-fits : (r : ℕ) → r ≡ capped (valueOf 16 0 (take (i + 2 - i) (drop i s))) → r ≤ 255
   pair-fits r e = omega (arith, pair-value r e, pair-small)

@@ -17,7 +17,7 @@ use Rattle.write_bytes.proofs.Whole.{placed-front, placed-whole}
 use Rattle.line_stream.specs.declared.Begun.{Begun}
 use Rattle.line_stream.specs.declared.Feeding.{Feeding}
 use Rattle.line_stream.specs.Stream.{State, lineState, ended, after, hasRoom, lineAnswer, answerFits, Feeds}
-use Rattle.line_stream.specs.Steps.{lfFrom, lineFrom, lineOpening, Takes, Nexts, turnsLeft}
+use Rattle.line_stream.specs.Steps.{lfFrom, lineFrom, lineOpening, Takes, Nexts, linesLeft}
 use Rattle.line_stream.proofs.Room.{line-put, no-room, room-counted, room-within}
 use Rattle.line_stream.proofs.Parts.{line-within, line-lf, line-inside, line-after}
 use Rattle.line_stream.proofs.Keeping.{keeps-length, keeps-partly}
@@ -183,7 +183,7 @@ module _ (answer : List ℕ → List ℕ) where
 
     -- each turn takes some of the input, or is the last
     pub loop-less : {o line' out' : List ℕ} {r : Feeding} {j : ℕ} → t .waits ≡ true → Nexts input line line' o out' (t .fed) j r
-        → turnsLeft input r < turnsLeft input t
+        → linesLeft input r < linesLeft input t
     loop-less w k =
         by-cases (hasRoom (k .place) (length (k .ended)))
         (λ h.

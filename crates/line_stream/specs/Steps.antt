@@ -70,5 +70,5 @@ pub record Lasts (line out out' : List ℕ) (b : Begun) (r : Feeding) : Type 0 w
   pub is : r ≡ record { fed = record { taken = 0; put = 0; begun = b }; at = next; waits = ltb 0 (length (take (b .len) line)) }
 
 -- the turns that are left at most: one for each byte still to come, and for the line that waits
-abbrev pub turnsLeft : List ℕ → Feeding → ℕ
-turnsLeft input t = if t .waits then suc (length input - t .fed .taken) else 0
+abbrev pub linesLeft : List ℕ → Feeding → ℕ
+linesLeft input t = if t .waits then suc (length input - t .fed .taken) else 0

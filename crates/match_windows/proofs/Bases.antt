@@ -28,9 +28,9 @@ free-start l len within.Unset = refl
 free-start l len (within.Given w) = refl
 
 -- with a reach alone the window starts at what it is counted from
-pub reach-begins : (l : LastMatch) (w : Within) (v : WithinValue) → w ≡ within.Given v → lastEnd l < sizeBound
+pub within-begins : (l : LastMatch) (w : Within) (v : WithinValue) → w ≡ within.Given v → lastEnd l < sizeBound
     → (r : ℕ) → r ≡ base l (v .reference) → (s : ℤ) → s ≡ pos r → Begins (windowStart l 0 distance.Unset w) s
-reach-begins l w v e h r q s z = rw (e, z, q) (record { is = refl; small = omega (arith, base-small l (v .reference) h) })
+within-begins l w v e h r q s z = rw (e, z, q) (record { is = refl; small = omega (arith, base-small l (v .reference) h) })
 
 -- a start is read back from its bits
 pub begins-back : {z s : ℤ} → SFits w64 s → Begins z s → Begins z (toZ w64 (ofZ w64 s))

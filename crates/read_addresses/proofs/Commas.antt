@@ -18,12 +18,12 @@ use Rattle.definitions.specs.Tables.{noAddress}
 use Rattle.scan_cursors.specs.declared.Cursor.{Cursor}
 use Rattle.scan_cursors.specs.declared.Cursor.the-variants.{Parsed, OutOfRange, Failed}
 use Rattle.scan_cursors.specs.Reads.{placeOf, Inside, nextIn, Reads}
-use Rattle.scan_cursors.proofs.Readings.{made-reads, pair-reads, skip-reads, before-reads, stopped-reads}
+use Rattle.scan_cursors.proofs.Readings.{fmap-reads, pair-reads, preceded-reads, terminated-reads, failed-reads}
 use Rattle.scan_cursors.proofs.Choices.{first-reads, second-reads}
 use Rattle.scan_cursors.proofs.Onward.{Ahead, ahead-more, left, less-left}
 use Rattle.scan_pieces.proofs.AtPlace.{begins-in}
 use Rattle.read_addresses.specs.Listing.{listedAddresses, Lists}
-use Rattle.scan_cursors.proofs.Repeated.{star-out, Star, star-start, star-more, star-end}
+use Rattle.scan_cursors.proofs.Repeated.{many-out, Many, many-start, many-more, many-end}
 
 -- ---- an array that holds the first of a list
 
@@ -66,7 +66,7 @@ next = preceded (literal 44) address
 -- after a first address, which ended at b and alone made the row: what is still to come, what is kept and what is counted
 pub record Gathered (s : List ℕ) (b : Cursor) (row list : List Address) (count : ℕ) (c : Cursor) : Type 0 where
   pub values : List Address
-  pub turns : Star (preceded (literal 44) address) refl s b values c
+  pub turns : Many (preceded (literal 44) address) refl s b values c
   pub kept : (a : Address) → row ≡ padded maxAddresses noAddress (a ∷ []) → list ≡ padded maxAddresses noAddress (take maxAddresses (a ∷ values))
   pub counted : count ≡ suc (length values)
   pub fits : Ahead count c
@@ -75,7 +75,7 @@ pub gathered-one : {s : List ℕ} {c b : Cursor} {v : Address} (row : List Addre
 gathered-one {s} {c} {b} row h r =
     record {
       values = [];
-      turns = star-start next refl s b (r .inside);
+      turns = many-start next refl s b (r .inside);
       kept = λ a e. e;
       counted = refl;
       fits = ahead-less 1 (placeOf c + 1) b (omega arith) (ahead-more h r refl);
@@ -89,17 +89,17 @@ module _ (s : List ℕ) {b : Cursor} {row list : List Address} {count : ℕ} {c 
     a ∷ u .values,
     record {
       read =
-          made-reads (λ (p : Address × List Address). p .0 ∷ p .1)
-          (pair-reads h r (star-end next refl s (u .turns) (out c (sym e ∙ y) (u .turns .inside))));
+          fmap-reads (λ (p : Address × List Address). p .0 ∷ p .1)
+          (pair-reads h r (many-end next refl s (u .turns) (out c (sym e ∙ y) (u .turns .inside))));
       kept = u .kept a k;
       counted = u .counted;
     },
   )
     where
       out : (d : Cursor) → nextIn comma s d ≡ false → Inside s d → Reads (many next) s d [] d
-      out (Parsed n) z i = star-out next refl s (Parsed n) i z
-      out (OutOfRange p n) z i = star-out next refl s (OutOfRange p n) i z
-      out (Failed p) z i = stopped-reads (many next) s p [] i
+      out (Parsed n) z i = many-out next refl s (Parsed n) i z
+      out (OutOfRange p n) z i = many-out next refl s (OutOfRange p n) i z
+      out (Failed p) z i = failed-reads (many next) s p [] i
 
   module _ (y : t ≡ true) where
     stood : nextIn comma s c ≡ true
@@ -110,7 +110,7 @@ module _ (s : List ℕ) {b : Cursor} {row list : List Address} {count : ℕ} {c 
 
     module _ {d f : Cursor} {v : Address} (q : Reads (literal 44) s c 44 d) (r : Reads address s d v f) where
       next-read : Reads next s c v f
-      next-read = skip-reads (u .turns .inside) q r
+      next-read = preceded-reads (u .turns .inside) q r
 
       pub gathered-less : left s f < left s c
       gathered-less = less-left comma stood refl (u .turns .inside) next-read
@@ -119,7 +119,7 @@ module _ (s : List ℕ) {b : Cursor} {row list : List Address} {count : ℕ} {c 
       gathered-on k =
           record {
             values = u .values ++ (v ∷ []);
-            turns = star-more next refl s (u .turns) (next-begins comma s c stood) next-read;
+            turns = many-more next refl s (u .turns) (next-begins comma s c stood) next-read;
             kept = λ a z.
                 k ∙ ap (λ (l : List Address). set l count v) (u .kept a z)
                 ∙ ap (λ (m : ℕ). set (padded maxAddresses noAddress (take maxAddresses (a ∷ u .values))) m v) (u .counted)
@@ -138,7 +138,7 @@ module _ {s : List ℕ} {c : Cursor} {t : Bool} (h : Inside s c) where
   bracket-read n y q l r = (
     l .0,
     record {
-      read = first-reads n y (skip-reads h q (before-reads (q .inside) (l .1 .read) r));
+      read = first-reads n y (preceded-reads h q (terminated-reads (q .inside) (l .1 .read) r));
       kept = l .1 .kept;
       counted = l .1 .counted;
     },
@@ -146,4 +146,4 @@ module _ {s : List ℕ} {c : Cursor} {t : Bool} (h : Inside s c) where
 
   pub single-read : {list : List Address} {a : Address} {d : Cursor} → t ≡ nextIn ((91, 91) ∷ []) s c → t ≡ false → Reads address s c a d
       → list ≡ padded maxAddresses noAddress (a ∷ []) → Lists addresses s c list 1 d
-  single-read {a = a} n y r e = (a ∷ [], record { read = second-reads n y (made-reads (λ (b : Address). b ∷ []) r); kept = e; counted = refl })
+  single-read {a = a} n y r e = (a ∷ [], record { read = second-reads n y (fmap-reads (λ (b : Address). b ∷ []) r); kept = e; counted = refl })

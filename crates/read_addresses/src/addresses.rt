@@ -13,8 +13,8 @@ use definitions::limits::ADDRESSES;
 use definitions::table::Address;
 use read_value::no_addresses;
 use scan_cursors::Cursor;
-use scan_steps::signs::next_is;
-use scan_steps::signs::then_literal;
+use scan_steps::literals::next_is;
+use scan_steps::literals::then_literal;
 
 // The addresses that are kept, how many there are, and where scanning stands after them.
 pub struct AddressesAt {

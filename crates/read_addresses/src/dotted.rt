@@ -11,8 +11,8 @@ use definitions::limits::MAX_PREFIX;
 use definitions::table::Address;
 use scan_cursors::Cursor;
 use scan_steps::numbers::then_number;
-use scan_steps::signs::next_is;
-use scan_steps::signs::then_literal;
+use scan_steps::literals::next_is;
+use scan_steps::literals::then_literal;
 
 // A byte that digits write, and where scanning stands after it.
 pub struct ByteAt {

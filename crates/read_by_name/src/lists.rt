@@ -15,9 +15,9 @@ use read_quoted::patterns::then_pattern;
 use read_quoted::quoted_names::then_name;
 use read_value::Value;
 use read_value::no_addresses;
-use scan_pieces::signs::gap_at;
-use scan_steps::signs::then_closing;
-use scan_steps::signs::then_optional_literal;
+use scan_pieces::literals::gap_at;
+use scan_steps::literals::then_closing;
+use scan_steps::literals::then_optional_literal;
 
 // The option name.
 pub fn name_option(s: &[u8], at: usize, used: usize) -> ParsedOption

@@ -3,7 +3,7 @@ ghost use Prim.Native.Nat.{_≤_, _<_};
 ghost use Rattle.forms.specs.Pieces.{opt, literalAs};
 ghost use Rattle.definitions.specs.Forms.{lessOrGreater, comparison};
 ghost use Rattle.definitions.specs.declared.table.Order.the-variants.{Equal};
-ghost use Rattle.scan_bytes.specs.Capped.{farAbove};
+ghost use Rattle.scan_bytes.specs.Capped.{numberCap};
 ghost use Rattle.scan_cursors.specs.Reads.{Inside, Reads};
 ghost use Rattle.read_operators.specs.Operators.{sizeOrder, masked};
 use definitions::table::Operator;
@@ -11,9 +11,9 @@ use definitions::table::Order;
 use scan_cursors::Cursor;
 use scan_pieces::numbers::Numeric;
 use scan_steps::numbers::then_numeral;
-use scan_steps::signs::next_is;
-use scan_steps::signs::then_literal;
-use scan_steps::signs::then_spaces;
+use scan_steps::literals::next_is;
+use scan_steps::literals::then_literal;
+use scan_steps::literals::then_spaces;
 
 // An order, and where scanning stands after it.
 pub struct OrderAt {
@@ -124,7 +124,7 @@ pub fn then_comparison(s: &[u8], c: Cursor) -> OperatorAt
 
 // Optional `&` and a mask up to a limit, which is the full mask.
 pub fn then_mask(s: &[u8], c: Cursor, limit: u64) -> Numeric
-    requires { ⌜ Inside (now s) c × (limit < farAbove) ⌝ }
+    requires { ⌜ Inside (now s) c × (limit < numberCap) ⌝ }
     ensures { λ r. ⌜ Reads (masked limit) (now (s .entry)) c (r .value) (r .cursor) × (r .value ≤ limit) ⌝ }
 {
     if next_is(s, c, b'&') {

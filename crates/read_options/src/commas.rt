@@ -8,9 +8,9 @@ use read_words::SizeFieldAt;
 use read_words::then_reference;
 use read_words::then_size_word;
 use scan_cursors::Cursor;
-use scan_pieces::signs::Mark;
-use scan_steps::signs::next_is;
-use scan_steps::signs::then_literal;
+use scan_pieces::literals::OptionalLiteral;
+use scan_steps::literals::next_is;
+use scan_steps::literals::then_literal;
 use scan_steps::words::then_word;
 
 // A reference, whether `reverse` follows it, and where scanning stands after them.
@@ -36,36 +36,36 @@ pub fn then_size_field(s: &[u8], c: Cursor) -> SizeFieldAt
 }
 
 // Optional `,relative`.
-pub fn then_relative(s: &[u8], c: Cursor) -> Mark
+pub fn then_relative(s: &[u8], c: Cursor) -> OptionalLiteral
     requires { ⌜ Inside (now s) c ⌝ }
     ensures { λ r. ⌜ Reads relative (now (s .entry)) c (r .yes) (r .cursor) ⌝ }
 {
     if next_is(s, c, b',') {
         let comma = then_literal(s, c, b',');
-        return Mark {
+        return OptionalLiteral {
             yes: true,
             cursor: then_word(s, comma, b"relative"),
         };
     }
-    Mark {
+    OptionalLiteral {
         yes: false,
         cursor: c,
     }
 }
 
 // Optional `,reverse`.
-fn then_reverse(s: &[u8], c: Cursor) -> Mark
+fn then_reverse(s: &[u8], c: Cursor) -> OptionalLiteral
     requires { ⌜ Inside (now s) c ⌝ }
     ensures { λ r. ⌜ Reads reversed (now (s .entry)) c (r .yes) (r .cursor) ⌝ }
 {
     if next_is(s, c, b',') {
         let comma = then_literal(s, c, b',');
-        return Mark {
+        return OptionalLiteral {
             yes: true,
             cursor: then_word(s, comma, b"reverse"),
         };
     }
-    Mark {
+    OptionalLiteral {
         yes: false,
         cursor: c,
     }

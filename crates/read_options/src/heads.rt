@@ -10,8 +10,8 @@ use crate::valued::Valued;
 use read_value::Value;
 use read_words::then_flow;
 use read_words::then_protocol;
-use scan_pieces::signs::gap_at;
-use scan_steps::signs::then_closing;
+use scan_pieces::literals::gap_at;
+use scan_steps::literals::then_closing;
 
 // The option protocol.
 pub fn protocol_option(s: &[u8], at: usize) -> Valued

@@ -14,8 +14,8 @@ use Rattle.read_value.specs.Values.{PatternBytes, appended}
 use Rattle.scan_cursors.specs.declared.Cursor.{Cursor}
 use Rattle.scan_cursors.specs.declared.Cursor.the-variants.{Parsed, Failed}
 use Rattle.scan_cursors.specs.Reads.{placeOf, Inside, joined, Reads}
-use Rattle.scan_cursors.proofs.Readings.{skip-reads, before-reads, step-reads, stopped-any}
-use Rattle.scan_cursors.proofs.Onward.{came-going, going-place, onward}
+use Rattle.scan_cursors.proofs.Readings.{preceded-reads, terminated-reads, step-reads, failed-any}
+use Rattle.scan_cursors.proofs.Onward.{came-parsed, parsed-place, onward}
 use Rattle.read_quoted.specs.Storing.{Ready, Stored, Stores}
 use Rattle.scan_cursors.proofs.Repeated.{Some, some-start, some-on, some-last, some-stop}
 
@@ -50,16 +50,16 @@ ready-on w u r = record { inside = r .inside; short = u .short; after = omega (a
 module _ {A : Type 0} {f : Form A} {F : Form (List ℕ)} {s : List ℕ} {room to : PatternBytes} {b : List ℕ} {c d e : Cursor} {v : A} (w : isLL1 f ≡ true) where
   pub stored-after : Inside s c → Reads f s c v d → Stored F s d room b to e → Stored (preceded f F) s c room b to e
   stored-after i r u =
-      record { read = skip-reads i r (u .read); kept = u .kept; grown = λ n g. omega (arith, u .grown n g, onward w i r) }
+      record { read = preceded-reads i r (u .read); kept = u .kept; grown = λ n g. omega (arith, u .grown n g, onward w i r) }
 
   pub stored-before : Inside s c → Stored F s c room b to d → Reads f s d v e → Stored (terminated F f) s c room b to e
   stored-before i u r =
       record {
-        read = before-reads i (u .read) r;
+        read = terminated-reads i (u .read) r;
         kept = u .kept;
         grown = λ n g.
-            let m = came-going r g in
-            omega (arith, u .grown (m .0) (m .1), onward w (u .read .inside) r, going-place d (m .1), going-place e g);
+            let m = came-parsed r g in
+            omega (arith, u .grown (m .0) (m .1), onward w (u .read .inside) r, parsed-place d (m .1), parsed-place e g);
       }
 
 -- a scanner that stores from a place on makes one from any cursor on
@@ -71,7 +71,7 @@ stored-step {F} {s} {room} {to} {b} {c} {d} {e} {at} i p j u =
       read = r;
       kept = u .kept;
       grown = λ n g.
-          let m = came-going r g in
+          let m = came-parsed r g in
           let q : c ≡ Parsed (m .0) = m .1 in
           let z : d ≡ Parsed n = rw q at (sym j ∙ g) in
           omega (arith, u .grown n z, p);
@@ -145,7 +145,7 @@ module _ {A : Type 0} {f : Form A} {F : Form (List ℕ)} (W : Writing f F) (s : 
     writes-stop v {p} b r e = (
       W .bytes (u .values) ++ b,
       record {
-        read = stopped-any (W .read s at (u .values ++ (v ∷ [])) (Failed p) (some-stop f (W .full) s (u .turns) r [])) (W .bytes (u .values) ++ b);
+        read = failed-any (W .read s at (u .values ++ (v ∷ [])) (Failed p) (some-stop f (W .full) s (u .turns) r [])) (W .bytes (u .values) ++ b);
         kept = e ∙ ap (λ (x : PatternBytes). appended x b) (u .kept) ∙ appended-twice room (W .bytes (u .values)) b;
         grown = λ m q. never (cc);
       },

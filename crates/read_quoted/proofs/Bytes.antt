@@ -16,7 +16,7 @@ use Rattle.scan_cursors.proofs.Cursor as cursor-type
 use Rattle.scan_cursors.specs.declared.Cursor.{Cursor}
 use Rattle.scan_cursors.specs.declared.Cursor.the-variants.{Parsed, Failed}
 use Rattle.scan_cursors.specs.Reads.{Reads}
-use Rattle.scan_cursors.proofs.Readings.{made-reads, before-reads, stopped-reads}
+use Rattle.scan_cursors.proofs.Readings.{fmap-reads, terminated-reads, failed-reads}
 use Rattle.scan_cursors.proofs.Choices.{first-reads, second-reads}
 use Rattle.scan_cursors.proofs.Onward.{ahead-more}
 use Rattle.scan_pieces.proofs.AtPlace.{begins-in, byte-begun}
@@ -36,7 +36,7 @@ module _ (s : List ℕ) (at : ℕ) (room : PatternBytes) (ready : Ready s (Parse
       let z = halted d k refl r in
       let q : d ≡ Failed (z .0) = z .1 in
       let r′ : Reads hexPair s (Parsed here) v (Failed (z .0)) = rw q at r in
-      let stop = before-reads (u .turns .inside) r′ (stopped-reads spaces s (z .0) [] (r′ .inside)) in
+      let stop = terminated-reads (u .turns .inside) r′ (failed-reads spaces s (z .0) [] (r′ .inside)) in
       rw q (writes-stop pairWriting s at room ready u v [] stop (appended-none to))
 
   module _ {n : ℕ} (e : d ≡ Parsed n) where
@@ -51,7 +51,7 @@ module _ (s : List ℕ) (at : ℕ) (room : PatternBytes) (ready : Ready s (Parse
 
     module _ {x : List ℕ} {next : ℕ} (q : Reads spaces s (Parsed n) x (Parsed next)) where
       spaced : Reads spacedPair s (Parsed here) v (Parsed next)
-      spaced = before-reads (u .turns .inside) told q
+      spaced = terminated-reads (u .turns .inside) told q
 
       further : here < next
       further = omega (arith, ahead-more (u .turns .inside) spaced refl)
@@ -80,7 +80,7 @@ elementWriting =
       one = λ v. v;
       none = refl;
       snoc = joined-snoc;
-      read = λ s at vs d r. made-reads forms.concatenated r;
+      read = λ s at vs d r. fmap-reads forms.concatenated r;
     }
 
 module _ (s : List ℕ) (at : ℕ) (room : PatternBytes) (ready : Ready s (Parsed at) room) {here : ℕ} {to to′ : PatternBytes}
@@ -114,7 +114,7 @@ module _ (s : List ℕ) (at : ℕ) (room : PatternBytes) where
   plain-stored t e = (
     getD s at 0 ∷ [],
     record {
-      read = first-reads refl t (made-reads (λ (b : ℕ). b ∷ []) (byte-begun plainBytes s at t));
+      read = first-reads refl t (fmap-reads (λ (b : ℕ). b ∷ []) (byte-begun plainBytes s at t));
       kept = e;
       grown = λ n q. let z : at + 1 ≡ n = cc in omega (arith, z);
     },

@@ -10,7 +10,7 @@ use Rattle.forms.specs.Form.{Form}
 use Rattle.forms.specs.Scan.{Scan, Got, Stop, scan}
 use Rattle.forms.specs.Place.{placed, readAt}
 use Rattle.forms.proofs.Sound.{never}
-use Rattle.forms.proofs.Pieces.{free, over-free}
+use Rattle.forms.proofs.Pieces.{free, over-unbounded}
 use Rattle.scan_cursors.specs.declared.Cursor.{Cursor}
 use Rattle.scan_cursors.specs.declared.Cursor.the-variants.{Parsed, OutOfRange, Failed}
 use Rattle.scan_cursors.proofs.Cursor as cursor-type
@@ -18,7 +18,7 @@ use Rattle.scan_cursors.specs.Reads.{readBy, Reads}
 
 never-over : {A : Type 0} {f : Form A} {s : List ℕ} {i p n : ℕ} {v : A} → free f ≡ true → Reads f s (Parsed i) v (OutOfRange p n) → _≡_ {A = ℕ} 0 1
 unfolding readAt
-never-over {A} {f} {s} {i} {p} {n} {v} w r = go (scan f (drop i s)) (rw (over-free f w (drop i s)) at (r .reads))
+never-over {A} {f} {s} {i} {p} {n} {v} w r = go (scan f (drop i s)) (rw (over-unbounded f w (drop i s)) at (r .reads))
   where
     go : (o : Scan A) → readBy v (OutOfRange p n) ≡ placed s [] o → _≡_ {A = ℕ} 0 1
     go (Got a m) q = never (cc)

@@ -17,9 +17,9 @@ use Rattle.definitions.specs.Numbers.{hexDigits, digitValue, valueOf}
 use Rattle.definitions.specs.Forms.{hexPair}
 use Rattle.scan_cursors.specs.declared.Cursor.the-variants.{Parsed, Failed}
 use Rattle.definitions.specs.Limits.{maxByte}
-use Rattle.scan_bytes.specs.Capped.{farAbove, capped}
+use Rattle.scan_bytes.specs.Capped.{numberCap, capped}
 use Rattle.scan_cursors.specs.Reads.{Reads}
-use Rattle.scan_cursors.proofs.Readings.{made-reads, pair-reads, stopped-reads, stopped-any}
+use Rattle.scan_cursors.proofs.Readings.{fmap-reads, pair-reads, failed-reads, failed-any}
 use Rattle.scan_pieces.proofs.AtPlace.{begins-at, begins-in, begun-in, byte-begun, byte-none}
 
 digit-small : (b : ℕ) → has hexDigits b ≡ true → digitValue b ≤ 15
@@ -44,7 +44,7 @@ byteOf p = digitValue (p .0) * 16 + digitValue (p .1)
 module _ (s : List ℕ) (at : ℕ) where
   pub pair-none : at ≤ length s → begins hexDigits (drop at s) ≡ false → Reads hexPair s (Parsed at) 0 (Failed at)
   pair-none h t =
-      stopped-any (made-reads byteOf (pair-reads h (byte-none hexDigits s at h t 0) (stopped-reads (byte hexDigits) s at 0 h))) 0
+      failed-any (fmap-reads byteOf (pair-reads h (byte-none hexDigits s at h t 0) (failed-reads (byte hexDigits) s at 0 h))) 0
 
   module _ (t : begins hexDigits (drop at s) ≡ true) where
     half-in : at + 1 ≤ length s
@@ -52,7 +52,7 @@ module _ (s : List ℕ) (at : ℕ) where
 
     pub pair-half : begins hexDigits (drop (at + 1) s) ≡ false → Reads hexPair s (Parsed at) 0 (Failed (at + 1))
     pair-half u =
-        stopped-any (made-reads byteOf (pair-reads (omega (arith, half-in)) (byte-begun hexDigits s at t) (byte-none hexDigits s (at + 1) half-in u 0))) 0
+        failed-any (fmap-reads byteOf (pair-reads (omega (arith, half-in)) (byte-begun hexDigits s at t) (byte-none hexDigits s (at + 1) half-in u 0))) 0
 
     module _ (u : begins hexDigits (drop (at + 1) s) ≡ true) where
       pub pair-in : at + 2 ≤ length s
@@ -73,7 +73,7 @@ module _ (s : List ℕ) (at : ℕ) where
           let a = digit at t in
           let b = digit (at + 1) u in
           let q : v ≡ capped ((0 * 16 + digitValue (getD s at 0)) * 16 + digitValue (getD s (at + 1) 0)) = rw two at e in
-          q ∙ rw (lt-ltb ((0 * 16 + digitValue (getD s at 0)) * 16 + digitValue (getD s (at + 1) 0)) farAbove (omega arith)) (omega arith)
+          q ∙ rw (lt-ltb ((0 * 16 + digitValue (getD s at 0)) * 16 + digitValue (getD s (at + 1) 0)) numberCap (omega arith)) (omega arith)
 
       pub pair-fits : (v : ℕ) → v ≡ capped (valueOf 16 0 (take (at + 2 - at) (drop at s))) → v ≤ maxByte
       pair-fits v e = omega (arith, written v e, digit at t, digit (at + 1) u)
@@ -82,4 +82,4 @@ module _ (s : List ℕ) (at : ℕ) where
       pair-whole v e =
           let q : at + 1 + 1 ≡ at + 2 = omega arith in
           rw (written v e, ← q)
-          (made-reads byteOf (pair-reads (omega (arith, half-in)) (byte-begun hexDigits s at t) (byte-begun hexDigits s (at + 1) u)))
+          (fmap-reads byteOf (pair-reads (omega (arith, half-in)) (byte-begun hexDigits s at t) (byte-begun hexDigits s (at + 1) u)))

@@ -13,8 +13,8 @@ use Rattle.definitions.specs.Limits.{maxName}
 use Rattle.definitions.specs.Forms.{quotable}
 use Rattle.scan_cursors.specs.declared.Cursor.{Cursor}
 use Rattle.scan_cursors.specs.Reads.{placeOf, Inside, limitedBy, Reads}
-use Rattle.scan_cursors.proofs.Readings.{skip-reads, before-reads, limit-reads}
-use Rattle.scan_cursors.proofs.Onward.{came-going, limited-going, some-filled}
+use Rattle.scan_cursors.proofs.Readings.{preceded-reads, terminated-reads, limit-reads}
+use Rattle.scan_cursors.proofs.Onward.{came-parsed, limited-parsed, some-filled}
 use Rattle.read_quoted.specs.Quoting.{NameRead}
 
 pub name-read : {s : List ℕ} {c o e k d : Cursor} {x y : ℕ} (from len : ℕ) → Inside s c → Reads (literal 34) s c x o
@@ -22,12 +22,12 @@ pub name-read : {s : List ℕ} {c o e k d : Cursor} {x y : ℕ} (from len : ℕ)
     → d ≡ limitedBy (leb len maxName) (placeOf c) k → NameRead s c from len d
 name-read {s} {c} {o} {e} {k} {d} from len i r1 r2 h r3 q =
     let z : length (take len (drop from s)) ≡ len = length-take-le len (drop from s) (omega (arith, length-drop from s, h)) in
-    let r = limit-reads (λ (n : List ℕ). leb (length n) maxName) i (skip-reads i r1 (before-reads (r1 .inside) r2 r3)) in
+    let r = limit-reads (λ (n : List ℕ). leb (length n) maxName) i (preceded-reads i r1 (terminated-reads (r1 .inside) r2 r3)) in
     record {
       read = rw q (rw z at r);
       inside = h;
       low = λ n g.
-          let w = limited-going (leb len maxName) (placeOf c) k (sym q ∙ g) .0 in
-          rw z at (some-filled r2 (came-going r3 w .1));
-      high = λ n g. leb-true len maxName (limited-going (leb len maxName) (placeOf c) k (sym q ∙ g) .1);
+          let w = limited-parsed (leb len maxName) (placeOf c) k (sym q ∙ g) .0 in
+          rw z at (some-filled r2 (came-parsed r3 w .1));
+      high = λ n g. leb-true len maxName (limited-parsed (leb len maxName) (placeOf c) k (sym q ∙ g) .1);
     }

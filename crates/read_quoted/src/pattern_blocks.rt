@@ -16,9 +16,9 @@ use scan_bytes::numbers::value_of;
 use scan_cursors::Cursor;
 use scan_cursors::join;
 use scan_cursors::place;
-use scan_pieces::signs::spaces_at;
-use scan_steps::signs::then_literal;
-use scan_steps::signs::then_spaces;
+use scan_pieces::literals::spaces_at;
+use scan_steps::literals::then_literal;
+use scan_steps::literals::then_spaces;
 
 // How many bytes are in use, and where scanning stands.
 pub struct BytesAt {

@@ -13,8 +13,8 @@ use scan_bytes::bytes::is_plain;
 use scan_cursors::Cursor;
 use scan_cursors::join;
 use scan_cursors::place;
-use scan_pieces::signs::stands;
-use scan_steps::signs::then_literal;
+use scan_pieces::literals::stands;
+use scan_steps::literals::then_literal;
 
 // Whether a byte that stands for itself stands at the place.
 fn is_plain_at(s: &[u8], at: usize) -> bool

@@ -49,10 +49,10 @@ module _ (s : List ℕ) (at : ℕ) (es : List OptionValue) (K : OptionValue → 
       go (cursor.Failed p) g = cc
 
 -- an option that ends at a place went on to it
-pub ended-going : (d : Cursor) {n : ℕ} → endedBy d ≡ ended.Next n → d ≡ cursor.Parsed n
-ended-going (cursor.Parsed m) e = cc
-ended-going (cursor.OutOfRange p m) e = absurd (let z : _≡_ {A = ℕ} 0 1 = cc in omega arith)
-ended-going (cursor.Failed p) e = absurd (let z : _≡_ {A = ℕ} 0 1 = cc in omega arith)
+pub ended-parsed : (d : Cursor) {n : ℕ} → endedBy d ≡ ended.Next n → d ≡ cursor.Parsed n
+ended-parsed (cursor.Parsed m) e = cc
+ended-parsed (cursor.OutOfRange p m) e = absurd (let z : _≡_ {A = ℕ} 0 1 = cc in omega arith)
+ended-parsed (cursor.Failed p) e = absurd (let z : _≡_ {A = ℕ} 0 1 = cc in omega arith)
 
 -- how many pattern bytes one option more brings
 bytes-located : (s : List ℕ) (v : Value) (al : List Address) (b : List ℕ) → Apart s v al b → bytesIn (optionValueOf s v al b ∷ []) ≡ b
@@ -117,8 +117,8 @@ module _ (s : List ℕ) (located : List Located) (st u : State) (bytes after : L
   stepped (Not r) e h = λ K. rw (is, sym e)
 
 -- the place after a cursor that goes on
-pub going-inside : (s : List ℕ) (d : Cursor) (n : ℕ) → placeOf d ≤ length s → d ≡ cursor.Parsed n → n ≤ length s
-going-inside s d n h e = subst (λ (x : Cursor). placeOf x ≤ length s) e h
+pub parsed-inside : (s : List ℕ) (d : Cursor) (n : ℕ) → placeOf d ≤ length s → d ≡ cursor.Parsed n → n ≤ length s
+parsed-inside s d n h e = subst (λ (x : Cursor). placeOf x ≤ length s) e h
 
 -- before the first option
 pub fresh-holds : (s : List ℕ) (st : State) (bytes : List ℕ) (items : List Slot) → st ≡ stateOf 0 [] → bytes ≡ replicate (documentLimits .room) 0

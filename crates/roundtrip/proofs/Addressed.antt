@@ -22,7 +22,8 @@ use Rattle.definitions.specs.Canonical.{decimal, textIf, addressText, addresses
 use Rattle.definitions.specs.WellFormed.{addressFits}
 use Rattle.roundtrip.proofs.AllTests.{halves, all-head, all-tail}
 use Rattle.roundtrip.proofs.Decimals.{number-of}
-use Rattle.roundtrip.proofs.Making.{Of, retexts, revalues, tells, makes, skips, befores, joins, lefts, rights, stars, signs}
+use Rattle.roundtrip.proofs.Making.{Of, retexts, revalues, pure-of, fmap-of, preceded-of, terminated-of, both-of}
+use Rattle.roundtrip.proofs.Making.{alt-left, alt-right, many-of, literal-of}
 
 -- ---- an address
 
@@ -30,15 +31,15 @@ octet-of : (n : ℕ) → n ≤ 255 → Of octet (decimal n) n
 octet-of n h = number-of maxByte n (le-leb n maxByte h)
 
 dotted-of : (n : ℕ) → n ≤ 255 → Of dotted (decimal n ++ (46 ∷ [])) n
-dotted-of n h = befores (octet-of n h) (signs 46)
+dotted-of n h = terminated-of (octet-of n h) (literal-of 46)
 
 -- a prefix of 32 is left out
 prefix-of : (p : ℕ) → leb p maxPrefix ≡ true
     → Of (opt maxPrefix (preceded (literal 47) (number maxPrefix))) (textIf (not (eqb p maxPrefix)) (text "/" ++ decimal p)) p
 prefix-of p t =
     by-cases (eqb p maxPrefix)
-    (λ u. rw u (rights (revalues (sym (eqb-true p maxPrefix u)) tells)))
-    (λ u. rw u (lefts (skips (signs 47) (number-of maxPrefix p t))))
+    (λ u. rw u (alt-right (revalues (sym (eqb-true p maxPrefix u)) pure-of)))
+    (λ u. rw u (alt-left (preceded-of (literal-of 47) (number-of maxPrefix p t))))
 
 byte-back : (n : ℕ) → n / 256 * 256 + n % 256 ≡ n
 byte-back n = omega arith
@@ -59,9 +60,9 @@ address-of a t =
     let e = four-back n (leb-true n maxAddress (h .0)) in
     revalues (ap (λ i. record { number = i; prefix = a .prefix }) e)
     (retexts (simp append-assoc)
-    (makes (joins (dotted-of (n / 16777216 % 256) (omega arith))
-    (joins (dotted-of (n / 65536 % 256) (omega arith))
-    (joins (dotted-of (n / 256 % 256) (omega arith)) (joins (octet-of (n % 256) (omega arith)) (prefix-of (a .prefix) (h .1))))))))
+    (fmap-of (both-of (dotted-of (n / 16777216 % 256) (omega arith))
+    (both-of (dotted-of (n / 65536 % 256) (omega arith))
+    (both-of (dotted-of (n / 256 % 256) (omega arith)) (both-of (octet-of (n % 256) (omega arith)) (prefix-of (a .prefix) (h .1))))))))
 
 -- ---- a list of them
 
@@ -77,13 +78,13 @@ first-and-tail a (b ∷ al) = ap (λ l. addressText a ++ (44 ∷ l)) (first-and-
 tail-of : (al : List Address) → all? addressFits al ≡ true → Row (λ y w. Of (preceded (literal 44) address) y w) (tailText al) al
 unfolding tailText
 tail-of [] t = none
-tail-of (a ∷ al) t = Row.more (skips (signs 44) (address-of a (all-head addressFits a al t))) (tail-of al (all-tail addressFits a al t))
+tail-of (a ∷ al) t = Row.more (preceded-of (literal-of 44) (address-of a (all-head addressFits a al t))) (tail-of al (all-tail addressFits a al t))
 
 pub addresses-of : (al : List Address) → 1 ≤ length al → all? addressFits al ≡ true → Of addresses (bracketed al) al
 addresses-of [] h t = absurd (omega (arith, h))
-addresses-of (a ∷ []) h t = unfold addressesText in rights (makes {h = λ (a : Address). a ∷ []} (address-of a (all-head addressFits a [] t)))
+addresses-of (a ∷ []) h t = unfold addressesText in alt-right (fmap-of {h = λ (a : Address). a ∷ []} (address-of a (all-head addressFits a [] t)))
 addresses-of (a ∷ (b ∷ al)) h t =
     rw (lt-ltb 1 (suc (suc (length al))) (omega arith), first-and-tail a (b ∷ al))
-    (lefts (skips (signs 91)
-    (befores (makes {h = λ (p : Address × List Address). p .0 ∷ p .1}
-    (joins (address-of a (all-head addressFits a (b ∷ al) t)) (stars (tail-of (b ∷ al) (all-tail addressFits a (b ∷ al) t))))) (signs 93))))
+    (alt-left (preceded-of (literal-of 91)
+    (terminated-of (fmap-of {h = λ (p : Address × List Address). p .0 ∷ p .1}
+    (both-of (address-of a (all-head addressFits a (b ∷ al) t)) (many-of (tail-of (b ∷ al) (all-tail addressFits a (b ∷ al) t))))) (literal-of 93))))

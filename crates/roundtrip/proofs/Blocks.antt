@@ -16,7 +16,7 @@ use Rattle.definitions.specs.Forms.{block, plainBytes, concatenated, patternByt
 use Rattle.definitions.specs.Canonical.{hexDigit, patternText}
 use Rattle.roundtrip.proofs.AllTests.{all-head, all-tail}
 use Rattle.roundtrip.proofs.Fits.{isByte}
-use Rattle.roundtrip.proofs.Making.{Of, revalues, is-byte, makes, skips, befores, joins, lefts, rights, stars, somes, signs}
+use Rattle.roundtrip.proofs.Making.{Of, revalues, is-byte, fmap-of, preceded-of, terminated-of, both-of, alt-left, alt-right, many-of, somes, literal-of}
 use Rattle.roundtrip.proofs.Values.{spacedPair, part}
 
 -- ---- digits
@@ -42,7 +42,9 @@ pair-of b t =
     let p = digit-of (b / 16) (omega (arith, h)) in
     let q = digit-of (b % 16) (omega arith) in
     let e : digitValue (hexDigit (b / 16)) * 16 + digitValue (hexDigit (b % 16)) ≡ b = rw (p .1, q .1) (omega arith) in
-    befores (revalues e (makes {h = λ (p : ℕ × ℕ). digitValue (p .0) * 16 + digitValue (p .1)} (joins (is-byte (p .0)) (is-byte (q .0))))) (stars none)
+    terminated-of
+    (revalues e (fmap-of {h = λ (p : ℕ × ℕ). digitValue (p .0) * 16 + digitValue (p .1)} (both-of (is-byte (p .0)) (is-byte (q .0)))))
+    (many-of none)
 
 -- ---- parts
 
@@ -66,7 +68,7 @@ plain-one : (b : ℕ) (x l : List ℕ) → has plainBytes b ≡ true → Shut x 
 plain-one b x l p i =
     record {
       parts = (b ∷ []) ∷ i .parts;
-      row = Row.more (lefts (makes {h = λ (b : ℕ). b ∷ []} (is-byte p))) (i .row);
+      row = Row.more (alt-left (fmap-of {h = λ (b : ℕ). b ∷ []} (is-byte p))) (i .row);
       bytes = ap (λ m. b ∷ m) (i .bytes);
     }
 
@@ -87,12 +89,13 @@ hex-first : (b : ℕ) (x l : List ℕ) → isByte b ≡ true → Begun x l → S
 hex-first b x l t i =
     let j = i .rest in
     let y : List ℕ = 124 ∷ hexDigit (b / 16) ∷ hexDigit (b % 16) ∷ (i .front ++ (124 ∷ [])) in
-    let m : Of block y (b ∷ i .pairs) = skips (signs 124) (skips (stars none) (befores (somes (pair-of b t) (i .row)) (signs 124))) in
+    let m : Of block y (b ∷ i .pairs) =
+    preceded-of (literal-of 124) (preceded-of (many-of none) (terminated-of (somes (pair-of b t) (i .row)) (literal-of 124))) in
     let e : y ++ i .following ≡ 124 ∷ hexDigit (b / 16) ∷ hexDigit (b % 16) ∷ x =
     ap (λ z. 124 ∷ hexDigit (b / 16) ∷ hexDigit (b % 16) ∷ z) (append-assoc (i .front) (124 ∷ []) (i .following) ∙ sym (i .split)) in
     record {
       parts = (b ∷ i .pairs) ∷ j .parts;
-      row = subst (λ z. Row (λ y w. Of part y w) z ((b ∷ i .pairs) ∷ j .parts)) e (Row.more (rights m) (j .row));
+      row = subst (λ z. Row (λ y w. Of part y w) z ((b ∷ i .pairs) ∷ j .parts)) e (Row.more (alt-right m) (j .row));
       bytes = ap (λ z. b ∷ z) (ap (λ z. i .pairs ++ z) (j .bytes) ∙ sym (i .bytes));
     }
 
@@ -112,7 +115,7 @@ written (b ∷ bs) t =
 -- one part or more
 parted : {x : List ℕ} {vs : List (List ℕ)} → Row (λ y w. Of part y w) x vs → 1 ≤ length (concatenated vs) → Of patternBytes x (concatenated vs)
 parted none h = absurd (omega (arith, h))
-parted (Row.more m r) h = makes {h = concatenated} (somes m r)
+parted (Row.more m r) h = fmap-of {h = concatenated} (somes m r)
 
 pub pattern-of : (bs : List ℕ) → 1 ≤ length bs → all? isByte bs ≡ true → Of patternBytes (patternText false bs) bs
 pattern-of bs h t =

@@ -28,7 +28,7 @@ use Rattle.syntax.proofs.Exact.{syntax-exactly, one-table}
 use Rattle.roundtrip.proofs.AllTests.{halves, all-head, all-tail, all-append, all-so}
 use Rattle.roundtrip.proofs.RebuiltTable.{canonical-slots, canonical-table}
 use Rattle.roundtrip.proofs.Counts.{slots-counted, fewAddresses}
-use Rattle.roundtrip.proofs.Fits.{optionFits, optionTold}
+use Rattle.roundtrip.proofs.Fits.{optionFits, optionWritable}
 use Rattle.roundtrip.proofs.Parts.{formed}
 use Rattle.roundtrip.proofs.Printed.{options-printed}
 use Rattle.roundtrip.proofs.Read.{read-formed}
@@ -42,8 +42,8 @@ options-written : (es : List OptionValue) → all? good es ≡ true → OptionsT
 unfolding optionsText
 options-written [] t = space close
 options-written (e ∷ es) t =
-    let h : (optionFits e ≡ true) × ((fewAddresses e && optionTold e) ≡ true) = halves (all-head good e es t) in
-    let g : (fewAddresses e ≡ true) × (optionTold e ≡ true) = halves (h .1) in
+    let h : (optionFits e ≡ true) × ((fewAddresses e && optionWritable e) ≡ true) = halves (all-head good e es t) in
+    let g : (fewAddresses e ≡ true) × (optionWritable e ≡ true) = halves (h .1) in
     let w = option-written e (h .0) (g .1) in
     let i = options-written es (all-tail good e es t) in
     let z : 32 ∷ (w .0 ++ (optionsText es ++ text " )")) ≡ (optionText e ++ optionsText es) ++ text " )" =
@@ -73,8 +73,8 @@ module _ (room : ℕ) (t : Table) (h : Shaped room t) (w : wellFormed t ≡ true
       let c : length (slotsOf t) ≡ count isTest (canonicalOptions t) + count isPattern (canonicalOptions t) =
       ap length (sym (canonical-slots room t h w)) ∙ slots-counted (canonicalOptions t) in
       let l : length (slotsOf t) ≡ t .count = omega (arith, length-take (t .count) (t .items), f .count, h .slotted) in
-      let few = all-so good fewAddresses (λ e u. let g : (optionFits e ≡ true) × ((fewAddresses e && optionTold e) ≡ true) = halves u in
-      both-left (fewAddresses e) (optionTold e) (g .1)) (canonicalOptions t) (canonical-good room t h w) in
+      let few = all-so good fewAddresses (λ e u. let g : (optionFits e ≡ true) × ((fewAddresses e && optionWritable e) ≡ true) = halves u in
+      both-left (fewAddresses e) (optionWritable e) (g .1)) (canonicalOptions t) (canonical-good room t h w) in
       record {
         body = optionsText (canonicalOptions t) ++ text " )";
         values = canonicalOptions t;

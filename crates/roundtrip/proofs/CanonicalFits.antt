@@ -40,61 +40,62 @@ use Rattle.definitions.specs.WellFormed.{Shaped, isZero, addressFits, addressUn
 use Rattle.roundtrip.proofs.AllTests.{both, halves, all-none, all-more, all-head, all-tail, all-append, all-take, all-drop, all-so}
 use Rattle.roundtrip.proofs.RebuiltTable.{kindLength, Enough, enough}
 use Rattle.roundtrip.proofs.Counts.{fewAddresses}
-use Rattle.roundtrip.proofs.Fits.{isByte, optionFits, shiftTold, optionTold}
+use Rattle.roundtrip.proofs.Fits.{isByte, optionFits, offsetWritable, optionWritable}
 use Rattle.roundtrip.proofs.Parts.{formed}
 use Rattle.roundtrip.proofs.Patterned.{modifierOptions, modifiers-all}
 use Rattle.roundtrip.proofs.Shape.{wholeSlot, slots-shaped}
 
 -- an option that fits, has few addresses, and is said by its text
 abbrev pub good : OptionValue → Bool
-good e = optionFits e && (fewAddresses e && optionTold e)
+good e = optionFits e && (fewAddresses e && optionWritable e)
 
 -- ---- usable patterns
 
-abbrev distanceTold : distances.Distance → Bool
-distanceTold distance.Unset = true
-distanceTold (distance.Given d) = shiftTold d
+abbrev distanceWritable : distances.Distance → Bool
+distanceWritable distance.Unset = true
+distanceWritable (distance.Given d) = offsetWritable d
 
-abbrev patternTold : patterns.Pattern → Bool
-patternTold p = distanceTold (p .distance)
+abbrev patternWritable : patterns.Pattern → Bool
+patternWritable p = distanceWritable (p .distance)
 
 first-of-two : (a b c : Bool) → (a || (b && c)) ≡ true → (a || b) ≡ true
 first-of-two true b c t = refl
 first-of-two false b c t = both-left b c t
 
-distance-told : (last : LastMatch) (c : contexts.Context) (d : distances.Distance) → distanceUsable last c d ≡ true → distanceTold d ≡ true
-distance-told last c distance.Unset t = refl
-distance-told last c (distance.Given d) t =
+distance-writable : (last : LastMatch) (c : contexts.Context) (d : distances.Distance) → distanceUsable last c d ≡ true → distanceWritable d ≡ true
+distance-writable last c distance.Unset t = refl
+distance-writable last c (distance.Given d) t =
     first-of-two (not (d .reverse)) (not (sameReference (d .reference) reference.Match)) (leZ (pos 0) (d .offset))
     (both-right (referenceUsable last c (d .reference)) (reverseUsable d) t)
 
-usable-one : (last : LastMatch) (p : patterns.Pattern) → usable last p ≡ true → patternTold p ≡ true
+usable-one : (last : LastMatch) (p : patterns.Pattern) → usable last p ≡ true → patternWritable p ≡ true
 unfolding usable
 usable-one last p t =
-    distance-told last (p .context) (p .distance)
+    distance-writable last (p .context) (p .distance)
     (both-left (distanceUsable last (p .context) (p .distance)) (withinUsable last (p .context) (p .within) && referencesAlike (p .distance) (p .within)) t)
 
-usable-told : (last : LastMatch) (ps : List patterns.Pattern) → usableRun last ps ≡ length ps → all? patternTold ps ≡ true
+usable-writable : (last : LastMatch) (ps : List patterns.Pattern) → usableRun last ps ≡ length ps → all? patternWritable ps ≡ true
 unfolding usableRun
-usable-told last [] e = all-none patternTold
-usable-told last (p ∷ ps) e =
+usable-writable last [] e = all-none patternWritable
+usable-writable last (p ∷ ps) e =
     by-cases (usable last p)
     (λ t.
     let q : 1 + usableRun (lastAfter last p (startAt 0)) ps ≡ suc (length ps) = rw t at e in
-    all-more patternTold p ps (usable-one last p t) (usable-told (lastAfter last p (startAt 0)) ps (omega (arith, q))))
+    all-more patternWritable p ps (usable-one last p t) (usable-writable (lastAfter last p (startAt 0)) ps (omega (arith, q))))
     (λ t. let q : 0 ≡ suc (length ps) = rw t at e in absurd (omega (arith, q)))
 
-abbrev kindTold : Kind → Bool
-kindTold unused = true
-kindTold (addressed a) = true
-kindTold (patterned p) = patternTold p
-kindTold plainTest = true
+abbrev kindWritable : Kind → Bool
+kindWritable unused = true
+kindWritable (addressed a) = true
+kindWritable (patterned p) = patternWritable p
+kindWritable plainTest = true
 
-told-first : (k : Kind) (ps : List patterns.Pattern) → all? patternTold (patternFirst k ps) ≡ true → (kindTold k ≡ true) × (all? patternTold ps ≡ true)
-told-first unused ps t = (refl, t)
-told-first (addressed a) ps t = (refl, t)
-told-first (patterned p) ps t = (all-head patternTold p ps t, all-tail patternTold p ps t)
-told-first plainTest ps t = (refl, t)
+writable-first : (k : Kind) (ps : List patterns.Pattern) → all? patternWritable (patternFirst k ps) ≡ true
+    → (kindWritable k ≡ true) × (all? patternWritable ps ≡ true)
+writable-first unused ps t = (refl, t)
+writable-first (addressed a) ps t = (refl, t)
+writable-first (patterned p) ps t = (all-head patternWritable p ps t, all-tail patternWritable p ps t)
+writable-first plainTest ps t = (refl, t)
 
 -- ---- slots
 
@@ -113,7 +114,7 @@ module _ (al : List Address) (b : List ℕ) (whole : length al ≡ maxAddresses)
       rw e (both (both (eq-eqb (a .count) (a .count) refl)
       (both (g .0) (both-left (all? addressFits (take (a .count) al)) (all? addressUnused (drop (a .count) al)) (h .1)))) (both (g .1) refl))
 
-  pattern-good : (p : patterns.Pattern) → p .len ≤ length b → patternTold p ≡ true → slotFits (record { item = item.Pattern p; addresses = al }) ≡ true
+  pattern-good : (p : patterns.Pattern) → p .len ≤ length b → patternWritable p ≡ true → slotFits (record { item = item.Pattern p; addresses = al }) ≡ true
       → all? good (Pattern (p .negated) (take (p .len) b) ∷ modifierOptions p) ≡ true
   unfolding itemFits
   pattern-good p h u t =
@@ -125,13 +126,13 @@ module _ (al : List Address) (b : List ℕ) (whole : length al ≡ maxAddresses)
       all-more good (Pattern (p .negated) (take (p .len) b)) (modifierOptions p)
       (both (both (le-leb 1 (length (take (p .len) b)) (omega (arith, n, e))) (all-take isByte (p .len) b bytes)) refl)
       (modifiers-all good p refl refl
-      (λ s d. both (ap distanceFits (sym d) ∙ r .0) (both refl (ap distanceTold (sym d) ∙ u)))
+      (λ s d. both (ap distanceFits (sym d) ∙ r .0) (both refl (ap distanceWritable (sym d) ∙ u)))
       (λ w d. both (ap withinFits (sym d) ∙ r .1) refl))
 
   plain-good : (it : Item) → (itemFits it && addressesFit 0 al) ≡ true → (itemFits it && true) ≡ true
   plain-good it t = both (both-left (itemFits it) (addressesFit 0 al) t) refl
 
-  item-good : (it : Item) → kindLength (kindOf it) ≤ length b → kindTold (kindOf it) ≡ true → slotFits (record { item = it; addresses = al }) ≡ true
+  item-good : (it : Item) → kindLength (kindOf it) ≤ length b → kindWritable (kindOf it) ≡ true → slotFits (record { item = it; addresses = al }) ≡ true
       → all? good (itemOptions (kindOf it) (record { item = it; addresses = al }) b) ≡ true
   item-good item.Unused h u t = all-none good
   item-good (item.Address a) h u t = one-good (Test (item.Address a) (take (a .count) al)) (address-good a t)
@@ -150,13 +151,13 @@ after-bytes (patterned p) b t = all-drop isByte (p .len) b t
 after-bytes plainTest b t = t
 
 slots-good : (sls : List Slot) (b : List ℕ) → all? slotFits sls ≡ true → all? wholeSlot sls ≡ true → all? isByte b ≡ true
-    → all? patternTold (patternsOf sls) ≡ true → Enough sls b → all? good (slotOptions sls b) ≡ true
+    → all? patternWritable (patternsOf sls) ≡ true → Enough sls b → all? good (slotOptions sls b) ≡ true
 unfolding slotOptions patternsOf
 slots-good [] b f w t u h = all-none good
 slots-good (sl ∷ sls) b f w t u h =
     let k = kindOf (sl .item) in
     let g = enough sl sls b h in
-    let q = told-first k (patternsOf sls) u in
+    let q = writable-first k (patternsOf sls) u in
     all-append good (itemOptions k sl b) (slotOptions sls (afterItem k b))
     (item-good (sl .addresses) b (eqb-true (length (sl .addresses)) maxAddresses (all-head wholeSlot sl sls w)) t (sl .item) (g .0) (q .0)
     (all-head slotFits sl sls f))
@@ -195,4 +196,4 @@ module _ (room : ℕ) (t : Table) (h : Shaped room t) (w : wellFormed t ≡ true
       (all-more good (Protocol (t .protocol)) (flowOption (t .flow) ++ rest) (both (f .protocol) refl)
       (all-append good (flowOption (t .flow)) rest (flow-good (t .flow))
       (slots-good (slotsOf t) (t .bytes) (f .slots) (all-take wholeSlot (t .count) (t .items) (slots-shaped room t h)) all-bytes
-      (usable-told None (patternsOf (slotsOf t)) (f .usable)) (omega (arith, e, f .used-most)))))
+      (usable-writable None (patternsOf (slotsOf t)) (f .usable)) (omega (arith, e, f .used-most)))))

@@ -15,7 +15,8 @@ use Rattle.definitions.specs.Lists.{all?}
 use Rattle.definitions.specs.Numbers.{decimalDigits, digitValue, valueOf, number, eitherBase, numeral}
 use Rattle.definitions.specs.Canonical.{digitsOf, decimal}
 use Rattle.roundtrip.proofs.AllTests.{all-none, all-more, all-append}
-use Rattle.roundtrip.proofs.Making.{Of, retexts, revalues, makes, bounds, skips, joins, lefts, rights, stars, signs, is-byte, byte-row, some-bytes}
+use Rattle.roundtrip.proofs.Making.{Of, retexts, revalues, fmap-of, bound-of, preceded-of, both-of, alt-left, alt-right, many-of, literal-of}
+use Rattle.roundtrip.proofs.Making.{is-byte, byte-row, some-bytes}
 
 -- ---- digits
 
@@ -64,7 +65,8 @@ digits-some k n = by-cases (ltb n 10) (λ t. rw t (omega arith)) (λ t. rw t (om
 -- ---- decimal numbers
 
 pub number-of : (limit n : ℕ) → leb n limit ≡ true → Of (number limit) (decimal n) n
-number-of limit n t = bounds t (revalues (digits-value n n (le-refl n)) (makes (some-bytes decimalDigits (decimal n) (digits-some n n) (digits-are (suc n) n))))
+number-of limit n t =
+    bound-of t (revalues (digits-value n n (le-refl n)) (fmap-of (some-bytes decimalDigits (decimal n) (digits-some n n) (digits-are (suc n) n))))
 
 -- ---- in either base: a first digit other than 0, or 0 alone
 
@@ -96,13 +98,13 @@ digits-led (suc k) n g h =
 
 either-of : (n : ℕ) → Of eitherBase (decimal n) (0, n)
 unfolding digitsOf valueOf
-either-of zero = lefts (skips (signs 48) (rights (makes {h = λ (l : List ℕ). (0, valueOf 10 0 l)} (stars none))))
+either-of zero = alt-left (preceded-of (literal-of 48) (alt-right (fmap-of {h = λ (l : List ℕ). (0, valueOf 10 0 l)} (many-of none))))
 either-of (suc n) =
     let d = digits-led (suc n) (suc n) (omega arith) (le-refl (suc n)) in
     let v : valueOf 10 0 (d .0 ∷ d .1) ≡ suc n = ap (valueOf 10 0) (sym (d .2)) ∙ digits-value (suc n) (suc n) (le-refl (suc n)) in
-    rights (retexts (sym (d .2))
+    alt-right (retexts (sym (d .2))
     (revalues (ap (λ i. (0, i)) v)
-    (makes {h = λ (p : ℕ × List ℕ). (0, valueOf 10 0 (p .0 ∷ p .1))} (joins (is-byte (d .3)) (stars (byte-row decimalDigits (d .1) (d .4)))))))
+    (fmap-of {h = λ (p : ℕ × List ℕ). (0, valueOf 10 0 (p .0 ∷ p .1))} (both-of (is-byte (d .3)) (many-of (byte-row decimalDigits (d .1) (d .4)))))))
 
 pub numeral-of : (limit n : ℕ) → leb n limit ≡ true → Of (numeral limit) (decimal n) n
-numeral-of limit n t = makes {h = λ (p : ℕ × ℕ). p .1} {a = (0, n)} (bounds t (either-of n))
+numeral-of limit n t = fmap-of {h = λ (p : ℕ × ℕ). p .1} {a = (0, n)} (bound-of t (either-of n))

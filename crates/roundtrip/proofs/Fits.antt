@@ -52,19 +52,19 @@ optionFits (Pattern n b) = leb 1 (length b) && all? isByte b
 optionFits (Modified m) = modifierFits m
 
 -- reverse is written after a reference only, and match is left out: usable patterns have no such distance
-abbrev pub shiftTold : DistanceValue → Bool
-shiftTold d = not (d .reverse) || not (sameReference (d .reference) reference.Match)
+abbrev pub offsetWritable : DistanceValue → Bool
+offsetWritable d = not (d .reverse) || not (sameReference (d .reference) reference.Match)
 
-abbrev pub optionTold : OptionValue → Bool
-optionTold (Name n) = true
-optionTold (Protocol p) = true
-optionTold (Flow f) = true
-optionTold (Test it al) = true
-optionTold (Pattern n b) = true
-optionTold (Modified (Context c)) = true
-optionTold (Modified NoCase) = true
-optionTold (Modified (Distance d)) = shiftTold d
-optionTold (Modified (Within w)) = true
+abbrev pub optionWritable : OptionValue → Bool
+optionWritable (Name n) = true
+optionWritable (Protocol p) = true
+optionWritable (Flow f) = true
+optionWritable (Test it al) = true
+optionWritable (Pattern n b) = true
+optionWritable (Modified (Context c)) = true
+optionWritable (Modified NoCase) = true
+optionWritable (Modified (Distance d)) = offsetWritable d
+optionWritable (Modified (Within w)) = true
 
 -- pattern bytes of an entry
 abbrev pub patternLength : OptionValue → ℕ

@@ -23,54 +23,54 @@ pub record Of {A : Type 0} (f : Form A) (x : List ℕ) (v : A) : Type 0 where
 
 -- ---- the seven ways
 
-pub tells : {A : Type 0} {a : A} → Of (pure a) [] a
+pub pure-of : {A : Type 0} {a : A} → Of (pure a) [] a
 unfolding Means
-tells = record { means = (refl, refl) }
+pure-of = record { means = (refl, refl) }
 
 pub is-byte : {c : Class} {b : ℕ} → has c b ≡ true → Of (byte c) (b ∷ []) b
 unfolding Means
 is-byte h = record { means = (refl, h) }
 
 module _ {A B : Type 0} {f : Form A} {g : Form B} {x y : List ℕ} {a : A} {b : B} (p : Of f x a) (q : Of g y b) where
-  pub joins : Of (pair f g) (x ++ y) (a, b)
+  pub both-of : Of (pair f g) (x ++ y) (a, b)
   unfolding Means
-  joins = record { means = (x, y, refl, p .means, q .means) }
+  both-of = record { means = (x, y, refl, p .means, q .means) }
 
-  pub skips : Of (preceded f g) (x ++ y) b
+  pub preceded-of : Of (preceded f g) (x ++ y) b
   unfolding Means
-  skips = record { means = ((a, b), refl, (x, y, refl, p .means, q .means)) }
+  preceded-of = record { means = ((a, b), refl, (x, y, refl, p .means, q .means)) }
 
-  pub befores : Of (terminated f g) (x ++ y) a
+  pub terminated-of : Of (terminated f g) (x ++ y) a
   unfolding Means
-  befores = record { means = ((a, b), refl, (x, y, refl, p .means, q .means)) }
+  terminated-of = record { means = ((a, b), refl, (x, y, refl, p .means, q .means)) }
 
 module _ {A : Type 0} {f g : Form A} {x : List ℕ} {a : A} where
-  pub lefts : Of f x a → Of (alt f g) x a
+  pub alt-left : Of f x a → Of (alt f g) x a
   unfolding Means
-  lefts m = record { means = inl (m .means) }
+  alt-left m = record { means = inl (m .means) }
 
-  pub rights : Of g x a → Of (alt f g) x a
+  pub alt-right : Of g x a → Of (alt f g) x a
   unfolding Means
-  rights m = record { means = inr (m .means) }
+  alt-right m = record { means = inr (m .means) }
 
-pub makes : {A B : Type 0} {h : A → B} {f : Form A} {x : List ℕ} {a : A} → Of f x a → Of (fmap h f) x (h a)
+pub fmap-of : {A B : Type 0} {h : A → B} {f : Form A} {x : List ℕ} {a : A} → Of f x a → Of (fmap h f) x (h a)
 unfolding Means
-makes {a} m = record { means = (a, refl, m .means) }
+fmap-of {a} m = record { means = (a, refl, m .means) }
 
-pub bounds : {A : Type 0} {p : A → Bool} {j : A → ℕ} {f : Form A} {x : List ℕ} {a : A} → p a ≡ true → Of f x a → Of (bound p j f) x a
+pub bound-of : {A : Type 0} {p : A → Bool} {j : A → ℕ} {f : Form A} {x : List ℕ} {a : A} → p a ≡ true → Of f x a → Of (bound p j f) x a
 unfolding Means
-bounds t m = record { means = (m .means, λ k. t) }
+bound-of t m = record { means = (m .means, λ k. t) }
 
-pub stars : {A : Type 0} {f : Form A} {x : List ℕ} {vs : List A} → Row (λ y w. Of f y w) x vs → Of (many f) x vs
+pub many-of : {A : Type 0} {f : Form A} {x : List ℕ} {vs : List A} → Row (λ y w. Of f y w) x vs → Of (many f) x vs
 unfolding Means
-stars {f} r = record { means = go r }
+many-of {f} r = record { means = go r }
   where
     go : {x : List ℕ} {vs : List _} → Row (λ y w. Of f y w) x vs → Row (λ y w. Means true f y w) x vs
     go none = none
     go (Row.more m r) = Row.more (m .means) (go r)
 
 pub somes : {A : Type 0} {f : Form A} {x y : List ℕ} {v : A} {vs : List A} → Of f x v → Row (λ y w. Of f y w) y vs → Of (some f) (x ++ y) (v ∷ vs)
-somes m r = makes (joins m (stars r))
+somes m r = fmap-of (both-of m (many-of r))
 
 -- the text or the value, written in another way
 pub retexts : {A : Type 0} {f : Form A} {v : A} {x y : List ℕ} → x ≡ y → Of f x v → Of f y v
@@ -84,12 +84,12 @@ revalues {f} {x} e m = subst (λ z. Of f x z) e m
 own-span : (b : ℕ) → between b b b ≡ true
 own-span b = both (le-leb b b (le-refl b)) (le-leb b b (le-refl b))
 
-pub signs : (b : ℕ) → Of (literal b) (b ∷ []) b
+pub literal-of : (b : ℕ) → Of (literal b) (b ∷ []) b
 unfolding has
-signs b = is-byte (rw (own-span b))
+literal-of b = is-byte (rw (own-span b))
 
-pub marks : {A : Type 0} (b : ℕ) (a : A) → Of (literalAs b a) (b ∷ []) a
-marks b a = makes {h = λ (x : ℕ). a} (signs b)
+pub literalAs-of : {A : Type 0} (b : ℕ) (a : A) → Of (literalAs b a) (b ∷ []) a
+literalAs-of b a = fmap-of {h = λ (x : ℕ). a} (literal-of b)
 
 own-case : (b : ℕ) → has (if between 97 122 b then (b, b) ∷ (b - 32, b - 32) ∷ [] else (b, b) ∷ []) b ≡ true
 unfolding has
@@ -97,8 +97,8 @@ own-case b = by-cases (between 97 122 b) (λ t. rw (t, own-span b)) (λ t. rw (t
 
 -- a word in small letters
 pub words : {A : Type 0} (w : List ℕ) (a : A) → Of (keyword w a) w a
-words [] a = tells
-words (b ∷ w) a = skips (is-byte (own-case b)) (words w a)
+words [] a = pure-of
+words (b ∷ w) a = preceded-of (is-byte (own-case b)) (words w a)
 
 -- bytes of a class
 pub byte-row : (c : Class) (l : List ℕ) → all? (has c) l ≡ true → Row (λ y w. Of (byte c) y w) l l
@@ -112,7 +112,7 @@ some-bytes c (b ∷ l) h t = somes (is-byte (all-head (has c) b l t)) (byte-row 
 -- ---- an option's value, `;` after it; one space before it
 
 pub closes : {f : Form OptionValue} {x : List ℕ} {e : OptionValue} → Of f x e → Of (closed f) (x ++ (59 ∷ [])) e
-closes m = befores m (skips (stars none) (signs 59))
+closes m = terminated-of m (preceded-of (many-of none) (literal-of 59))
 
 pub values : {f : Form OptionValue} {x : List ℕ} {e : OptionValue} → Of f x e → Of (valued f) (32 ∷ (x ++ (59 ∷ []))) e
-values m = skips (somes (signs 32) none) (closes m)
+values m = preceded-of (somes (literal-of 32) none) (closes m)

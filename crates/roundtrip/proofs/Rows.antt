@@ -32,7 +32,7 @@ use Rattle.definitions.specs.Grammar.{OptionText, option}
 use Rattle.roundtrip.proofs.AllTests.{both, all-more, row-bytes}
 use Rattle.roundtrip.proofs.EveryValue.{Every, every, known}
 use Rattle.roundtrip.proofs.Fits.{flowFits, optionFits, patternLength, Fitting}
-use Rattle.roundtrip.proofs.Values.{says-every, number-within, numeral-within, signed-abs, not-none, addresses-fit, pattern-fits}
+use Rattle.roundtrip.proofs.Values.{keyword-every, number-within, numeral-within, signed-abs, not-none, addresses-fit, pattern-fits}
 
 -- all that the form makes fits
 pub record Gives (f : Form OptionValue) : Type 0 where
@@ -74,18 +74,18 @@ name-gives = says (λ n. refl) (λ q h b g x vs r c k t. both (both (not-none (l
 protocol-gives : Gives protocolForm
 protocol-gives =
     says (λ p. refl) (
-      says-every (text "tcp") 6 (λ x p. leb p 255 ≡ true) (λ x. refl),
+      keyword-every (text "tcp") 6 (λ x p. leb p 255 ≡ true) (λ x. refl),
       (
-        says-every (text "udp") 17 (λ x p. leb p 255 ≡ true) (λ x. refl),
-        (says-every (text "icmp") 1 (λ x p. leb p 255 ≡ true) (λ x. refl), λ b h x vs r t. t),
+        keyword-every (text "udp") 17 (λ x p. leb p 255 ≡ true) (λ x. refl),
+        (keyword-every (text "icmp") 1 (λ x p. leb p 255 ≡ true) (λ x. refl), λ b h x vs r t. t),
       ),
     )
 
 flow-gives : Gives flowForm
 flow-gives = says (λ f. refl)
     (λ b1 h1 b2 h2 b3 h3 b4 h4 b5 h5. (
-      says-every (text "client") flow.FromClient (λ x f. flowFits f ≡ true) (λ x. refl),
-      says-every (text "server") flow.FromServer
+      keyword-every (text "client") flow.FromClient (λ x f. flowFits f ≡ true) (λ x. refl),
+      keyword-every (text "server") flow.FromServer
           (λ x f. flowFits f ≡ true) (λ x. refl),
     ))
 

@@ -24,9 +24,9 @@ use Rattle.roundtrip.proofs.Fits.{isByte}
 
 -- ---- words and numbers
 
-pub says-every : {A : Type 0} (w : List ℕ) (a : A) (P : List ℕ → A → Type 0) → ((x : List ℕ) → P x a) → Every (keyword w a) P
-says-every [] a P k = k []
-says-every (b ∷ w) a P k = λ c h. says-every w a (λ y v. P ((c ∷ []) ++ y) v) (λ y. k ((c ∷ []) ++ y))
+pub keyword-every : {A : Type 0} (w : List ℕ) (a : A) (P : List ℕ → A → Type 0) → ((x : List ℕ) → P x a) → Every (keyword w a) P
+keyword-every [] a P k = k []
+keyword-every (b ∷ w) a P k = λ c h. keyword-every w a (λ y v. P ((c ∷ []) ++ y) v) (λ y. k ((c ∷ []) ++ y))
 
 pub number-within : (limit : ℕ) (x : List ℕ) (n : ℕ) → Means true (number limit) x n → leb n limit ≡ true
 number-within limit = every (number limit) (λ x n. leb n limit ≡ true) (λ b h x vs r t. t)

@@ -12,7 +12,7 @@ use borrow.Author.Tests.{ltb-true, ltb-false, le-ltb}
 use Rattle.forms.proofs.Bools.{by-cases}
 use Rattle.definitions.specs.Limits.{maxByte}
 use Rattle.definitions.specs.Numbers.{digitValue, valueOf}
-use Rattle.scan_bytes.specs.Capped.{farAbove, capped}
+use Rattle.scan_bytes.specs.Capped.{numberCap, capped}
 
 -- a digit writes at most its byte
 pub digit-le : (b : ℕ) → digitValue b ≤ b
@@ -30,20 +30,20 @@ module _ (base : ℕ) (low : 1 ≤ base) where
 
   capped-on : (x : ℕ) (l : List ℕ) → capped (valueOf base (capped x) l) ≡ capped (valueOf base x l)
   capped-on x l =
-      by-cases (ltb x farAbove)
+      by-cases (ltb x numberCap)
       (λ t. rw t)
-      (λ t. let h = ltb-false x farAbove t in
-      rw (t, le-ltb (valueOf base farAbove l) farAbove (grows farAbove l), le-ltb (valueOf base x l) farAbove (omega (arith, grows x l))))
+      (λ t. let h = ltb-false x numberCap t in
+      rw (t, le-ltb (valueOf base numberCap l) numberCap (grows numberCap l), le-ltb (valueOf base x l) numberCap (omega (arith, grows x l))))
 
   -- what the loop keeps: what is still to come of the sum
   pub record Sum (s : List ℕ) (at end v i : ℕ) : Type 0 where
     pub from : at ≤ i
     pub to : i ≤ end
-    pub small : v ≤ farAbove
+    pub small : v ≤ numberCap
     pub sum : capped (valueOf base 0 (take (end - at) (drop at s))) ≡ capped (valueOf base v (take (end - i) (drop i s)))
 
-capped-le : (x : ℕ) → capped x ≤ farAbove
-capped-le x = by-cases (ltb x farAbove) (λ t. rw t (omega (arith, ltb-true x farAbove t))) (λ t. rw t (omega arith))
+capped-le : (x : ℕ) → capped x ≤ numberCap
+capped-le x = by-cases (ltb x numberCap) (λ t. rw t (omega (arith, ltb-true x numberCap t))) (λ t. rw t (omega arith))
 
 next-digit : (s : List ℕ) (i end : ℕ) → i < end → end ≤ length s → take (end - i) (drop i s) ≡ getD s i 0 ∷ take (end - (i + 1)) (drop (i + 1) s)
 next-digit s i end h g =
@@ -65,8 +65,8 @@ module _ (base : ℕ) (low : 1 ≤ base) (s : List ℕ) (at end v i : ℕ) (u : 
   unfolding valueOf
   sum-out h =
       let z : end - i ≡ 0 = omega arith in
-      let k : capped v ≡ v = by-cases (ltb v farAbove) (λ t. rw t) (λ t. rw t (omega (arith, ltb-false v farAbove t, u .small))) in
+      let k : capped v ≡ v = by-cases (ltb v numberCap) (λ t. rw t) (λ t. rw t (omega (arith, ltb-false v numberCap t, u .small))) in
       sym (u .sum ∙ rw z k)
 
-pub product-fits : (v base d : ℕ) → v ≤ farAbove → base ≤ 16 → d ≤ maxByte → v * base + d ≤ 68719477000
-product-fits v base d h g k = omega (arith, mul-le-mul {n₁ = v} {m₁ = base} {n₂ = farAbove} {m₂ = 16} h g, k)
+pub product-fits : (v base d : ℕ) → v ≤ numberCap → base ≤ 16 → d ≤ maxByte → v * base + d ≤ 68719477000
+product-fits v base d h g k = omega (arith, mul-le-mul {n₁ = v} {m₁ = base} {n₂ = numberCap} {m₂ = 16} h g, k)

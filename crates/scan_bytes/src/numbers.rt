@@ -31,12 +31,12 @@ fn digit_value(b: u8) -> u64
 }
 
 // Beyond every limit.
-const FAR_ABOVE: u64 = 4294967296;
+const NUMBER_CAP: u64 = 4294967296;
 
 fn cap(v: u64) -> u64
     ensures { λ r. ⌜ r ≡ capped v ⌝ }
 {
-    if v < FAR_ABOVE { v } else { FAR_ABOVE }
+    if v < NUMBER_CAP { v } else { NUMBER_CAP }
 }
 
 // The number that the digits from one place to another write, or the one far above.

@@ -7,7 +7,7 @@ use lib.ListN.{drop}
 use Rattle.forms.specs.Bytes.{between}
 use Rattle.forms.specs.Form.{Class, has, Form, alt}
 use Rattle.forms.specs.Scan.{firstSet, begins}
-use Rattle.forms.specs.Place.{readAt, farther}
+use Rattle.forms.specs.Place.{readAt, outOfRangeAt}
 use Rattle.forms.proofs.Bools.{by-cases}
 use Rattle.forms.proofs.At.{alt-at}
 use Rattle.scan_cursors.specs.declared.Cursor.{Cursor}
@@ -44,7 +44,7 @@ module _ {A : Type 0} (f g : Form A) (s : List ℕ) where
 
   first-from : (c : Cursor) → nextIn (firstSet f) s c ≡ true → from c (λ n. readAt f s n) ≡ from c (λ n. readAt (alt f g) s n)
   first-from (Parsed n) e = first-at n e
-  first-from (OutOfRange p n) e = ap (farther p) (first-at n e)
+  first-from (OutOfRange p n) e = ap (outOfRangeAt p) (first-at n e)
   first-from (Failed p) e = refl
 
   second-at : (n : ℕ) → begins (firstSet f) (drop n s) ≡ false → readAt g s n ≡ readAt (alt f g) s n
@@ -52,7 +52,7 @@ module _ {A : Type 0} (f g : Form A) (s : List ℕ) where
 
   second-from : (c : Cursor) → nextIn (firstSet f) s c ≡ false → from c (λ n. readAt g s n) ≡ from c (λ n. readAt (alt f g) s n)
   second-from (Parsed n) e = second-at n e
-  second-from (OutOfRange p n) e = ap (farther p) (second-at n e)
+  second-from (OutOfRange p n) e = ap (outOfRangeAt p) (second-at n e)
   second-from (Failed p) e = refl
 
 module _ {A : Type 0} {f g : Form A} {s : List ℕ} {c d : Cursor} {v : A} {t : Bool} where

@@ -7,11 +7,11 @@ use native.Mathlib.Omega.{arith}
 use lib.ListN.{length, drop, length-drop, length-append}
 use Rattle.forms.specs.Form.{Class, Form, Means, pair, many}
 use Rattle.forms.specs.Scan.{Scan, Got, Stop, scan, over, nullable, isLL1}
-use Rattle.forms.specs.Place.{Read, Parsed, OutOfRange, Failed, placed, readAt, mapRead, farther}
+use Rattle.forms.specs.Place.{Read, Parsed, OutOfRange, Failed, placed, readAt, mapRead, outOfRangeAt}
 use Rattle.forms.specs.Pieces.{some}
 use Rattle.forms.proofs.Sound.{sound-loose, never}
 use Rattle.forms.proofs.Complete.{some-byte, no-empty}
-use Rattle.forms.proofs.At.{made-at}
+use Rattle.forms.proofs.At.{fmap-at}
 use Rattle.forms.proofs.Places.{begun}
 use Rattle.scan_cursors.specs.declared.Cursor.{Cursor}
 use Rattle.scan_cursors.specs.declared.Cursor.the-variants as cursor
@@ -19,10 +19,11 @@ use Rattle.scan_cursors.specs.Reads.{readBy, from, placeOf, Inside, next
 
 -- ---- a reading that goes on began where reading went on
 
-pub came-going : {A : Type 0} {f : Form A} {s : List ℕ} {c d : Cursor} {v : A} {n : ℕ} → Reads f s c v d → d ≡ cursor.Parsed n → (m : ℕ) × (c ≡ cursor.Parsed m)
-came-going {A} {f} {s} {c} {d} {v} {n} r e = go c (rw e at (r .reads))
+pub came-parsed : {A : Type 0} {f : Form A} {s : List ℕ} {c d : Cursor} {v : A} {n : ℕ} → Reads f s c v d → d ≡ cursor.Parsed n
+    → (m : ℕ) × (c ≡ cursor.Parsed m)
+came-parsed {A} {f} {s} {c} {d} {v} {n} r e = go c (rw e at (r .reads))
   where
-    after : (p : ℕ) (q : Read A) → Parsed v n ≡ farther {B = A} p q → _≡_ {A = ℕ} 0 1
+    after : (p : ℕ) (q : Read A) → Parsed v n ≡ outOfRangeAt {B = A} p q → _≡_ {A = ℕ} 0 1
     after p (Parsed a k) z = cc
     after p (OutOfRange q k) z = cc
     after p (Failed q) z = cc
@@ -32,14 +33,14 @@ came-going {A} {f} {s} {c} {d} {v} {n} r e = go c (rw e at (r .reads))
     go (cursor.OutOfRange p m) z = never (after p (readAt f s m) z)
     go (cursor.Failed p) z = never (cc)
 
-pub limited-going : (b : Bool) (p : ℕ) (d : Cursor) {n : ℕ} → limitedBy b p d ≡ cursor.Parsed n → (d ≡ cursor.Parsed n) × (b ≡ true)
-limited-going true p (cursor.Parsed m) e = (e, refl)
-limited-going false p (cursor.Parsed m) e = never (cc)
-limited-going b p (cursor.OutOfRange q m) e = never (cc)
-limited-going b p (cursor.Failed q) e = never (cc)
+pub limited-parsed : (b : Bool) (p : ℕ) (d : Cursor) {n : ℕ} → limitedBy b p d ≡ cursor.Parsed n → (d ≡ cursor.Parsed n) × (b ≡ true)
+limited-parsed true p (cursor.Parsed m) e = (e, refl)
+limited-parsed false p (cursor.Parsed m) e = never (cc)
+limited-parsed b p (cursor.OutOfRange q m) e = never (cc)
+limited-parsed b p (cursor.Failed q) e = never (cc)
 
-pub going-place : (d : Cursor) {n : ℕ} → d ≡ cursor.Parsed n → placeOf d ≡ n
-going-place d e = ap placeOf e
+pub parsed-place : (d : Cursor) {n : ℕ} → d ≡ cursor.Parsed n → placeOf d ≡ n
+parsed-place d e = ap placeOf e
 
 -- ---- the place never goes back, where one byte decides
 
@@ -54,11 +55,11 @@ place-by v (cursor.Parsed n) = refl
 place-by v (cursor.OutOfRange p n) = refl
 place-by v (cursor.Failed p) = refl
 
-place-farther : {A : Type 0} (p : ℕ) (r : Read A) → placeBy (farther {B = A} p r) ≡ placeBy r
+place-outOfRange : {A : Type 0} (p : ℕ) (r : Read A) → placeBy (outOfRangeAt {B = A} p r) ≡ placeBy r
 unfolding placeBy
-place-farther p (Parsed a n) = refl
-place-farther p (OutOfRange q n) = refl
-place-farther p (Failed q) = refl
+place-outOfRange p (Parsed a n) = refl
+place-outOfRange p (OutOfRange q n) = refl
+place-outOfRange p (Failed q) = refl
 
 -- what is left of the text from a place on, after something
 left-after : (s : List ℕ) (at : ℕ) (x r : List ℕ) → at ≤ length s → drop at s ≡ x ++ r → at + length x ≤ length s - length r
@@ -76,7 +77,7 @@ onward-at {A} f w s at h = go (over f (drop at s)) (scan f (drop at s)) refl
 onward-from : {A : Type 0} (f : Form A) → isLL1 f ≡ true → (s : List ℕ) (c : Cursor) → Inside s c → placeOf c ≤ placeBy (from c (λ n. readAt f s n))
 unfolding placeBy
 onward-from f w s (cursor.Parsed n) h = onward-at f w s n h
-onward-from f w s (cursor.OutOfRange p n) h = rw (place-farther p (readAt f s n)) (onward-at f w s n h)
+onward-from f w s (cursor.OutOfRange p n) h = rw (place-outOfRange p (readAt f s n)) (onward-at f w s n h)
 onward-from f w s (cursor.Failed p) h = omega arith
 
 pub onward : {A : Type 0} {f : Form A} {s : List ℕ} {c d : Cursor} {v : A} → isLL1 f ≡ true → Inside s c → Reads f s c v d → placeOf c ≤ placeOf d
@@ -109,20 +110,20 @@ module _ {A : Type 0} (f : Form A) (full : not (nullable f) ≡ true) (s : List 
     placed-ahead o r e (cursor.Failed p) q = omega arith
 
     -- the same after a number beyond its limit
-    far-ahead : (p : ℕ) (o : List (List ℕ)) (r : Scan A) → scan f (drop i s) ≡ r → (d : Cursor) → readBy v d ≡ farther {B = A} p (placed s o r)
+    outOfRange-ahead : (p : ℕ) (o : List (List ℕ)) (r : Scan A) → scan f (drop i s) ≡ r → (d : Cursor) → readBy v d ≡ outOfRangeAt {B = A} p (placed s o r)
         → Ahead (i + 1) d
-    far-ahead p [] (Got a m) e (cursor.Parsed n) q = never (cc)
-    far-ahead p (x ∷ o) (Got a m) e (cursor.Parsed n) q = never (cc)
-    far-ahead p [] (Got a m) e (cursor.OutOfRange u n) q = let z : n ≡ length s - length m = cc in rw z (got-ahead i h a m e)
-    far-ahead p (x ∷ o) (Got a m) e (cursor.OutOfRange u n) q = let z : n ≡ length s - length m = cc in rw z (got-ahead i h a m e)
-    far-ahead p o (Stop m) e (cursor.Parsed n) q = never (cc)
-    far-ahead p o (Stop m) e (cursor.OutOfRange u n) q = never (cc)
-    far-ahead p o r e (cursor.Failed u) q = omega arith
+    outOfRange-ahead p [] (Got a m) e (cursor.Parsed n) q = never (cc)
+    outOfRange-ahead p (x ∷ o) (Got a m) e (cursor.Parsed n) q = never (cc)
+    outOfRange-ahead p [] (Got a m) e (cursor.OutOfRange u n) q = let z : n ≡ length s - length m = cc in rw z (got-ahead i h a m e)
+    outOfRange-ahead p (x ∷ o) (Got a m) e (cursor.OutOfRange u n) q = let z : n ≡ length s - length m = cc in rw z (got-ahead i h a m e)
+    outOfRange-ahead p o (Stop m) e (cursor.Parsed n) q = never (cc)
+    outOfRange-ahead p o (Stop m) e (cursor.OutOfRange u n) q = never (cc)
+    outOfRange-ahead p o r e (cursor.Failed u) q = omega arith
 
   from-ahead : (c : Cursor) → Inside s c → (v : A) (d : Cursor) → readBy v d ≡ from c (λ n. readAt f s n) → Ahead (placeOf c + 1) d
   unfolding readAt
   from-ahead (cursor.Parsed n) h v d q = placed-ahead n h v (over f (drop n s)) (scan f (drop n s)) refl d q
-  from-ahead (cursor.OutOfRange p n) h v d q = far-ahead n h v p (over f (drop n s)) (scan f (drop n s)) refl d q
+  from-ahead (cursor.OutOfRange p n) h v d q = outOfRange-ahead n h v p (over f (drop n s)) (scan f (drop n s)) refl d q
   from-ahead (cursor.Failed p) h v (cursor.Parsed n) q = never (cc)
   from-ahead (cursor.Failed p) h v (cursor.OutOfRange u n) q = never (cc)
   from-ahead (cursor.Failed p) h v (cursor.Failed u) q = omega arith
@@ -156,10 +157,10 @@ less-left {A} {f} {s} {c} {d} k t full h r = left-less k s c d t (r .inside) (ah
 pub some-filled : {A : Type 0} {f : Form A} {s : List ℕ} {c d : Cursor} {vs : List A} {n : ℕ} → Reads (some f) s c vs d → d ≡ cursor.Parsed n
     → 1 ≤ length vs
 some-filled {A} {f} {s} {c} {d} {vs} {n} r e =
-    let b = came-going r e in
+    let b = came-parsed r e in
     let i : c ≡ cursor.Parsed (b .0) = b .1 in
     let z : Parsed vs n ≡ readAt (some f) s (b .0) = rw (e, i) at (r .reads) in
-    go (readAt (pair f (many f)) s (b .0)) (z ∙ made-at (λ (p : A × List A). p .0 ∷ p .1) (pair f (many f)) s (b .0))
+    go (readAt (pair f (many f)) s (b .0)) (z ∙ fmap-at (λ (p : A × List A). p .0 ∷ p .1) (pair f (many f)) s (b .0))
   where
     go : (q : Read (A × List A)) → Parsed vs n ≡ mapRead (λ (p : A × List A). p .0 ∷ p .1) q → 1 ≤ length vs
     go (Parsed p k) z = let y : vs ≡ p .0 ∷ p .1 = cc in rw y (omega arith)

@@ -6,19 +6,19 @@ use Prim.Native.Nat.{ℕ, _+_, _-_, _≤_, _<_}
 use native.Mathlib.Omega.{arith}
 use lib.ListN.{length, drop, getD, length-drop}
 use Rattle.forms.specs.Form.{Class, has, Form, pure, byte, pair, fmap, bound}
-use Rattle.forms.specs.Place.{Read, Parsed, OutOfRange, Failed, readAt, mapRead, farther, both-read, bounded}
+use Rattle.forms.specs.Place.{Read, Parsed, OutOfRange, Failed, readAt, mapRead, outOfRangeAt, both-read, bounded}
 use Rattle.forms.specs.Pieces.{preceded, terminated}
 use Rattle.forms.proofs.Bools.{by-cases}
-use Rattle.forms.proofs.At.{pair-at, skip-at, before-at, made-at, tell-at, byte-at, byte-end, bound-at}
+use Rattle.forms.proofs.At.{pair-at, preceded-at, terminated-at, fmap-at, pure-at, byte-at, byte-end, bound-at}
 use Rattle.scan_cursors.specs.declared.Cursor.{Cursor}
 use Rattle.scan_cursors.specs.declared.Cursor.the-variants as cursor
-use Rattle.scan_cursors.specs.Reads.{readBy, from, farBy, joined, placeOf, Inside, limitedBy, Reads}
+use Rattle.scan_cursors.specs.Reads.{readBy, from, outOfRangeBy, joined, placeOf, Inside, limitedBy, Reads}
 
 -- ---- forms that read alike where a cursor stands, inside the text
 
 pub from-at : {A : Type 0} (c : Cursor) (j k : ℕ → Read A) → j (placeOf c) ≡ k (placeOf c) → from c j ≡ from c k
 from-at (cursor.Parsed n) j k e = e
-from-at (cursor.OutOfRange p n) j k e = ap (farther p) e
+from-at (cursor.OutOfRange p n) j k e = ap (outOfRangeAt p) e
 from-at (cursor.Failed p) j k e = refl
 
 from-alike : {A : Type 0} (s : List ℕ) (c : Cursor) (j k : ℕ → Read A) → Inside s c → ((n : ℕ) → n ≤ length s → j n ≡ k n) → from c j ≡ from c k
@@ -30,57 +30,57 @@ alike-reads {A} {f} {g} {s} {c} e i r = record { reads = r .reads ∙ from-alike
 
 -- ---- made
 
-mapped-farther : {A B : Type 0} (h : A → B) (p : ℕ) (r : Read A) → mapRead h (farther {B = A} p r) ≡ farther p (mapRead h r)
-mapped-farther h p (Parsed a n) = refl
-mapped-farther h p (OutOfRange q n) = refl
-mapped-farther h p (Failed q) = refl
+mapped-outOfRange : {A B : Type 0} (h : A → B) (p : ℕ) (r : Read A) → mapRead h (outOfRangeAt {B = A} p r) ≡ outOfRangeAt p (mapRead h r)
+mapped-outOfRange h p (Parsed a n) = refl
+mapped-outOfRange h p (OutOfRange q n) = refl
+mapped-outOfRange h p (Failed q) = refl
 
-made-from : {A B : Type 0} (h : A → B) (f : Form A) (s : List ℕ) (c : Cursor) → mapRead h (from c (λ n. readAt f s n)) ≡ from c (λ n. readAt (fmap h f) s n)
-made-from h f s (cursor.Parsed n) = sym (made-at h f s n)
-made-from h f s (cursor.OutOfRange p n) = mapped-farther h p (readAt f s n) ∙ ap (farther p) (sym (made-at h f s n))
-made-from h f s (cursor.Failed p) = refl
+fmap-from : {A B : Type 0} (h : A → B) (f : Form A) (s : List ℕ) (c : Cursor) → mapRead h (from c (λ n. readAt f s n)) ≡ from c (λ n. readAt (fmap h f) s n)
+fmap-from h f s (cursor.Parsed n) = sym (fmap-at h f s n)
+fmap-from h f s (cursor.OutOfRange p n) = mapped-outOfRange h p (readAt f s n) ∙ ap (outOfRangeAt p) (sym (fmap-at h f s n))
+fmap-from h f s (cursor.Failed p) = refl
 
 mapped-by : {A B : Type 0} (h : A → B) (v : A) (d : Cursor) → mapRead h (readBy v d) ≡ readBy (h v) d
 mapped-by h v (cursor.Parsed n) = refl
 mapped-by h v (cursor.OutOfRange p n) = refl
 mapped-by h v (cursor.Failed p) = refl
 
-pub made-reads : {A B : Type 0} {f : Form A} {s : List ℕ} {c d : Cursor} {v : A} (h : A → B) → Reads f s c v d → Reads (fmap h f) s c (h v) d
-made-reads {A} {B} {f} {s} {c} {d} {v} h r =
-    record { reads = sym (mapped-by h v d) ∙ ap (mapRead h) (r .reads) ∙ made-from h f s c; inside = r .inside }
+pub fmap-reads : {A B : Type 0} {f : Form A} {s : List ℕ} {c d : Cursor} {v : A} (h : A → B) → Reads f s c v d → Reads (fmap h f) s c (h v) d
+fmap-reads {A} {B} {f} {s} {c} {d} {v} h r =
+    record { reads = sym (mapped-by h v d) ∙ ap (mapRead h) (r .reads) ∙ fmap-from h f s c; inside = r .inside }
 
 -- ---- one after the other
 
-farther-mapped : {A B : Type 0} (h : A → B) (p : ℕ) (r : Read A) → farther {B = B} p r ≡ mapRead h (farther {B = A} p r)
-farther-mapped h p (Parsed a n) = refl
-farther-mapped h p (OutOfRange q n) = refl
-farther-mapped h p (Failed q) = refl
+outOfRange-mapped : {A B : Type 0} (h : A → B) (p : ℕ) (r : Read A) → outOfRangeAt {B = B} p r ≡ mapRead h (outOfRangeAt {B = A} p r)
+outOfRange-mapped h p (Parsed a n) = refl
+outOfRange-mapped h p (OutOfRange q n) = refl
+outOfRange-mapped h p (Failed q) = refl
 
 by-both : {A B C : Type 0} (h : A → B → C) (v : A) (d : Cursor) (k : ℕ → Read B) → both-read h (readBy v d) k ≡ mapRead (h v) (from d k)
 by-both h v (cursor.Parsed n) k = refl
-by-both h v (cursor.OutOfRange p n) k = farther-mapped (h v) p (k n)
+by-both h v (cursor.OutOfRange p n) k = outOfRange-mapped (h v) p (k n)
 by-both h v (cursor.Failed p) k = refl
 
-farther-both : {A B C : Type 0} (h : A → B → C) (p : ℕ) (r : Read A) (k : ℕ → Read B)
-    → farther p (both-read h r k) ≡ both-read h (farther {B = A} p r) k
-farther-both {A} {B} {C} h p (Parsed a n) k = go (k n)
+outOfRange-both : {A B C : Type 0} (h : A → B → C) (p : ℕ) (r : Read A) (k : ℕ → Read B)
+    → outOfRangeAt p (both-read h r k) ≡ both-read h (outOfRangeAt {B = A} p r) k
+outOfRange-both {A} {B} {C} h p (Parsed a n) k = go (k n)
   where
-    go : (r : Read B) → farther {B = C} p (mapRead (h a) r) ≡ farther p r
+    go : (r : Read B) → outOfRangeAt {B = C} p (mapRead (h a) r) ≡ outOfRangeAt p r
     go (Parsed b m) = refl
     go (OutOfRange q m) = refl
     go (Failed q) = refl
-farther-both {A} {B} {C} h p (OutOfRange q n) k = go (k n)
+outOfRange-both {A} {B} {C} h p (OutOfRange q n) k = go (k n)
   where
-    go : (r : Read B) → farther {B = C} p (farther {B = C} q r) ≡ farther p r
+    go : (r : Read B) → outOfRangeAt {B = C} p (outOfRangeAt {B = C} q r) ≡ outOfRangeAt p r
     go (Parsed b m) = refl
     go (OutOfRange u m) = refl
     go (Failed u) = refl
-farther-both h p (Failed q) k = refl
+outOfRange-both h p (Failed q) k = refl
 
 from-both : {A B C : Type 0} (h : A → B → C) (c : Cursor) (j : ℕ → Read A) (k : ℕ → Read B)
     → from c (λ n. both-read h (j n) k) ≡ both-read h (from c j) k
 from-both h (cursor.Parsed n) j k = refl
-from-both h (cursor.OutOfRange p n) j k = farther-both h p (j n) k
+from-both h (cursor.OutOfRange p n) j k = outOfRange-both h p (j n) k
 from-both h (cursor.Failed p) j k = refl
 
 -- a form that reads as the one and from the end of it the other
@@ -102,18 +102,18 @@ module _ {A B : Type 0} {f : Form A} {g : Form B} {s : List ℕ} {c d e : Cursor
   pub pair-reads : Reads (pair f g) s c (v, w) e
   pair-reads = both-reads (λ (x : A) (y : B). (x, y)) (pair f g) (λ n h. pair-at f g s n h) i r q
 
-  pub skip-reads : Reads (preceded f g) s c w e
-  skip-reads = both-reads (λ (x : A) (y : B). y) (preceded f g) (λ n h. skip-at f g s n h) i r q
+  pub preceded-reads : Reads (preceded f g) s c w e
+  preceded-reads = both-reads (λ (x : A) (y : B). y) (preceded f g) (λ n h. preceded-at f g s n h) i r q
 
-  pub before-reads : Reads (terminated f g) s c v e
-  before-reads = both-reads (λ (x : A) (y : B). x) (terminated f g) (λ n h. before-at f g s n h) i r q
+  pub terminated-reads : Reads (terminated f g) s c v e
+  terminated-reads = both-reads (λ (x : A) (y : B). x) (terminated f g) (λ n h. terminated-at f g s n h) i r q
 
 -- ---- nothing
 
-pub tell-reads : {A : Type 0} (a : A) (s : List ℕ) (c : Cursor) → Inside s c → Reads (pure a) s c a c
-tell-reads a s (cursor.Parsed n) h = record { reads = sym (tell-at a s n h); inside = h }
-tell-reads a s (cursor.OutOfRange p n) h = record { reads = sym (ap (farther p) (tell-at a s n h)); inside = h }
-tell-reads a s (cursor.Failed p) h = record { reads = refl; inside = h }
+pub pure-reads : {A : Type 0} (a : A) (s : List ℕ) (c : Cursor) → Inside s c → Reads (pure a) s c a c
+pure-reads a s (cursor.Parsed n) h = record { reads = sym (pure-at a s n h); inside = h }
+pure-reads a s (cursor.OutOfRange p n) h = record { reads = sym (ap (outOfRangeAt p) (pure-at a s n h)); inside = h }
+pure-reads a s (cursor.Failed p) h = record { reads = refl; inside = h }
 
 -- ---- a byte of a class
 
@@ -146,15 +146,15 @@ module _ {A : Type 0} (t : A → Bool) (s : List ℕ) where
       let q : length s - length (drop at s) ≡ at = omega (arith, length-drop at s, h) in
       bound-at t (λ (a : A). 0) f s at ∙ rw q
 
-  bounded-farther : (at p : ℕ) (r : Read A) → bounded t (λ a. at) (farther {B = A} p r) ≡ farther p (bounded t (λ a. at) r)
-  bounded-farther at p (Parsed a n) = by-cases (t a) (λ x. rw x) (λ x. rw x)
-  bounded-farther at p (OutOfRange q n) = refl
-  bounded-farther at p (Failed q) = refl
+  bounded-outOfRange : (at p : ℕ) (r : Read A) → bounded t (λ a. at) (outOfRangeAt {B = A} p r) ≡ outOfRangeAt p (bounded t (λ a. at) r)
+  bounded-outOfRange at p (Parsed a n) = by-cases (t a) (λ x. rw x) (λ x. rw x)
+  bounded-outOfRange at p (OutOfRange q n) = refl
+  bounded-outOfRange at p (Failed q) = refl
 
   limit-from : (f : Form A) (c : Cursor) → Inside s c
       → bounded t (λ a. placeOf c) (from c (λ n. readAt f s n)) ≡ from c (λ n. readAt (bound t (λ (a : A). 0) f) s n)
   limit-from f (cursor.Parsed n) i = sym (first-at f n i)
-  limit-from f (cursor.OutOfRange p n) i = bounded-farther n p (readAt f s n) ∙ ap (farther p) (sym (first-at f n i))
+  limit-from f (cursor.OutOfRange p n) i = bounded-outOfRange n p (readAt f s n) ∙ ap (outOfRangeAt p) (sym (first-at f n i))
   limit-from f (cursor.Failed p) i = refl
 
 pub limit-reads : {A : Type 0} {f : Form A} {s : List ℕ} {c d : Cursor} {v : A} (t : A → Bool) → Inside s c → Reads f s c v d
@@ -167,21 +167,21 @@ limit-reads {A} {f} {s} {c} {d} {v} t i r =
 
 -- ---- a scanner from a place on makes one from any cursor on
 
-farther-by : {A : Type 0} (p : ℕ) (v : A) (d : Cursor) → readBy v (farBy p d) ≡ farther {B = A} p (readBy v d)
-farther-by p v (cursor.Parsed n) = refl
-farther-by p v (cursor.OutOfRange q n) = refl
-farther-by p v (cursor.Failed q) = refl
+outOfRange-by : {A : Type 0} (p : ℕ) (v : A) (d : Cursor) → readBy v (outOfRangeBy p d) ≡ outOfRangeAt {B = A} p (readBy v d)
+outOfRange-by p v (cursor.Parsed n) = refl
+outOfRange-by p v (cursor.OutOfRange q n) = refl
+outOfRange-by p v (cursor.Failed q) = refl
 
-far-inside : (s : List ℕ) (p : ℕ) (d : Cursor) → Inside s d → Inside s (farBy p d)
-far-inside s p (cursor.Parsed n) i = i
-far-inside s p (cursor.OutOfRange q n) i = i
-far-inside s p (cursor.Failed q) i = i
+outOfRange-inside : (s : List ℕ) (p : ℕ) (d : Cursor) → Inside s d → Inside s (outOfRangeBy p d)
+outOfRange-inside s p (cursor.Parsed n) i = i
+outOfRange-inside s p (cursor.OutOfRange q n) i = i
+outOfRange-inside s p (cursor.Failed q) i = i
 
 join-reads : {A : Type 0} {f : Form A} {s : List ℕ} (c : Cursor) {d : Cursor} {v : A} → Inside s c → Reads f s (cursor.Parsed (placeOf c)) v d
     → Reads f s c v (joined c d)
 join-reads (cursor.Parsed n) i r = r
 join-reads {A} {f} {s} (cursor.OutOfRange p n) {d} {v} i r =
-    record { reads = farther-by p v d ∙ ap (farther p) (r .reads); inside = far-inside s p d (r .inside) }
+    record { reads = outOfRange-by p v d ∙ ap (outOfRangeAt p) (r .reads); inside = outOfRange-inside s p d (r .inside) }
 join-reads (cursor.Failed p) i r = record { reads = refl; inside = i }
 
 -- the same by the numbers that the code has
@@ -192,13 +192,13 @@ step-reads {A} {f} {s} {c} {d} {e} {v} i p j r =
 
 -- ---- where reading does not go on any value will do
 
-pub stopped-reads : {A : Type 0} (f : Form A) (s : List ℕ) (p : ℕ) (v : A) → p ≤ length s → Reads f s (cursor.Failed p) v (cursor.Failed p)
-stopped-reads f s p v h = record { reads = refl; inside = h }
+pub failed-reads : {A : Type 0} (f : Form A) (s : List ℕ) (p : ℕ) (v : A) → p ≤ length s → Reads f s (cursor.Failed p) v (cursor.Failed p)
+failed-reads f s p v h = record { reads = refl; inside = h }
 
-pub stopped-any : {A : Type 0} {f : Form A} {s : List ℕ} {c : Cursor} {p : ℕ} {v : A} → Reads f s c v (cursor.Failed p) → (w : A)
+pub failed-any : {A : Type 0} {f : Form A} {s : List ℕ} {c : Cursor} {p : ℕ} {v : A} → Reads f s c v (cursor.Failed p) → (w : A)
     → Reads f s c w (cursor.Failed p)
-stopped-any r w = record { reads = r .reads; inside = r .inside }
+failed-any r w = record { reads = r .reads; inside = r .inside }
 
-pub over-any : {A : Type 0} {f : Form A} {s : List ℕ} {c : Cursor} {p n : ℕ} {v : A} → Reads f s c v (cursor.OutOfRange p n) → (w : A)
+pub outOfRange-any : {A : Type 0} {f : Form A} {s : List ℕ} {c : Cursor} {p n : ℕ} {v : A} → Reads f s c v (cursor.OutOfRange p n) → (w : A)
     → Reads f s c w (cursor.OutOfRange p n)
-over-any r w = record { reads = r .reads; inside = r .inside }
+outOfRange-any r w = record { reads = r .reads; inside = r .inside }

@@ -7,7 +7,7 @@ use lib.ListN.{length, drop}
 use Rattle.forms.specs.Bytes.{if_then_else_}
 use Rattle.forms.specs.Form.{Class, Form}
 use Rattle.forms.specs.Scan.{begins}
-use Rattle.forms.specs.Place.{Read, Parsed, OutOfRange, Failed, readAt, farther}
+use Rattle.forms.specs.Place.{Read, Parsed, OutOfRange, Failed, readAt, outOfRangeAt}
 use Rattle.scan_cursors.specs.declared.Cursor.{Cursor}
 use Rattle.scan_cursors.specs.declared.Cursor.the-variants as cursor
 
@@ -20,18 +20,18 @@ readBy v (cursor.Failed p) = Failed p
 -- the answer of a form from where a cursor stands
 abbrev pub from : {A : Type 0} → Cursor → (ℕ → Read A) → Read A
 from (cursor.Parsed n) k = k n
-from (cursor.OutOfRange p n) k = farther p (k n)
+from (cursor.OutOfRange p n) k = outOfRangeAt p (k n)
 from (cursor.Failed p) k = Failed p
 
-abbrev pub farBy : ℕ → Cursor → Cursor
-farBy p (cursor.Parsed n) = cursor.OutOfRange p n
-farBy p (cursor.OutOfRange q n) = cursor.OutOfRange p n
-farBy p (cursor.Failed q) = cursor.Failed q
+abbrev pub outOfRangeBy : ℕ → Cursor → Cursor
+outOfRangeBy p (cursor.Parsed n) = cursor.OutOfRange p n
+outOfRangeBy p (cursor.OutOfRange q n) = cursor.OutOfRange p n
+outOfRangeBy p (cursor.Failed q) = cursor.Failed q
 
 -- the cursor d, which a scanner answered from the place of c, after all that c went through
 abbrev pub joined : Cursor → Cursor → Cursor
 joined (cursor.Parsed n) d = d
-joined (cursor.OutOfRange p n) d = farBy p d
+joined (cursor.OutOfRange p n) d = outOfRangeBy p d
 joined (cursor.Failed p) d = cursor.Failed p
 
 abbrev pub placeOf : Cursor → ℕ

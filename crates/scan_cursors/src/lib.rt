@@ -1,6 +1,6 @@
 // Where scanning stands in a text.
 ghost use mathlib.Core.Path.{_≡_};
-ghost use Rattle.scan_cursors.specs.Reads.{placeOf, farBy, joined, limitedBy};
+ghost use Rattle.scan_cursors.specs.Reads.{placeOf, outOfRangeBy, joined, limitedBy};
 
 // At a place; at the second place, a number beyond its limit having stood at the first; or stopped at a place, for good.
 pub enum Cursor {
@@ -21,8 +21,8 @@ pub fn place(c: Cursor) -> usize
 }
 
 // After a number beyond its limit at the place: where the form stops later, that comes first (6 before 7).
-fn far(place: usize, d: Cursor) -> Cursor
-    ensures { λ r. ⌜ r ≡ farBy place d ⌝ }
+fn out_of_range(place: usize, d: Cursor) -> Cursor
+    ensures { λ r. ⌜ r ≡ outOfRangeBy place d ⌝ }
 {
     match d {
         Cursor::Parsed(at) => Cursor::OutOfRange(place, at),
@@ -38,7 +38,7 @@ pub fn join(c: Cursor, d: Cursor) -> Cursor
 {
     match c {
         Cursor::Parsed(_) => d,
-        Cursor::OutOfRange(place, _) => far(place, d),
+        Cursor::OutOfRange(place, _) => out_of_range(place, d),
         Cursor::Failed(at) => Cursor::Failed(at),
     }
 }
@@ -55,7 +55,7 @@ pub fn limited(c: Cursor, kept: bool, d: Cursor) -> Cursor
                 Cursor::OutOfRange(place(c), end)
             }
         }
-        Cursor::OutOfRange(far, end) => Cursor::OutOfRange(far, end),
+        Cursor::OutOfRange(first, end) => Cursor::OutOfRange(first, end),
         Cursor::Failed(at) => Cursor::Failed(at),
     }
 }

@@ -15,7 +15,7 @@ use Rattle.forms.proofs.Bools.{by-cases, or-false}
 use Rattle.forms.proofs.Words.{span-one}
 use Rattle.scan_cursors.specs.declared.Cursor.the-variants.{Parsed, Failed}
 use Rattle.scan_cursors.specs.Reads.{Reads}
-use Rattle.scan_cursors.proofs.Readings.{byte-reads, byte-stops, byte-ends, made-reads, tell-reads}
+use Rattle.scan_cursors.proofs.Readings.{byte-reads, byte-stops, byte-ends, fmap-reads, pure-reads}
 use Rattle.scan_cursors.proofs.Choices.{first-reads, second-reads}
 
 module _ (c : Class) (s : List ℕ) (at : ℕ) where
@@ -50,8 +50,8 @@ pub has-one : (b x : ℕ) → has ((b, b) ∷ []) x ≡ eqb x b
 unfolding has
 has-one b x = or-false _ ∙ span-one x b
 
-pub sign-begun : (b : ℕ) (s : List ℕ) (at : ℕ) → begins ((b, b) ∷ []) (drop at s) ≡ true → Reads (literal b) s (Parsed at) b (Parsed (at + 1))
-sign-begun b s at e =
+pub literal-begun : (b : ℕ) (s : List ℕ) (at : ℕ) → begins ((b, b) ∷ []) (drop at s) ≡ true → Reads (literal b) s (Parsed at) b (Parsed (at + 1))
+literal-begun b s at e =
     let h = begins-in ((b, b) ∷ []) s at e in
     let q : getD s at 0 ≡ b = eqb-true _ _ (sym (has-one b (getD s at 0)) ∙ sym (begins-at ((b, b) ∷ []) s at h) ∙ e) in
     subst (λ (x : ℕ). Reads (literal b) s (Parsed at) x (Parsed (at + 1))) q (byte-begun ((b, b) ∷ []) s at e)
@@ -59,7 +59,7 @@ sign-begun b s at e =
 -- an optional byte
 module _ (b : ℕ) (s : List ℕ) (at : ℕ) where
   pub mark-yes : begins ((b, b) ∷ []) (drop at s) ≡ true → Reads (opt false (literalAs b true)) s (Parsed at) true (Parsed (at + 1))
-  mark-yes e = first-reads refl e (made-reads (λ (x : ℕ). true) (sign-begun b s at e))
+  mark-yes e = first-reads refl e (fmap-reads (λ (x : ℕ). true) (literal-begun b s at e))
 
   pub mark-no : at ≤ length s → begins ((b, b) ∷ []) (drop at s) ≡ false → Reads (opt false (literalAs b true)) s (Parsed at) false (Parsed at)
-  mark-no h e = second-reads refl e (tell-reads false s (Parsed at) h)
+  mark-no h e = second-reads refl e (pure-reads false s (Parsed at) h)

@@ -10,7 +10,7 @@ use Rattle.forms.specs.Form.{Class, has, Form, byte, many}
 use Rattle.forms.specs.Scan.{Got, scan, over}
 use Rattle.forms.specs.Place.{Failed, readAt}
 use Rattle.forms.specs.Pieces.{some}
-use Rattle.forms.proofs.Pieces.{star-bytes, some-bytes, over-free}
+use Rattle.forms.proofs.Pieces.{many-bytes, some-bytes, over-unbounded}
 use Rattle.scan_cursors.specs.declared.Cursor.the-variants as cursor
 use Rattle.scan_cursors.specs.Reads.{Reads}
 use Rattle.list_laws.proofs.Runs.{run-le, run-in}
@@ -28,17 +28,17 @@ module _ (c : Class) (s : List ℕ) (at : ℕ) (h : at ≤ length s) where
   unfolding readAt
   got f o e = record { reads = sym (rw (o, e, left)); inside = run-in c s at h }
 
-  star-run : Reads (many (byte c)) s (cursor.Parsed at) (take count (drop at s)) (cursor.Parsed (at + count))
-  star-run = got (many (byte c)) (over-free (many (byte c)) refl (drop at s)) (star-bytes c (has c) (λ b. refl) (drop at s))
+  many-run : Reads (many (byte c)) s (cursor.Parsed at) (take count (drop at s)) (cursor.Parsed (at + count))
+  many-run = got (many (byte c)) (over-unbounded (many (byte c)) refl (drop at s)) (many-bytes c (has c) (λ b. refl) (drop at s))
 
   some-run : (count ≡ 0 → ⊥) → Reads (some (byte c)) s (cursor.Parsed at) (take count (drop at s)) (cursor.Parsed (at + count))
-  some-run n = got (some (byte c)) (over-free (some (byte c)) refl (drop at s)) (some-bytes c (has c) (λ b. refl) (drop at s) ∙ rw (ne-eqb count 0 n))
+  some-run n = got (some (byte c)) (over-unbounded (some (byte c)) refl (drop at s)) (some-bytes c (has c) (λ b. refl) (drop at s) ∙ rw (ne-eqb count 0 n))
 
   some-none : count ≡ 0 → (v : List ℕ) → Reads (some (byte c)) s (cursor.Parsed at) v (cursor.Failed at)
   unfolding readAt
   some-none n v =
       record {
-        reads = sym (rw (over-free (some (byte c)) refl (drop at s), some-bytes c (has c) (λ b. refl) (drop at s), eq-eqb count 0 n)
+        reads = sym (rw (over-unbounded (some (byte c)) refl (drop at s), some-bytes c (has c) (λ b. refl) (drop at s), eq-eqb count 0 n)
             (ap Failed (omega (arith, length-drop at s, h))));
         inside = h;
       }
@@ -61,4 +61,4 @@ module _ (c : Class) (s : List ℕ) (at end : ℕ) (h : at ≤ length s) (e : en
   run-some n = rw (counted, around) at (some-run c s at h (λ z. n (omega (arith, z, e))))
 
   pub run-any : Reads (many (byte c)) s (cursor.Parsed at) (take (end - at) (drop at s)) (cursor.Parsed end)
-  run-any = rw (counted, around) at (star-run c s at h)
+  run-any = rw (counted, around) at (many-run c s at h)

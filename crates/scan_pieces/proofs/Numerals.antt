@@ -12,20 +12,20 @@ use Rattle.forms.specs.Scan.{begins}
 use Rattle.forms.specs.Place.{Read, Parsed, OutOfRange, Failed, readAt, mapRead, both-read, bounded}
 use Rattle.forms.specs.Pieces.{preceded, some}
 use Rattle.forms.proofs.Bools.{by-cases, both-left, both-right}
-use Rattle.forms.proofs.At.{alt-at, skip-at, made-at, pair-at, bound-at, byte-at, byte-end, mapped-both}
+use Rattle.forms.proofs.At.{alt-at, preceded-at, fmap-at, pair-at, bound-at, byte-at, byte-end, mapped-both}
 use Rattle.definitions.specs.Numbers.{decimalDigits, hexDigits, digitValue, valueOf, number, eitherBase, numeral}
-use Rattle.scan_pieces.specs.Digits.{digitsWithin, hexMarked}
+use Rattle.scan_pieces.specs.Digits.{digitsWithin, hexPrefixed}
 use Rattle.scan_cursors.specs.declared.Cursor.{Cursor}
 use Rattle.scan_cursors.specs.declared.Cursor.the-variants as cursor
 use Rattle.scan_cursors.specs.Reads.{Reads}
 use Rattle.scan_pieces.proofs.AtPlace.{begins-at, begins-in, has-one}
 
 -- the byte `0`, then `x` or `X`
-abbrev zero-sign : List (ℕ × ℕ)
-zero-sign = (48, 48) ∷ []
+abbrev zero-literal : List (ℕ × ℕ)
+zero-literal = (48, 48) ∷ []
 
-abbrev x-sign : List (ℕ × ℕ)
-x-sign = (120, 120) ∷ (88, 88) ∷ []
+abbrev x-literal : List (ℕ × ℕ)
+x-literal = (120, 120) ∷ (88, 88) ∷ []
 
 -- a byte of a class that stands there
 stood : (c : List (ℕ × ℕ)) (s : List ℕ) (at : ℕ) → begins c (drop at s) ≡ true → readAt (byte c) s at ≡ Parsed (getD s at 0) (at + 1)
@@ -50,11 +50,11 @@ no-zero b e =
     (λ t. rw (t, le-leb 48 b (omega (arith, leb-true 49 b t))))
     (λ t. rw (t, lt-leb 48 b (omega (arith, leb-false 49 b t, n))))
 
-skip-stood : {A : Type 0} (c : List (ℕ × ℕ)) (g : Form A) (s : List ℕ) (at : ℕ) → begins c (drop at s) ≡ true
+preceded-begun : {A : Type 0} (c : List (ℕ × ℕ)) (g : Form A) (s : List ℕ) (at : ℕ) → begins c (drop at s) ≡ true
     → readAt (preceded (byte c) g) s at ≡ readAt g s (at + 1)
-skip-stood c g s at e =
+preceded-begun c g s at e =
     let h = begins-in c s at e in
-    skip-at (byte c) g s at (omega arith) ∙ rw (stood c s at e) (mapped-id (readAt g s (at + 1)))
+    preceded-at (byte c) g s at (omega arith) ∙ rw (stood c s at e) (mapped-id (readAt g s (at + 1)))
 
 -- decimal digits, with how many bytes stand before them
 abbrev plainly : List ℕ → ℕ × ℕ
@@ -73,13 +73,13 @@ led-by-zero (Failed p) = refl
 -- ---- the digits
 
 module _ (s : List ℕ) (at : ℕ) where
-  either-hex : begins zero-sign (drop at s) ≡ true → begins x-sign (drop (at + 1) s) ≡ true
+  either-hex : begins zero-literal (drop at s) ≡ true → begins x-literal (drop (at + 1) s) ≡ true
       → readAt eitherBase s at ≡ mapRead (λ (l : List ℕ). (2, valueOf 16 0 l)) (readAt (some (byte hexDigits)) s (at + 2))
   either-hex z x =
       let e : at + 1 + 1 ≡ at + 2 = omega arith in
       alt-at _ _ s at
-      ∙ rw z (skip-stood zero-sign _ s at z ∙ alt-at _ _ s (at + 1)
-      ∙ rw x (skip-stood x-sign _ s (at + 1) x ∙ made-at _ _ s (at + 1 + 1) ∙ rw e))
+      ∙ rw z (preceded-begun zero-literal _ s at z ∙ alt-at _ _ s (at + 1)
+      ∙ rw x (preceded-begun x-literal _ s (at + 1) x ∙ fmap-at _ _ s (at + 1 + 1) ∙ rw e))
 
   abbrev digits : ℕ → Read (List ℕ)
   digits n = readAt (many (byte decimalDigits)) s n
@@ -88,45 +88,45 @@ module _ (s : List ℕ) (at : ℕ) where
   some-at : at ≤ length s
       → readAt (some (byte decimalDigits)) s at ≡ both-read (λ (b : ℕ) (l : List ℕ). b ∷ l) (readAt (byte decimalDigits) s at) digits
   some-at h =
-      made-at _ _ s at ∙ ap (mapRead joined) (pair-at (byte decimalDigits) (many (byte decimalDigits)) s at h)
+      fmap-at _ _ s at ∙ ap (mapRead joined) (pair-at (byte decimalDigits) (many (byte decimalDigits)) s at h)
       ∙ mapped-both joined (readAt (byte decimalDigits) s at) digits
 
-  zero-digit : begins zero-sign (drop at s) ≡ true → getD s at 0 ≡ 48
-  zero-digit z = let h = begins-in zero-sign s at z in eqb-true _ _ (sym (has-one 48 (getD s at 0)) ∙ sym (begins-at zero-sign s at h) ∙ z)
+  zero-digit : begins zero-literal (drop at s) ≡ true → getD s at 0 ≡ 48
+  zero-digit z = let h = begins-in zero-literal s at z in eqb-true _ _ (sym (has-one 48 (getD s at 0)) ∙ sym (begins-at zero-literal s at h) ∙ z)
 
-  either-zero : begins zero-sign (drop at s) ≡ true → begins x-sign (drop (at + 1) s) ≡ false
+  either-zero : begins zero-literal (drop at s) ≡ true → begins x-literal (drop (at + 1) s) ≡ false
       → readAt eitherBase s at ≡ mapRead plainly (readAt (some (byte decimalDigits)) s at)
   unfolding has
   either-zero z x =
-      let h = begins-in zero-sign s at z in
+      let h = begins-in zero-literal s at z in
       let d : readAt (byte decimalDigits) s at ≡ Parsed 48 (at + 1) = byte-at decimalDigits s at h ∙ rw (zero-digit z) in
       let e = some-at (omega arith) ∙ ap (λ (X : Read ℕ). both-read (λ (b : ℕ) (l : List ℕ). b ∷ l) X digits) d in
       alt-at _ _ s at
-      ∙ rw z (skip-stood zero-sign _ s at z ∙ alt-at _ _ s (at + 1)
-      ∙ rw x (made-at _ _ s (at + 1) ∙ sym (ap (mapRead plainly) e ∙ led-by-zero (digits (at + 1)))))
+      ∙ rw z (preceded-begun zero-literal _ s at z ∙ alt-at _ _ s (at + 1)
+      ∙ rw x (fmap-at _ _ s (at + 1) ∙ sym (ap (mapRead plainly) e ∙ led-by-zero (digits (at + 1)))))
 
   -- a digit that is no zero, or no digit at all
-  other-digit : at ≤ length s → begins zero-sign (drop at s) ≡ false → readAt (byte ((49, 57) ∷ [])) s at ≡ readAt (byte decimalDigits) s at
+  other-digit : at ≤ length s → begins zero-literal (drop at s) ≡ false → readAt (byte ((49, 57) ∷ [])) s at ≡ readAt (byte decimalDigits) s at
   other-digit h z =
       by-cases (ltb at (length s))
       (λ t.
       let g = ltb-true at (length s) t in
-      let n = no-zero (getD s at 0) (sym (has-one 48 (getD s at 0)) ∙ sym (begins-at zero-sign s at g) ∙ z) in
+      let n = no-zero (getD s at 0) (sym (has-one 48 (getD s at 0)) ∙ sym (begins-at zero-literal s at g) ∙ z) in
       byte-at ((49, 57) ∷ []) s at g ∙ rw n (sym (byte-at decimalDigits s at g)))
       (λ t.
       let e : at ≡ length s = omega (arith, ltb-false at (length s) t) in
       rw e (byte-end ((49, 57) ∷ []) s ∙ sym (byte-end decimalDigits s)))
 
-  either-other : at ≤ length s → begins zero-sign (drop at s) ≡ false
+  either-other : at ≤ length s → begins zero-literal (drop at s) ≡ false
       → readAt eitherBase s at ≡ mapRead plainly (readAt (some (byte decimalDigits)) s at)
   either-other h z =
       let of : ℕ × List ℕ → ℕ × ℕ = λ p. (0, valueOf 10 0 (p .0 ∷ p .1)) in
       let X : Read ℕ = readAt (byte decimalDigits) s at in
       let two : Read ℕ → Read (ℕ × List ℕ) = λ (Y : Read ℕ). both-read (λ (b : ℕ) (l : List ℕ). (b, l)) Y digits in
       let one = pair-at (byte ((49, 57) ∷ [])) (many (byte decimalDigits)) s at h ∙ ap two (other-digit h z) in
-      let all = made-at _ _ s at ∙ ap (mapRead joined) (pair-at (byte decimalDigits) (many (byte decimalDigits)) s at h) in
+      let all = fmap-at _ _ s at ∙ ap (mapRead joined) (pair-at (byte decimalDigits) (many (byte decimalDigits)) s at h) in
       alt-at _ _ s at
-      ∙ rw z (made-at of _ s at ∙ ap (mapRead of) one ∙ mapped-both of X digits
+      ∙ rw z (fmap-at of _ s at ∙ ap (mapRead of) one ∙ mapped-both of X digits
       ∙ sym (ap (mapRead plainly) all ∙ mapped-twice plainly joined (two X) ∙ mapped-both of X digits))
 
 -- ---- the number
@@ -155,24 +155,24 @@ numeral-is limit s at here k c base e h x =
     let left = bound-at _ _ eitherBase s at ∙ ap (bounded (within limit) (λ (p : ℕ × ℕ). after s at (p .0))) x in
     let right =
     bound-at (λ (n : ℕ). leb n limit) (λ (n : ℕ). 0) (fmap (valueOf base 0) (some (byte c))) s here
-    ∙ ap (bounded (λ (n : ℕ). leb n limit) (λ (n : ℕ). after s here 0)) (made-at (valueOf base 0) (some (byte c)) s here) in
-    made-at _ _ s at ∙ ap (mapRead (λ (p : ℕ × ℕ). p .1)) left ∙ same-bound limit s at here base k (readAt (some (byte c)) s here) e h ∙ sym right
+    ∙ ap (bounded (λ (n : ℕ). leb n limit) (λ (n : ℕ). after s here 0)) (fmap-at (valueOf base 0) (some (byte c)) s here) in
+    fmap-at _ _ s at ∙ ap (mapRead (λ (p : ℕ × ℕ). p .1)) left ∙ same-bound limit s at here base k (readAt (some (byte c)) s here) e h ∙ sym right
 
-pub hex-inside : (s : List ℕ) (at : ℕ) → hexMarked s at ≡ true → at + 2 ≤ length s
-hex-inside s at e = omega (arith, begins-in x-sign s (at + 1) (both-right (begins zero-sign (drop at s)) (begins x-sign (drop (at + 1) s)) e))
+pub hex-inside : (s : List ℕ) (at : ℕ) → hexPrefixed s at ≡ true → at + 2 ≤ length s
+hex-inside s at e = omega (arith, begins-in x-literal s (at + 1) (both-right (begins zero-literal (drop at s)) (begins x-literal (drop (at + 1) s)) e))
 
 module _ (limit : ℕ) {s : List ℕ} {at : ℕ} {v : ℕ} {d : Cursor} where
-  pub hex-reads : hexMarked s at ≡ true → Reads (digitsWithin hexDigits 16 limit) s (cursor.Parsed (at + 2)) v d
+  pub hex-reads : hexPrefixed s at ≡ true → Reads (digitsWithin hexDigits 16 limit) s (cursor.Parsed (at + 2)) v d
       → Reads (numeral limit) s (cursor.Parsed at) v d
   hex-reads e r =
-      let z = both-left (begins zero-sign (drop at s)) (begins x-sign (drop (at + 1) s)) e in
-      let x = both-right (begins zero-sign (drop at s)) (begins x-sign (drop (at + 1) s)) e in
+      let z = both-left (begins zero-literal (drop at s)) (begins x-literal (drop (at + 1) s)) e in
+      let x = both-right (begins zero-literal (drop at s)) (begins x-literal (drop (at + 1) s)) e in
       let q = numeral-is limit s at (at + 2) 2 hexDigits 16 refl (hex-inside s at e) (either-hex s at z x) in
       record { reads = r .reads ∙ sym q; inside = r .inside }
 
-  pub decimal-reads : at ≤ length s → hexMarked s at ≡ false → Reads (number limit) s (cursor.Parsed at) v d → Reads (numeral limit) s (cursor.Parsed at) v d
+  pub decimal-reads : at ≤ length s → hexPrefixed s at ≡ false → Reads (number limit) s (cursor.Parsed at) v d → Reads (numeral limit) s (cursor.Parsed at) v d
   decimal-reads h e r =
       let q : at ≡ at + 0 = omega arith in
       let w : readAt eitherBase s at ≡ mapRead plainly (readAt (some (byte decimalDigits)) s at) =
-      by-cases (begins zero-sign (drop at s)) (λ z. either-zero s at z (rw z at e)) (λ z. either-other s at h z) in
+      by-cases (begins zero-literal (drop at s)) (λ z. either-zero s at z (rw z at e)) (λ z. either-other s at h z) in
       record { reads = r .reads ∙ sym (numeral-is limit s at at 0 decimalDigits 10 q h w); inside = r .inside }

@@ -14,5 +14,5 @@ abbrev pub digitsWithin : Class → ℕ → ℕ → Form ℕ
 digitsWithin c base limit = bound (λ (n : ℕ). leb n limit) (λ (n : ℕ). 0) (fmap (valueOf base 0) (some (byte c)))
 
 -- `0x` or `0X` stands at the place
-abbrev pub hexMarked : List ℕ → ℕ → Bool
-hexMarked s at = begins ((48, 48) ∷ []) (drop at s) && begins ((120, 120) ∷ (88, 88) ∷ []) (drop (at + 1) s)
+abbrev pub hexPrefixed : List ℕ → ℕ → Bool
+hexPrefixed s at = begins ((48, 48) ∷ []) (drop at s) && begins ((120, 120) ∷ (88, 88) ∷ []) (drop (at + 1) s)

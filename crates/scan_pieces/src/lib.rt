@@ -2,5 +2,5 @@
 // stands, or with the first place at which its form can't go on.
 pub mod numbers;
 pub mod runs;
-pub mod signs;
+pub mod literals;
 pub mod words;

@@ -4,7 +4,7 @@ ghost use lib.ListN.{length};
 ghost use Rattle.forms.specs.Pieces.{word};
 ghost use Rattle.scan_cursors.specs.Reads.{Reads};
 ghost use Rattle.scan_cursors.specs.declared.Cursor.the-variants.{Parsed};
-use crate::signs::starts;
+use crate::literals::starts;
 use scan_cursors::Cursor;
 
 // The word, which is written in small letters; it stops at the first byte that differs.

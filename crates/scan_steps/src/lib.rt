@@ -2,5 +2,5 @@
 // is scanned step by step, each step from the cursor of the one before.
 pub mod numbers;
 pub mod runs;
-pub mod signs;
+pub mod literals;
 pub mod words;

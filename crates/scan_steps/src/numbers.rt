@@ -1,7 +1,7 @@
 // Numbers up to a limit, from a cursor on.
 ghost use Prim.Native.Nat.{_≤_, _<_};
 ghost use Rattle.definitions.specs.Numbers.{number, numeral};
-ghost use Rattle.scan_bytes.specs.Capped.{farAbove};
+ghost use Rattle.scan_bytes.specs.Capped.{numberCap};
 ghost use Rattle.scan_cursors.specs.Reads.{Inside, Reads};
 use scan_cursors::Cursor;
 use scan_cursors::join;
@@ -12,7 +12,7 @@ use scan_pieces::numbers::numeral_at;
 
 // A decimal number up to a limit.
 pub fn then_number(s: &[u8], c: Cursor, limit: u64) -> Numeric
-    requires { ⌜ Inside (now s) c × (limit < farAbove) ⌝ }
+    requires { ⌜ Inside (now s) c × (limit < numberCap) ⌝ }
     ensures { λ r. ⌜ Reads (number limit) (now (s .entry)) c (r .value) (r .cursor) × (r .value ≤ limit) ⌝ }
 {
     let at = place(c);
@@ -26,7 +26,7 @@ pub fn then_number(s: &[u8], c: Cursor, limit: u64) -> Numeric
 
 // A number in decimal, or in hex after `0x` or `0X`, up to a limit.
 pub fn then_numeral(s: &[u8], c: Cursor, limit: u64) -> Numeric
-    requires { ⌜ Inside (now s) c × (limit < farAbove) ⌝ }
+    requires { ⌜ Inside (now s) c × (limit < numberCap) ⌝ }
     ensures { λ r. ⌜ Reads (numeral limit) (now (s .entry)) c (r .value) (r .cursor) × (r .value ≤ limit) ⌝ }
 {
     let at = place(c);

@@ -4,7 +4,7 @@ ghost use Prim.Native.Nat.{_≤_};
 ghost use lib.ListN.{length};
 ghost use Rattle.forms.specs.Pieces.{or, keyword, word};
 ghost use Rattle.scan_cursors.specs.Reads.{Inside, Reads};
-use crate::signs::next_is_letter;
+use crate::literals::next_is_letter;
 use scan_cursors::Cursor;
 use scan_cursors::join;
 use scan_cursors::place;

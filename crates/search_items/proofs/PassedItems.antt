@@ -94,7 +94,7 @@ module _ {q : SearchInput} {k : ℕ} {b s d : List ℕ} {l : LastMatch} {chosen 
     module _ (no : NoPattern (sl .item)) {t : Bool} (e : t ≡ testHolds view (sl .item) (sl .addresses) l) where
       test-first : found q s d l chosen on-bound (constraints (itemsLeft q k) b)
           ≡ found q s d l chosen on-bound (tested (sl .item) (sl .addresses) ∷ constraints sls left)
-      test-first = g .same ∙ ap (found q s d l chosen on-bound) (stepping.wanted-test all sl sls here left no)
+      test-first = g .same ∙ ap (found q s d l chosen on-bound) (stepping.constraints-test all sl sls here left no)
 
       pub gone-test : not t ≡ false → Gone q k b s d l chosen on-bound (i + 1) from
       gone-test n =
@@ -126,7 +126,7 @@ module _ {q : SearchInput} {k : ℕ} {b s d : List ℕ} {l : LastMatch} {chosen 
             → r ≡ found q s d l chosen on-bound (constraints (itemsLeft q k) b)
         placed-first r h =
             (rw (own-is b from (p .len), rest-is b from (p .len)) at h)
-            ∙ sym (g .same ∙ ap (found q s d l chosen on-bound) (stepping.wanted-placed all sl sls here left p e n))
+            ∙ sym (g .same ∙ ap (found q s d l chosen on-bound) (stepping.constraints-matched all sl sls here left p e n))
 
       module _ (n : p .negated ≡ true) {t : Bool} (h : t ≡ unmatchedHolds view p (ownOf b from (p .len)) l) where
         abbrev own : List ℕ
@@ -139,7 +139,7 @@ module _ {q : SearchInput} {k : ℕ} {b s d : List ℕ} {l : LastMatch} {chosen 
         holds = rw (own-is b from (p .len)) at h
 
         nowhere-first : found q s d l chosen on-bound (constraints (itemsLeft q k) b) ≡ found q s d l chosen on-bound (unmatched p own ∷ constraints sls rest)
-        nowhere-first = g .same ∙ ap (found q s d l chosen on-bound) (stepping.wanted-nowhere all sl sls here left p e n)
+        nowhere-first = g .same ∙ ap (found q s d l chosen on-bound) (stepping.constraints-unmatched all sl sls here left p e n)
 
         pub gone-nowhere : not t ≡ false → Gone q k b s d l chosen on-bound (i + 1) (from + p .len)
         gone-nowhere y =

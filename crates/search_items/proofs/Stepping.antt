@@ -42,9 +42,9 @@ abbrev pub NoPattern : Item → Type 0
 NoPattern it = OneOf (0 ∷ 1 ∷ 2 ∷ 3 ∷ 4 ∷ 5 ∷ 6 ∷ 7 ∷ []) (tagOf item-type.the-type it)
 
 module _ (all : List Slot) (sl : Slot) (sls : List Slot) (u : all ≡ sl ∷ sls) (b : List ℕ) where
-  pub wanted-test : NoPattern (sl .item) → constraints all b ≡ tested (sl .item) (sl .addresses) ∷ constraints sls b
+  pub constraints-test : NoPattern (sl .item) → constraints all b ≡ tested (sl .item) (sl .addresses) ∷ constraints sls b
   unfolding constraints
-  wanted-test k =
+  constraints-test k =
       let it = sl .item in
       let al = sl .addresses in
       rw u
@@ -56,15 +56,15 @@ module _ (all : List Slot) (sl : Slot) (sls : List Slot) (u : all ≡ sl ∷ sls
   bytes-test k = rw u (other-kind (λ (κ : Kind). bytesOf (patternFirst κ (patternsOf sls)) ≡ bytesOf (patternsOf sls)) refl (λ a. refl) refl (sl .item) k)
 
   module _ (p : Pattern) (e : sl .item ≡ item.Pattern p) where
-    wanted-pattern : constraints all b ≡ patternConstraint p (take (p .len) b) ∷ constraints sls (drop (p .len) b)
+    constraints-pattern : constraints all b ≡ patternConstraint p (take (p .len) b) ∷ constraints sls (drop (p .len) b)
     unfolding constraints
-    wanted-pattern = rw (u, e)
+    constraints-pattern = rw (u, e)
 
-    pub wanted-nowhere : p .negated ≡ true → constraints all b ≡ unmatched p (take (p .len) b) ∷ constraints sls (drop (p .len) b)
-    wanted-nowhere n = wanted-pattern ∙ rw n
+    pub constraints-unmatched : p .negated ≡ true → constraints all b ≡ unmatched p (take (p .len) b) ∷ constraints sls (drop (p .len) b)
+    constraints-unmatched n = constraints-pattern ∙ rw n
 
-    pub wanted-placed : p .negated ≡ false → constraints all b ≡ matched p (take (p .len) b) ∷ constraints sls (drop (p .len) b)
-    wanted-placed n = wanted-pattern ∙ rw n
+    pub constraints-matched : p .negated ≡ false → constraints all b ≡ matched p (take (p .len) b) ∷ constraints sls (drop (p .len) b)
+    constraints-matched n = constraints-pattern ∙ rw n
 
     bytes-pattern : bytesOf (patternsOf all) ≡ p .len + bytesOf (patternsOf sls)
     unfolding patternsOf bytesOf
@@ -98,7 +98,7 @@ module _ (all : List Slot) (sl : Slot) (sls : List Slot) (u : all ≡ sl ∷ sls
     (rd : ReadyItems all b s d l chosen) where
   pub ready-test : NoPattern (sl .item) → ReadyItems sls b s d l chosen
   ready-test k =
-      let room : positives (constraints all b) ≡ positives (constraints sls b) = ap positives (wanted-test all sl sls u b k) ∙ positives-test _ _ _ in
+      let room : positives (constraints all b) ≡ positives (constraints sls b) = ap positives (constraints-test all sl sls u b k) ∙ positives-test _ _ _ in
       record { small = rd .small; stored = omega (arith, rd .stored, bytes-test all sl sls u b k); room = omega (arith, rd .room, room) }
 
   module _ (p : Pattern) (e : sl .item ≡ item.Pattern p) where
@@ -130,13 +130,13 @@ module _ (all : List Slot) (sl : Slot) (sls : List Slot) (u : all ≡ sl ∷ sls
     pub ready-nowhere : p .negated ≡ true → ReadyItems sls (drop (p .len) b) s d l chosen
     ready-nowhere n =
         let rest = constraints sls (drop (p .len) b) in
-        let room : positives (constraints all b) ≡ positives rest = ap positives (wanted-nowhere all sl sls u b p e n) ∙ positives-nowhere p _ _ in
+        let room : positives (constraints all b) ≡ positives rest = ap positives (constraints-unmatched all sl sls u b p e n) ∙ positives-nowhere p _ _ in
         record { small = rest-small; stored = omega (arith, length-drop (p .len) b, pattern-stored); room = omega (arith, rd .room, room) }
 
     pub ready-placed : p .negated ≡ false → Trying sls (drop (p .len) b) p (take (p .len) b) s d l chosen
     ready-placed n =
         let rest = constraints sls (drop (p .len) b) in
-        let room : positives (constraints all b) ≡ 1 + positives rest = ap positives (wanted-placed all sl sls u b p e n) ∙ positives-placed p _ _ in
+        let room : positives (constraints all b) ≡ 1 + positives rest = ap positives (constraints-matched all sl sls u b p e n) ∙ positives-placed p _ _ in
         record {
           small = rest-small;
           len = omega (arith, pattern-stored, rd .small .bytes);

@@ -26,7 +26,7 @@ use Rattle.definitions.specs.References.{usableIn}
 use Rattle.definitions.specs.Grammar.{Derives}
 use Rattle.syntax.proofs.Truths.{cases, impossible}
 use Rattle.syntax.proofs.Frame.{printed-exactly, opened-exactly}
-use Rattle.syntax.proofs.Loop.{Told, options-read, ended-options}
+use Rattle.syntax.proofs.Loop.{Extends, options-read, ended-options}
 use Rattle.syntax.proofs.UsablePatterns.{testOnly, options-tests, usable-exactly}
 
 -- ---- after the options
@@ -65,7 +65,7 @@ finished-is room s (refused r p) t e = refused-never room r p t e
 
 module _ (room : ℕ) (s : List ℕ) (t : Table) where
   told-derives : s ≡ opening ++ drop (length opening) s → all? printable s ≡ true → (located : List Located)
-      → checkedTable room s located ≡ acceptedReading t → Told (drop (length opening) s) [] located → Derives room s t
+      → checkedTable room s located ≡ acceptedReading t → Extends (drop (length opening) s) [] located → Derives room s t
   told-derives f p located q i =
       let j = subst (λ es. Checked room es t) (i .3) (checked-is room s located t (rw (i .3) (options-tests (i .1))) q) in
       record {

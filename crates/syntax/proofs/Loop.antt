@@ -26,7 +26,7 @@ use Rattle.syntax.proofs.Truths.{cases, impossible}
 use Rattle.syntax.proofs.Frame.{after, front-exactly}
 use Rattle.syntax.proofs.Single.{option-dashes, option-read, read-option}
 
--- one more option, told with the place of its dash
+-- one more option, located by the place of its dash
 abbrev pub joined : List Located → ℕ → OptionValue → List Located
 joined located at e = located ++ (record { dash = at; value = e } ∷ [])
 
@@ -57,7 +57,7 @@ option-taken (option o n y {e} m q w) s at l located d f =
 
 -- the loop ends, with these options after those that were there
 abbrev pub Ends : List ℕ → List ℕ → ℕ → List Located → List OptionValue → Type 0
-Ends s l at located es = (told : List Located) × (options s l 0 at located ≡ ended told) × (optionValuesOf told ≡ optionValuesOf located ++ es)
+Ends s l at located es = (final : List Located) × (options s l 0 at located ≡ ended final) × (optionValuesOf final ≡ optionValuesOf located ++ es)
 
 standing-parts : {before es : List OptionValue} {e : OptionValue} → Occurrences before (e ∷ es)
     → (occurrenceCheck before e ≡ check.Pass) × Occurrences (before ++ (e ∷ [])) es
@@ -80,42 +80,43 @@ options-read (OptionsText.more {x} {l} {e} {es} t o) s at located st d =
 
 -- ---- sound
 
-check-split : (u : Check) (at : ℕ) (k : Options) (told : List Located) → unlessRefused u at k ≡ ended told → (u ≡ check.Pass) × (k ≡ ended told)
-check-split check.Pass at k told q = (refl, q)
-check-split (check.Refuse r) at k told q = never (cc)
+check-split : (u : Check) (at : ℕ) (k : Options) (final : List Located) → unlessRefused u at k ≡ ended final → (u ≡ check.Pass) × (k ≡ ended final)
+check-split check.Pass at k final q = (refl, q)
+check-split (check.Refuse r) at k final q = never (cc)
 
-taken-split : (p : NamedOption) (es : List OptionValue) (at : ℕ) (k : OptionValue → ℕ → Options) (told : List Located) → optionStep p es at k ≡ ended told
-    → (e : OptionValue) × (next : ℕ) × (p ≡ listed (Parsed e next)) × (occurrenceCheck es e ≡ check.Pass) × (k e next ≡ ended told)
-taken-split unlisted es at k told q = never (cc)
-taken-split (listed (Parsed e next)) es at k told q = let i = check-split (occurrenceCheck es e) at (k e next) told q in (e, next, refl, i .0, i .1)
-taken-split (listed (OutOfRange p next)) es at k told q = never (cc)
-taken-split (listed (Failed p)) es at k told q = never (cc)
+taken-split : (p : NamedOption) (es : List OptionValue) (at : ℕ) (k : OptionValue → ℕ → Options) (final : List Located) → optionStep p es at k ≡ ended final
+    → (e : OptionValue) × (next : ℕ) × (p ≡ listed (Parsed e next)) × (occurrenceCheck es e ≡ check.Pass) × (k e next ≡ ended final)
+taken-split unlisted es at k final q = never (cc)
+taken-split (listed (Parsed e next)) es at k final q = let i = check-split (occurrenceCheck es e) at (k e next) final q in (e, next, refl, i .0, i .1)
+taken-split (listed (OutOfRange p next)) es at k final q = never (cc)
+taken-split (listed (Failed p)) es at k final q = never (cc)
 
--- the text of some options, which may stand after those that were there and are told at the end
-abbrev pub Told : List ℕ → List Located → List Located → Type 1
-Told l located told =
-    (es : List OptionValue) × OptionsText l es × Occurrences (optionValuesOf located) es × (optionValuesOf told ≡ optionValuesOf located ++ es)
+-- the text of some options that may stand after those located so far, and with them are the final ones
+abbrev pub Extends : List ℕ → List Located → List Located → Type 1
+Extends l located final =
+    (es : List OptionValue) × OptionsText l es × Occurrences (optionValuesOf located) es × (optionValuesOf final ≡ optionValuesOf located ++ es)
 
 none-nil : {A : Type 0} (l : List A) → none? l ≡ true → l ≡ []
 none-nil [] e = refl
 none-nil (x ∷ l) e = never (cc)
 
-module _ (s : List ℕ) (b : ℕ) (l : List ℕ) (at : ℕ) (located told : List Located) where
-  space-told : isSpace b ≡ true → Told l located told → Told (b ∷ l) located told
-  space-told t i = (i .0, rw (eqb-true b 32 t) (space (i .1)), i .2, i .3)
+module _ (s : List ℕ) (b : ℕ) (l : List ℕ) (at : ℕ) (located final : List Located) where
+  space-extends : isSpace b ≡ true → Extends l located final → Extends (b ∷ l) located final
+  space-extends t i = (i .0, rw (eqb-true b 32 t) (space (i .1)), i .2, i .3)
 
-  close-told : eqb b 41 ≡ true → (if none? l then ended located else refused refusal.NeitherOptionNorEnd (at + 1)) ≡ ended told → Told (b ∷ l) located told
-  close-told t q =
+  close-extends : eqb b 41 ≡ true → (if none? l then ended located else refused refusal.NeitherOptionNorEnd (at + 1)) ≡ ended final
+      → Extends (b ∷ l) located final
+  close-extends t q =
       cases (none? l)
       (λ u.
-      let z : ended located ≡ ended told = rw u at q in
-      let y : located ≡ told = cc in
+      let z : ended located ≡ ended final = rw u at q in
+      let y : located ≡ final = cc in
       ([], rw (eqb-true b 41 t, none-nil l u) close, none, ap optionValuesOf (sym y) ∙ sym (append-nil (optionValuesOf located))))
-      (λ u. let z : refused refusal.NeitherOptionNorEnd (at + 1) ≡ ended told = rw u at q in impossible (cc))
+      (λ u. let z : refused refusal.NeitherOptionNorEnd (at + 1) ≡ ended final = rw u at q in impossible (cc))
 
-  option-told : drop at s ≡ b ∷ l → dashes (b ∷ l) ≡ true → (e : OptionValue) (next : ℕ) → optionAt s at ≡ listed (Parsed e next)
-      → occurrenceCheck (optionValuesOf located) e ≡ check.Pass → Told (drop (next - (at + 1)) l) (joined located at e) told → Told (b ∷ l) located told
-  option-told d t e next p f i =
+  option-extends : drop at s ≡ b ∷ l → dashes (b ∷ l) ≡ true → (e : OptionValue) (next : ℕ) → optionAt s at ≡ listed (Parsed e next)
+      → occurrenceCheck (optionValuesOf located) e ≡ check.Pass → Extends (drop (next - (at + 1)) l) (joined located at e) final → Extends (b ∷ l) located final
+  option-extends d t e next p f i =
       let w : b ∷ l ≡ 45 ∷ 45 ∷ drop 2 (b ∷ l) = front-exactly (text "--") (b ∷ l) .0 t in
       let o = read-option s at next e (drop 2 (b ∷ l)) (d ∙ w) p in
       let y = option-dashes (o .1) in
@@ -130,20 +131,21 @@ module _ (s : List ℕ) (b : ℕ) (l : List ℕ) (at : ℕ) (located told : List
         i .3 ∙ ap (λ r. r ++ i .0) (joined-options located at e) ∙ append-assoc (optionValuesOf located) (e ∷ []) (i .0),
       )
 
-pub ended-options : (s l : List ℕ) (passed at : ℕ) (located told : List Located) → drop at s ≡ l → options s l passed at located ≡ ended told
-    → Told (drop passed l) located told
+pub ended-options : (s l : List ℕ) (passed at : ℕ) (located final : List Located) → drop at s ≡ l → options s l passed at located ≡ ended final
+    → Extends (drop passed l) located final
 unfolding options
-ended-options s [] passed at located told d q = impossible (cc)
-ended-options s (b ∷ l) (suc passed) at located told d q = ended-options s l passed (at + 1) located told (after s at (b ∷ []) l d) q
-ended-options s (b ∷ l) zero at located told d q =
+ended-options s [] passed at located final d q = impossible (cc)
+ended-options s (b ∷ l) (suc passed) at located final d q = ended-options s l passed (at + 1) located final (after s at (b ∷ []) l d) q
+ended-options s (b ∷ l) zero at located final d q =
     let d1 = after s at (b ∷ []) l d in
     cases (isSpace b)
-    (λ t. space-told s b l at located told t (ended-options s l zero (at + 1) located told d1 (rw t at q)))
+    (λ t. space-extends s b l at located final t (ended-options s l zero (at + 1) located final d1 (rw t at q)))
     (λ t. cases (eqb b 41)
-    (λ u. close-told s b l at located told u (rw (t, u) at q))
+    (λ u. close-extends s b l at located final u (rw (t, u) at q))
     (λ u. cases (dashes (b ∷ l))
     (λ w.
-    let p = taken-split (optionAt s at) (optionValuesOf located) at (λ e next. options s l (next - (at + 1)) (at + 1) (joined located at e)) told
+    let p = taken-split (optionAt s at) (optionValuesOf located) at (λ e next. options s l (next - (at + 1)) (at + 1) (joined located at e)) final
     (rw (t, u, w) at q) in
-    option-told s b l at located told d w (p .0) (p .1) (p .2) (p .3) (ended-options s l (p .1 - (at + 1)) (at + 1) (joined located at (p .0)) told d1 (p .4)))
-    (λ w. let z : refused refusal.NeitherOptionNorEnd at ≡ ended told = rw (t, u, w) at q in impossible (cc))))
+    option-extends s b l at located final d w (p .0) (p .1) (p .2) (p .3)
+    (ended-options s l (p .1 - (at + 1)) (at + 1) (joined located at (p .0)) final d1 (p .4)))
+    (λ w. let z : refused refusal.NeitherOptionNorEnd at ≡ ended final = rw (t, u, w) at q in impossible (cc))))

@@ -88,7 +88,7 @@ no-name-byte (r ∷ c) e b h =
     (λ t. no-name-byte c (both-right (eqb (r .0) (r .1) && not (inName (r .0))) (noName c) e) b (rw t at h))
 
 pub record Alone (f : Form OptionValue) : Type 0 where
-  pub is-fair : isLL1 f ≡ true
+  pub is-LL1 : isLL1 f ≡ true
   pub is-full : not (nullable f) ≡ true
   pub ends-itself : (r : List ℕ) → begins (followSet f) r ≡ false
   pub not-of-name : (b : ℕ) → has (firstSet f) b ≡ true → inName b ≡ false
@@ -100,7 +100,7 @@ form-alone {o} m =
     let t1 = both-right (isLL1 f) (not (nullable f) && (none? (followSet f) && noName (firstSet f))) t in
     let t2 = both-right (not (nullable f)) (none? (followSet f) && noName (firstSet f)) t1 in
     record {
-      is-fair = both-left (isLL1 f) (not (nullable f) && (none? (followSet f) && noName (firstSet f))) t;
+      is-LL1 = both-left (isLL1 f) (not (nullable f) && (none? (followSet f) && noName (firstSet f))) t;
       is-full = both-left (not (nullable f)) (none? (followSet f) && noName (firstSet f)) t1;
       ends-itself = none-begins (followSet f) (both-left (none? (followSet f)) (noName (firstSet f)) t2);
       not-of-name = no-name-byte (firstSet f) (both-right (none? (followSet f)) (noName (firstSet f)) t2);

@@ -27,7 +27,7 @@ pub form-read : {f : Form OptionValue} → Alone f → (s : List ℕ) (at : ℕ)
     → readAt f s at ≡ Parsed e (at + length y)
 unfolding readAt
 form-read {f} a s at y r e w d =
-    let c = complete true f (a .is-fair) y e r w (a .ends-itself r) in
+    let c = complete true f (a .is-LL1) y e r w (a .ends-itself r) in
     let h = some-byte y (λ t. no-empty true f (a .is-full) e (subst (λ u. Means true f u e) t w)) in
     rw (d, c .0, c .1 refl) (ap (λ i. Parsed e i) (place-after s at y r d h))
 

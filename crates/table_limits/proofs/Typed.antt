@@ -12,6 +12,6 @@ use Rattle.definitions.specs.WellFormed.{withinFits}
 use Rattle.definitions.proofs.table.Within as within-type
 use Rattle.definitions.proofs.table.Within.Laws as within-laws
 
-pub reach-fits : (w : Within) → WT (val within-type.the-type within-laws.the-laws w) → withinFits w ≡ true
-reach-fits within.Unset k = refl
-reach-fits (within.Given r) k = le-leb (r .number) maxWord (omega (arith, k .1 .0 .0))
+pub within-fits : (w : Within) → WT (val within-type.the-type within-laws.the-laws w) → withinFits w ≡ true
+within-fits within.Unset k = refl
+within-fits (within.Given r) k = le-leb (r .number) maxWord (omega (arith, k .1 .0 .0))

@@ -41,7 +41,7 @@ fn put_signed(out: &mut [u8], at: usize, z: i32) -> usize
 }
 
 // The option distance.
-fn put_shift(out: &mut [u8], at: usize, d: DistanceValue) -> usize
+fn put_distance_value(out: &mut [u8], at: usize, d: DistanceValue) -> usize
     ensures { λ r. ⌜ Puts (now (out .entry)) at (modifierText (entry.Distance d)) (now (out .exit)) r ⌝ }
 {
     let reference = d.reference;
@@ -53,7 +53,7 @@ fn put_shift(out: &mut [u8], at: usize, d: DistanceValue) -> usize
 }
 
 // The option within.
-fn put_reach(out: &mut [u8], at: usize, w: WithinValue) -> usize
+fn put_within_value(out: &mut [u8], at: usize, w: WithinValue) -> usize
     ensures { λ r. ⌜ Puts (now (out .entry)) at (modifierText (entry.Within w)) (now (out .exit)) r ⌝ }
 {
     let reference = w.reference;
@@ -69,7 +69,7 @@ fn put_distance(out: &mut [u8], at: usize, d: Distance) -> usize
 {
     match d {
         Distance::Unset => at,
-        Distance::Given(shift) => put_shift(out, at, shift),
+        Distance::Given(shift) => put_distance_value(out, at, shift),
     }
 }
 
@@ -79,7 +79,7 @@ fn put_within(out: &mut [u8], at: usize, w: Within) -> usize
 {
     match w {
         Within::Unset => at,
-        Within::Given(reach) => put_reach(out, at, reach),
+        Within::Given(reach) => put_within_value(out, at, reach),
     }
 }
 

@@ -1,6 +1,6 @@
 -- The loop is line_stream's, the answer a case's.
 use Rattle.case_lines.specs.CaseAnswers.{caseAnswer}
-use Rattle.line_stream.specs.Steps.{turnsLeft}
+use Rattle.line_stream.specs.Steps.{linesLeft}
 use Rattle.line_stream.proofs.Loop as loop
 use Rattle.case_lines.proofs.feed.Statement.{statement}
 use Rattle.case_lines.proofs.feed.Tie as tie
@@ -9,7 +9,7 @@ abbrev Inv-loop : tie.InvT-loop
 Inv-loop input line₀ out₀ room₀ more₀ t₀ line out room more t = loop.Loop caseAnswer input line₀ out₀ t₀ line out t
 
 abbrev μ-loop : tie.MeasureT-loop
-μ-loop input line₀ out₀ room₀ more₀ t₀ line out room more t = turnsLeft input t
+μ-loop input line₀ out₀ room₀ more₀ t₀ line out room more t = linesLeft input t
 
 first-line-requires : tie.Need-first-line-requires Inv-loop μ-loop
 first-line-requires c κs = tt

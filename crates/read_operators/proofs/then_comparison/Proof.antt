@@ -1,4 +1,4 @@
-use Rattle.scan_cursors.proofs.Readings.{made-reads, skip-reads}
+use Rattle.scan_cursors.proofs.Readings.{fmap-reads, preceded-reads}
 use Rattle.scan_cursors.proofs.Choices.{first-reads, second-reads}
 use borrow.Author.Needs.{needs}
 use Rattle.read_operators.proofs.then_comparison.Statement.{statement}
@@ -13,7 +13,7 @@ then-literal-requires c κs = search needs
 returns : tie.Need-returns
 returns c =
     let k1 = c .before in
-    first-reads (k1 .before .next-is .ensures) (k1 .if1 .taken) (made-reads _ (c .then-literal .ensures))
+    first-reads (k1 .before .next-is .ensures) (k1 .if1 .taken) (fmap-reads _ (c .then-literal .ensures))
 
 next-is-requires-2 : tie.Need-next-is-requires-2
 next-is-requires-2 c κs = search needs
@@ -31,7 +31,7 @@ returns-2 c =
     let k1 = k2 .before .before in
     let i = k1 .before .before .before .pre in
     second-reads (k1 .before .next-is .ensures) (k1 .if1 .left)
-    (first-reads (k2 .before .next-is2 .ensures) (k2 .if2 .taken) (skip-reads i (l .then-literal2 .ensures) (made-reads _ (c .then-literal3 .ensures))))
+    (first-reads (k2 .before .next-is2 .ensures) (k2 .if2 .taken) (preceded-reads i (l .then-literal2 .ensures) (fmap-reads _ (c .then-literal3 .ensures))))
 
 next-is-requires-3 : tie.Need-next-is-requires-3
 next-is-requires-3 c κs = search needs
@@ -51,7 +51,7 @@ returns-3 c =
     let i = k1 .before .before .before .pre in
     second-reads (k1 .before .next-is .ensures) (k1 .if1 .left)
     (second-reads (k2 .before .next-is2 .ensures) (k2 .if2 .left)
-    (first-reads (k3 .before .next-is3 .ensures) (k3 .if3 .taken) (skip-reads i (l .then-literal4 .ensures) (c .then-or-equal .ensures))))
+    (first-reads (k3 .before .next-is3 .ensures) (k3 .if3 .taken) (preceded-reads i (l .then-literal4 .ensures) (c .then-or-equal .ensures))))
 
 then-literal-requires-5 : tie.Need-then-literal-requires-5
 then-literal-requires-5 c κs = search needs
@@ -68,7 +68,7 @@ returns-4 c =
     let i = k1 .before .before .before .pre in
     second-reads (k1 .before .next-is .ensures) (k1 .if1 .left)
     (second-reads (k2 .before .next-is2 .ensures) (k2 .if2 .left)
-    (second-reads (k3 .before .next-is3 .ensures) (k3 .if3 .left) (skip-reads i (l .then-literal5 .ensures) (c .then-or-equal2 .ensures))))
+    (second-reads (k3 .before .next-is3 .ensures) (k3 .if3 .left) (preceded-reads i (l .then-literal5 .ensures) (c .then-or-equal2 .ensures))))
 
 pub then-comparison-spec : {M : Type 1} → statement M
 then-comparison-spec =

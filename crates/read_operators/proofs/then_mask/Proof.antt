@@ -1,5 +1,5 @@
 use native.Mathlib.Omega.{arith}
-use Rattle.scan_cursors.proofs.Readings.{skip-reads, before-reads, tell-reads}
+use Rattle.scan_cursors.proofs.Readings.{preceded-reads, terminated-reads, pure-reads}
 use Rattle.scan_cursors.proofs.Choices.{first-reads, second-reads}
 use borrow.Author.Needs.{needs}
 use Rattle.read_operators.proofs.then_mask.Statement.{statement}
@@ -29,13 +29,13 @@ returns c =
     let i = k .before .before .before .pre .0 in
     let and = l .then-literal .ensures in
     let gap = g .then-spaces .ensures .1 in
-    let number = before-reads (gap .inside) (n .then-numeral .ensures .0) (c .then-spaces2 .ensures .1) in
-    (first-reads (k .before .next-is .ensures) (k .if1 .taken) (skip-reads i and (skip-reads (and .inside) gap number)), n .then-numeral .ensures .1)
+    let number = terminated-reads (gap .inside) (n .then-numeral .ensures .0) (c .then-spaces2 .ensures .1) in
+    (first-reads (k .before .next-is .ensures) (k .if1 .taken) (preceded-reads i and (preceded-reads (and .inside) gap number)), n .then-numeral .ensures .1)
 
 returns-2 : tie.Need-returns-2
 returns-2 c =
     let i = c .before .before .before .pre .0 in
-    (second-reads (c .before .next-is .ensures) (c .if1 .left) (tell-reads _ _ _ i), omega arith)
+    (second-reads (c .before .next-is .ensures) (c .if1 .left) (pure-reads _ _ _ i), omega arith)
 
 pub then-mask-spec : {M : Type 1} → statement M
 then-mask-spec =

@@ -1,4 +1,4 @@
-use Rattle.scan_cursors.proofs.Readings.{made-reads, tell-reads}
+use Rattle.scan_cursors.proofs.Readings.{fmap-reads, pure-reads}
 use Rattle.scan_cursors.proofs.Choices.{first-reads, second-reads, row-reads}
 use borrow.Author.Needs.{needs}
 use Rattle.read_operators.proofs.then_size_order.Statement.{statement}
@@ -14,7 +14,7 @@ returns : tie.Need-returns
 returns c =
     let k1 = c .before in
     let i = k1 .before .before .before .pre in
-    row-reads i (row-reads i (first-reads (k1 .before .next-is .ensures) (k1 .if1 .taken) (made-reads _ (c .then-literal .ensures))))
+    row-reads i (row-reads i (first-reads (k1 .before .next-is .ensures) (k1 .if1 .taken) (fmap-reads _ (c .then-literal .ensures))))
 
 next-is-requires-2 : tie.Need-next-is-requires-2
 next-is-requires-2 c κs = search needs
@@ -29,7 +29,7 @@ returns-2 c =
     let i = k1 .before .before .before .pre in
     row-reads i (row-reads i
     (second-reads (k1 .before .next-is .ensures) (k1 .if1 .left)
-    (first-reads (k2 .before .next-is2 .ensures) (k2 .if2 .taken) (made-reads _ (c .then-literal2 .ensures)))))
+    (first-reads (k2 .before .next-is2 .ensures) (k2 .if2 .taken) (fmap-reads _ (c .then-literal2 .ensures)))))
 
 next-is-requires-3 : tie.Need-next-is-requires-3
 next-is-requires-3 c κs = search needs
@@ -46,7 +46,7 @@ returns-3 c =
     row-reads i (row-reads i
     (second-reads (k1 .before .next-is .ensures) (k1 .if1 .left)
     (second-reads (k2 .before .next-is2 .ensures) (k2 .if2 .left)
-    (first-reads (k3 .before .next-is3 .ensures) (k3 .if3 .taken) (made-reads _ (c .then-literal3 .ensures))))))
+    (first-reads (k3 .before .next-is3 .ensures) (k3 .if3 .taken) (fmap-reads _ (c .then-literal3 .ensures))))))
 
 returns-4 : tie.Need-returns-4
 returns-4 c =
@@ -57,7 +57,7 @@ returns-4 c =
     row-reads i (row-reads i
     (second-reads (k1 .before .next-is .ensures) (k1 .if1 .left)
     (second-reads (k2 .before .next-is2 .ensures) (k2 .if2 .left)
-    (second-reads (k3 .before .next-is3 .ensures) (k3 .if3 .left) (tell-reads _ _ _ i)))))
+    (second-reads (k3 .before .next-is3 .ensures) (k3 .if3 .left) (pure-reads _ _ _ i)))))
 
 pub then-size-order-spec : {M : Type 1} → statement M
 then-size-order-spec =

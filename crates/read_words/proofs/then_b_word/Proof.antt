@@ -1,5 +1,5 @@
 use Rattle.forms.specs.Bytes.{text}
-use Rattle.scan_cursors.proofs.Readings.{skip-reads}
+use Rattle.scan_cursors.proofs.Readings.{preceded-reads}
 use Rattle.scan_steps.proofs.EitherWord.{either-first, either-second}
 use borrow.Author.Needs.{needs}
 use Rattle.read_words.proofs.then_b_word.Statement.{statement}
@@ -25,7 +25,7 @@ returns c =
     let e = c .before in
     let w = e .before .before .before in
     let start = w .then-word .ensures in
-    skip-reads (w .before .before .before .pre) start
+    preceded-reads (w .before .before .before .pre) start
     (either-first (text "ody") (text "anner") _ _ (start .inside) (e .then-either-word .ensures) (c .if1 .taken))
 
 returns-2 : tie.Need-returns-2
@@ -33,7 +33,7 @@ returns-2 c =
     let e = c .before in
     let w = e .before .before .before in
     let start = w .then-word .ensures in
-    skip-reads (w .before .before .before .pre) start
+    preceded-reads (w .before .before .before .pre) start
     (either-second (text "ody") (text "anner") _ _ (start .inside) (e .then-either-word .ensures) (c .if1 .left))
 
 pub then-b-word-spec : {M : Type 1} → statement M

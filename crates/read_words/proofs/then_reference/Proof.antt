@@ -1,6 +1,6 @@
 use Rattle.forms.specs.Bytes.{text}
 use Rattle.scan_cursors.proofs.Choices.{first-reads, second-reads}
-use Rattle.scan_pieces.proofs.Wording.{says-reads}
+use Rattle.scan_pieces.proofs.Wording.{keyword-reads}
 use Rattle.scan_steps.proofs.EitherWord.{either-first, either-second}
 use borrow.Author.Needs.{needs}
 use Rattle.read_words.proofs.then_reference.Statement.{statement}
@@ -18,7 +18,7 @@ then-word-requires c κs = search needs
 returns : tie.Need-returns
 returns c =
     let k = c .before .before in
-    first-reads (k .before .next-is-letter .ensures) (k .if1 .taken) (says-reads (text "match") _ (k .before .before .before .pre) (c .then-word .ensures))
+    first-reads (k .before .next-is-letter .ensures) (k .if1 .taken) (keyword-reads (text "match") _ (k .before .before .before .pre) (c .then-word .ensures))
 
 slice-aggregate-then-either-word : tie.Need-slice-aggregate-then-either-word
 slice-aggregate-then-either-word c = search needs

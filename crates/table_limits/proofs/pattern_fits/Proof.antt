@@ -4,7 +4,7 @@ use native.Mathlib.Omega.{arith}
 use borrow.Author.Tests.{lt-ltb, le-ltb}
 use borrow.Author.Needs.{needs}
 use Rattle.definitions.specs.WellFormed.{distanceFits, itemFits}
-use Rattle.table_limits.proofs.Typed.{reach-fits}
+use Rattle.table_limits.proofs.Typed.{within-fits}
 use Rattle.table_limits.proofs.pattern_fits.Statement.{statement}
 use Rattle.table_limits.proofs.pattern_fits.Tie as tie
 
@@ -19,7 +19,7 @@ returns-2 : tie.Need-returns-2
 unfolding itemFits
 returns-2 c =
     let p = c .before .before .before .args .p in
-    let reach = reach-fits (p .within) (c .before .before .struct-known .given .1 .1 .1 .1 .1 .0) in
+    let reach = within-fits (p .within) (c .before .before .struct-known .given .1 .1 .1 .1 .1 .0) in
     rw (lt-ltb 0 (p .len) (omega arith), reach, and-true (distanceFits (p .distance))) (c .distance-fits .ensures)
 
 pub pattern-fits-spec : {M : Type 1} → statement M

@@ -1,7 +1,7 @@
 -- The loop is line_stream's, the answer a text's.
 use Rattle.definitions.specs.Limits.{documentLimits}
 use Rattle.definitions.specs.Lines.{lineOf}
-use Rattle.line_stream.specs.Steps.{turnsLeft}
+use Rattle.line_stream.specs.Steps.{linesLeft}
 use Rattle.line_stream.proofs.Loop as loop
 use Rattle.text_lines.proofs.feed.Statement.{statement}
 use Rattle.text_lines.proofs.feed.Tie as tie
@@ -10,7 +10,7 @@ abbrev Inv-loop : tie.InvT-loop
 Inv-loop input line₀ out₀ t₀ line out t = loop.Loop (lineOf documentLimits) input line₀ out₀ t₀ line out t
 
 abbrev μ-loop : tie.MeasureT-loop
-μ-loop input line₀ out₀ t₀ line out t = turnsLeft input t
+μ-loop input line₀ out₀ t₀ line out t = linesLeft input t
 
 first-line-requires : tie.Need-first-line-requires Inv-loop μ-loop
 first-line-requires c κs = tt

@@ -13,8 +13,8 @@ enum-told c = search needs
 enum-known-d : tie.Need-enum-known-d
 enum-known-d c = search needs
 
-put-shift-requires : tie.Need-put-shift-requires
-put-shift-requires c κs = tt
+put-distance-value-requires : tie.Need-put-distance-value-requires
+put-distance-value-requires c κs = tt
 
 returns : tie.Need-returns
 unfolding optionsText
@@ -25,11 +25,12 @@ unfolding optionsText optionText
 returns-2 c =
     let c2 = c .before .before in
     let c5 = c2 .before .before .before in
-    told (ap (λ x. optionsText (distanceOption x)) (c5 .d .given .1) ∙ append-nil (modifierText (entry.Distance (c5 .d .given .0 .0)))) (c2 .put-shift .ensures)
+    told (ap (λ x. optionsText (distanceOption x)) (c5 .d .given .1) ∙ append-nil (modifierText (entry.Distance (c5 .d .given .0 .0))))
+    (c2 .put-distance-value .ensures)
 
 same-length : tie.Need-same-length
 same-length c = same (returns-2 c)
 
 pub put-distance-spec : {M : Type 1} → statement M
 put-distance-spec =
-    tie.close (tie.spec enum-told enum-known-d put-shift-requires returns same-length returns-2)
+    tie.close (tie.spec enum-told enum-known-d put-distance-value-requires returns same-length returns-2)

@@ -13,8 +13,8 @@ enum-told c = search needs
 enum-known-w : tie.Need-enum-known-w
 enum-known-w c = search needs
 
-put-reach-requires : tie.Need-put-reach-requires
-put-reach-requires c κs = tt
+put-within-value-requires : tie.Need-put-within-value-requires
+put-within-value-requires c κs = tt
 
 returns : tie.Need-returns
 unfolding optionsText
@@ -25,11 +25,12 @@ unfolding optionsText optionText
 returns-2 c =
     let c2 = c .before .before in
     let c5 = c2 .before .before .before in
-    told (ap (λ x. optionsText (withinOption x)) (c5 .w .given .1) ∙ append-nil (modifierText (entry.Within (c5 .w .given .0 .0)))) (c2 .put-reach .ensures)
+    told (ap (λ x. optionsText (withinOption x)) (c5 .w .given .1) ∙ append-nil (modifierText (entry.Within (c5 .w .given .0 .0))))
+    (c2 .put-within-value .ensures)
 
 same-length : tie.Need-same-length
 same-length c = same (returns-2 c)
 
 pub put-within-spec : {M : Type 1} → statement M
 put-within-spec =
-    tie.close (tie.spec enum-told enum-known-w put-reach-requires returns same-length returns-2)
+    tie.close (tie.spec enum-told enum-known-w put-within-value-requires returns same-length returns-2)

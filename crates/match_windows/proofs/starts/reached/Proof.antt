@@ -1,6 +1,6 @@
 -- Each arm rewrites with the constructor matched; the start is what the range is counted from.
 use mathlib.Core.Path.{refl}
-use Rattle.match_windows.proofs.Bases.{base-small, reach-begins, begins-back}
+use Rattle.match_windows.proofs.Bases.{base-small, within-begins, begins-back}
 use native.Mathlib.Omega.{arith}
 use Rattle.match_windows.proofs.starts.reached.Statement.{statement}
 use Rattle.match_windows.proofs.starts.reached.Tie as tie
@@ -24,7 +24,7 @@ returns c = rw (c .enum-told .given .1) (record { is = refl; small = omega arith
 
 returns-2 : tie.Need-returns-2
 returns-2 c = begins-back (record { sfits = c .unshifted .ok })
-    (reach-begins (c .before .before .before .before .before .args .last) (c .before .before .before .before .before .args .within)
+    (within-begins (c .before .before .before .before .before .args .last) (c .before .before .before .before .before .args .within)
     (c .before .before .before .within .given .0 .0) (c .before .before .before .within .given .1) (c .before .before .before .before .before .pre)
     (c .before .base .result) (c .before .base .ensures) (c .unshifted .result) (c .unshifted .ensures))
 

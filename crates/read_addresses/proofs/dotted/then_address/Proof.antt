@@ -1,5 +1,5 @@
 use Rattle.definitions.specs.Forms.{addressOf}
-use Rattle.scan_cursors.proofs.Readings.{made-reads, pair-reads}
+use Rattle.scan_cursors.proofs.Readings.{fmap-reads, pair-reads}
 use borrow.Author.Needs.{needs}
 use Rattle.read_addresses.proofs.dotted.then_address.Statement.{statement}
 use Rattle.read_addresses.proofs.dotted.then_address.Tie as tie
@@ -34,7 +34,7 @@ returns c =
     let n3 = d3 .then-dotted3 .ensures in
     let n4 = pair-reads (n3 .inside) (b .then-byte .ensures) (p .then-prefix .ensures) in
     let all = pair-reads (d1 .before .before .pre) n1 (pair-reads (n1 .inside) n2 (pair-reads (n2 .inside) n3 n4)) in
-    rw (c .number-of .ensures) (made-reads addressOf all)
+    rw (c .number-of .ensures) (fmap-reads addressOf all)
 
 pub then-address-spec : {M : Type 1} → statement M
 then-address-spec =

@@ -1,4 +1,4 @@
-use Rattle.scan_cursors.proofs.Readings.{skip-reads, tell-reads}
+use Rattle.scan_cursors.proofs.Readings.{preceded-reads, pure-reads}
 use Rattle.scan_cursors.proofs.Choices.{first-reads, second-reads}
 use borrow.Author.Needs.{needs}
 use Rattle.read_addresses.proofs.dotted.then_prefix.Statement.{statement}
@@ -20,11 +20,11 @@ returns : tie.Need-returns
 returns c =
     let l = c .before in
     let k = l .before in
-    let number = skip-reads (k .before .before .before .pre) (l .then-literal .ensures) (c .then-byte .ensures) in
+    let number = preceded-reads (k .before .before .before .pre) (l .then-literal .ensures) (c .then-byte .ensures) in
     first-reads (k .before .next-is .ensures) (k .if1 .taken) number
 
 returns-2 : tie.Need-returns-2
-returns-2 c = second-reads (c .before .next-is .ensures) (c .if1 .left) (tell-reads _ _ _ (c .before .before .before .pre))
+returns-2 c = second-reads (c .before .next-is .ensures) (c .if1 .left) (pure-reads _ _ _ (c .before .before .before .pre))
 
 pub then-prefix-spec : {M : Type 1} → statement M
 then-prefix-spec =

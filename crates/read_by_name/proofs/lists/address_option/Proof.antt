@@ -2,7 +2,7 @@
 use mathlib.Core.Path.{refl}
 use mathlib.Core.List.{[]}
 use Rattle.read_value.specs.Values.{patternBytesOf, optionValueOf}
-use Rattle.scan_cursors.proofs.Readings.{made-reads, pair-reads}
+use Rattle.scan_cursors.proofs.Readings.{fmap-reads, pair-reads}
 use Rattle.read_options.proofs.Closing.{valued-reads}
 use Rattle.read_quoted.proofs.Appended.{appended-none}
 use Rattle.read_by_name.proofs.EndPlaces.{grown-none}
@@ -31,7 +31,7 @@ returns c =
     let g = m .before in
     let h = g .before .before .pre in
     let q = l .then-addresses .ensures in
-    let v = made-reads _ (pair-reads (g .gap-at .ensures .1 .inside) (m .then-optional-literal .ensures) (q .1 .read)) in
+    let v = fmap-reads _ (pair-reads (g .gap-at .ensures .1 .inside) (m .then-optional-literal .ensures) (q .1 .read)) in
     let r = valued-reads h (g .gap-at .ensures) v (k .then-closing .ensures) in
     λ bytes.
     record {

@@ -6,8 +6,8 @@ use Rattle.read_value.specs.declared.Value.the-variants.{Name}
 use Rattle.definitions.specs.Forms.{nameForm}
 use Rattle.scan_cursors.specs.declared.Cursor.the-variants.{Parsed}
 use Rattle.scan_cursors.specs.Reads.{Reads}
-use Rattle.scan_cursors.proofs.Readings.{made-reads}
-use Rattle.scan_cursors.proofs.Onward.{came-going}
+use Rattle.scan_cursors.proofs.Readings.{fmap-reads}
+use Rattle.scan_cursors.proofs.Onward.{came-parsed}
 use Rattle.read_options.proofs.Closing.{valued-reads}
 use Rattle.read_quoted.proofs.Appended.{appended-none}
 use Rattle.read_by_name.proofs.EndPlaces.{grown-none}
@@ -36,7 +36,7 @@ returns c =
     let v = optionValueOf (f .args .s .now) (Name (n .then-name .result .from) (n .then-name .result .len)) [] [] in
     let q = n .then-name .ensures in
     let r : Reads nameForm (f .args .s .now) (Parsed (f .args .at)) v (c .then-closing .result) =
-    valued-reads (f .pre) (g .gap-at .ensures) (made-reads _ (q .read)) (c .then-closing .ensures) in
+    valued-reads (f .pre) (g .gap-at .ensures) (fmap-reads _ (q .read)) (c .then-closing .ensures) in
     λ bytes.
     record {
       al = [];
@@ -44,7 +44,7 @@ returns c =
       reads = r;
       kept = g .before .no-addresses .ensures;
       stored = appended-none (patternBytesOf bytes _);
-      apart = λ k e. let m = came-going (c .then-closing .ensures .1) e in (q .low (m .0) (m .1), q .high (m .0) (m .1), q .inside, refl, refl);
+      apart = λ k e. let m = came-parsed (c .then-closing .ensures .1) e in (q .low (m .0) (m .1), q .high (m .0) (m .1), q .inside, refl, refl);
       grown = λ k e. grown-none refl (f .pre) r k e;
     }
 

@@ -2,7 +2,7 @@
 use mathlib.Core.Path.{refl}
 use mathlib.Core.List.{[]}
 use Rattle.read_value.specs.Values.{optionValueOf}
-use Rattle.scan_cursors.proofs.Readings.{made-reads, pair-reads}
+use Rattle.scan_cursors.proofs.Readings.{fmap-reads, pair-reads}
 use Rattle.read_options.proofs.Closing.{valued-reads}
 use Rattle.read_quoted.proofs.Appended.{ready-on, stored-after, stored-before}
 use borrow.Author.Needs.{needs}
@@ -44,7 +44,7 @@ returns c =
     let mark = m .then-optional-literal .ensures in
     let end = c .then-closing .ensures in
     let all = stored-after refl h (gap .1) (stored-after refl (gap .1 .inside) mark (stored-before refl (mark .inside) (q .1 .stored) (end .1))) in
-    let v = made-reads _ (pair-reads (gap .1 .inside) mark (q .1 .stored .read)) in
+    let v = fmap-reads _ (pair-reads (gap .1 .inside) mark (q .1 .stored .read)) in
     record {
       al = [];
       b = q .0;

@@ -1,6 +1,6 @@
 use Rattle.forms.specs.Bytes.{text}
 use mathlib.Core.Bool.{true}
-use Rattle.scan_pieces.proofs.Wording.{says-reads}
+use Rattle.scan_pieces.proofs.Wording.{keyword-reads}
 use Rattle.read_options.proofs.Closing.{comma-reads, no-comma}
 use borrow.Author.Needs.{needs}
 use Rattle.read_options.proofs.commas.then_reverse.Statement.{statement}
@@ -23,7 +23,7 @@ returns c =
     let l = c .before .before in
     let k = l .before in
     let comma = l .then-literal .ensures in
-    let word = says-reads (text "reverse") true (comma .inside) (c .then-word .ensures) in
+    let word = keyword-reads (text "reverse") true (comma .inside) (c .then-word .ensures) in
     comma-reads _ (k .before .before .before .pre) (k .before .next-is .ensures) (k .if1 .taken) comma word
 
 returns-2 : tie.Need-returns-2

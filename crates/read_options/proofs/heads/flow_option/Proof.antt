@@ -1,5 +1,5 @@
 use Rattle.read_value.specs.Values.{optionValueOf}
-use Rattle.scan_cursors.proofs.Readings.{made-reads}
+use Rattle.scan_cursors.proofs.Readings.{fmap-reads}
 use Rattle.read_options.proofs.Closing.{valued-reads}
 use borrow.Author.Needs.{needs}
 use Rattle.read_options.proofs.heads.flow_option.Statement.{statement}
@@ -19,7 +19,7 @@ unfolding optionValueOf
 returns c =
     let f = c .before in
     let g = f .before in
-    (valued-reads (g .before .before .pre) (g .gap-at .ensures) (made-reads _ (f .then-flow .ensures)) (c .then-closing .ensures), tt)
+    (valued-reads (g .before .before .pre) (g .gap-at .ensures) (fmap-reads _ (f .then-flow .ensures)) (c .then-closing .ensures), tt)
 
 pub flow-option-spec : {M : Type 1} → statement M
 flow-option-spec =

@@ -1,6 +1,6 @@
 use Rattle.read_options.proofs.Negation.{signed-kept}
 use Rattle.read_value.specs.Values.{optionValueOf}
-use Rattle.scan_cursors.proofs.Readings.{made-reads, pair-reads}
+use Rattle.scan_cursors.proofs.Readings.{fmap-reads, pair-reads}
 use Rattle.read_options.proofs.Closing.{valued-reads}
 use borrow.Author.Needs.{needs}
 use Rattle.read_options.proofs.modifiers.distance_option.Statement.{statement}
@@ -34,7 +34,7 @@ returns c =
     let g = m .before in
     let minus = m .then-optional-literal .ensures in
     let number = n .then-number .ensures .0 in
-    let value = made-reads _ (pair-reads (g .gap-at .ensures .1 .inside) minus (pair-reads (minus .inside) number (r .then-directed .ensures))) in (
+    let value = fmap-reads _ (pair-reads (g .gap-at .ensures .1 .inside) minus (pair-reads (minus .inside) number (r .then-directed .ensures))) in (
       rw (c .signed-of .ensures, signed-kept (n .then-number .result .value) (n .then-number .ensures .1) (m .then-optional-literal .result .yes))
           (valued-reads (g .before .before .pre) (g .gap-at .ensures) value (k .then-closing .ensures)),
       tt,

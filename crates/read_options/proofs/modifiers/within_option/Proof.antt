@@ -1,5 +1,5 @@
 use Rattle.read_value.specs.Values.{optionValueOf}
-use Rattle.scan_cursors.proofs.Readings.{made-reads, pair-reads}
+use Rattle.scan_cursors.proofs.Readings.{fmap-reads, pair-reads}
 use Rattle.read_options.proofs.Closing.{valued-reads}
 use borrow.Author.Needs.{needs}
 use Rattle.read_options.proofs.modifiers.within_option.Statement.{statement}
@@ -28,7 +28,7 @@ returns c =
     let n = r .before in
     let g = n .before in
     let number = n .then-number .ensures .0 in
-    let value = made-reads _ (pair-reads (g .gap-at .ensures .1 .inside) number (r .then-comma-reference .ensures)) in
+    let value = fmap-reads _ (pair-reads (g .gap-at .ensures .1 .inside) number (r .then-comma-reference .ensures)) in
     (valued-reads (g .before .before .pre) (g .gap-at .ensures) value (k .then-closing .ensures), tt)
 
 pub within-option-spec : {M : Type 1} → statement M

@@ -1,5 +1,5 @@
 use Rattle.read_value.specs.Values.{optionValueOf}
-use Rattle.scan_cursors.proofs.Readings.{made-reads, pair-reads, before-reads}
+use Rattle.scan_cursors.proofs.Readings.{fmap-reads, pair-reads, terminated-reads}
 use Rattle.read_options.proofs.Closing.{valued-reads}
 use borrow.Author.Needs.{needs}
 use Rattle.read_options.proofs.tests.field_option.Statement.{statement}
@@ -39,8 +39,8 @@ returns c =
     let m = o .before in
     let g = m .before in
     let mask = m .then-mask .ensures .0 in
-    let operator = before-reads (mask .inside) (o .then-comparison .ensures) (e .then-spaces .ensures .1) in
-    let value = made-reads _ (pair-reads (g .gap-at .ensures .1 .inside) mask (pair-reads (mask .inside) operator (n .then-numeral .ensures .0))) in
+    let operator = terminated-reads (mask .inside) (o .then-comparison .ensures) (e .then-spaces .ensures .1) in
+    let value = fmap-reads _ (pair-reads (g .gap-at .ensures .1 .inside) mask (pair-reads (mask .inside) operator (n .then-numeral .ensures .0))) in
     (valued-reads (g .before .before .pre .0) (g .gap-at .ensures) value (k .then-closing .ensures), tt)
 
 pub field-option-spec : {M : Type 1} → statement M

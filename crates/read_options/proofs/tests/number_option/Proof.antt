@@ -1,5 +1,5 @@
 use Rattle.read_value.specs.Values.{optionValueOf}
-use Rattle.scan_cursors.proofs.Readings.{made-reads}
+use Rattle.scan_cursors.proofs.Readings.{fmap-reads}
 use Rattle.read_options.proofs.Closing.{valued-reads}
 use borrow.Author.Needs.{needs}
 use Rattle.read_options.proofs.tests.number_option.Statement.{statement}
@@ -23,7 +23,7 @@ returns c =
     let k = c .before in
     let n = k .before in
     let g = n .before in
-    (valued-reads (g .before .before .pre .0) (g .gap-at .ensures) (made-reads _ (n .then-number .ensures .0)) (k .then-closing .ensures), tt)
+    (valued-reads (g .before .before .pre .0) (g .gap-at .ensures) (fmap-reads _ (n .then-number .ensures .0)) (k .then-closing .ensures), tt)
 
 pub number-option-spec : {M : Type 1} → statement M
 number-option-spec =

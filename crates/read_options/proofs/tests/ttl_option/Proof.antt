@@ -1,5 +1,5 @@
 use Rattle.read_value.specs.Values.{optionValueOf}
-use Rattle.scan_cursors.proofs.Readings.{made-reads, pair-reads}
+use Rattle.scan_cursors.proofs.Readings.{fmap-reads, pair-reads}
 use Rattle.read_options.proofs.Closing.{valued-reads}
 use borrow.Author.Needs.{needs}
 use Rattle.read_options.proofs.tests.ttl_option.Statement.{statement}
@@ -27,7 +27,7 @@ returns c =
     let n = k .before in
     let o = n .before in
     let g = o .before in
-    let value = made-reads _ (pair-reads (g .gap-at .ensures .1 .inside) (o .then-order .ensures) (n .then-number .ensures .0)) in
+    let value = fmap-reads _ (pair-reads (g .gap-at .ensures .1 .inside) (o .then-order .ensures) (n .then-number .ensures .0)) in
     (valued-reads (g .before .before .pre) (g .gap-at .ensures) value (k .then-closing .ensures), tt)
 
 pub ttl-option-spec : {M : Type 1} → statement M

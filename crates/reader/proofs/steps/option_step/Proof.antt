@@ -13,7 +13,7 @@ use Rattle.read_insert.proofs.OneMore.{bytes-full}
 use Rattle.reader.specs.declared.steps.Step.{Step}
 use Rattle.reader.specs.Stepping.{StepsTo}
 use Rattle.reader.proofs.Listed.{option-at, name-inside}
-use Rattle.reader.proofs.OptionSteps.{taken-unlisted, taken-refused, ended-going, read-after, stepped, going-inside}
+use Rattle.reader.proofs.OptionSteps.{taken-unlisted, taken-refused, ended-parsed, read-after, stepped, parsed-inside}
 use borrow.Author.Needs.{needs}
 use Rattle.reader.proofs.steps.option_step.Statement.{statement}
 use Rattle.reader.proofs.steps.option_step.Tie as tie
@@ -69,9 +69,9 @@ insert-requires c κs =
     let start = named .before .before .before in
     let pre = start .pre in
     let read = parsed .option-by-name in
-    let q = ended-going (read .result .cursor) (sym (ended .ended-by .ensures) ∙ c .before .before .ended .given .1) in
+    let q = ended-parsed (read .result .cursor) (sym (ended .ended-by .ensures) ∙ c .before .before .ended .given .1) in
     let g = name-inside _ _ (pre .inside) (named .name-end .ensures) in
-    let z = going-inside (start .args .s .now) (read .result .cursor) _ (read .ensures .reads .inside) q in
+    let z = parsed-inside (start .args .s .now) (read .result .cursor) _ (read .ensures .reads .inside) q in
     let u = pre .after in
     read-after (pre .located) (read .result) (read .ensures) (pre .holds) (pre .latest) _ q (omega (arith, u, g .0)) z (pre .short)
 
@@ -97,11 +97,11 @@ returns-2 c =
     let pre = start .pre in
     let read = parsed .option-by-name in
     let P = read .ensures in
-    let q = ended-going (read .result .cursor) (sym (ended .ended-by .ensures) ∙ c .before .before .before .before .before .before .ended .given .1) in
+    let q = ended-parsed (read .result .cursor) (sym (ended .ended-by .ensures) ∙ c .before .before .before .before .before .before .ended .given .1) in
     let inserted = c .before .before .before .insert in
     let ended = named .name-end .ensures in
     let g = name-inside _ _ (pre .inside) ended in
-    let z = going-inside (x .s .now) (read .result .cursor) _ (P .reads .inside) q in
+    let z = parsed-inside (x .s .now) (read .result .cursor) _ (P .reads .inside) q in
     let u = pre .after in
     let w = P .grown _ q in
     let k = read-after located (read .result) P held latest _ q (omega (arith, u, g .0)) z (pre .short) in
