@@ -1,16 +1,16 @@
 // The option that a name stands for, read after that name.
-ghost use Prim.Native.Nat.{_≤_};
+ghost use Prim.Native.Nat.{ℕ, _≤_};
+ghost use mathlib.Core.List.{List};
 ghost use mathlib.Core.Path.{_≡_};
 ghost use lib.ListN.{length};
 ghost use Rattle.definitions.specs.Limits.{documentLimits};
 ghost use Rattle.read_value.specs.Values.{patternBytesOf};
 ghost use Rattle.read_names.specs.Names.{formOf};
-ghost use Rattle.read_by_name.specs.Parsing.{Parses};
+ghost use Rattle.read_by_name.specs.Parsing.{Single, ReadsAlone, Parses};
 use crate::lists::address_option;
 use crate::lists::name_option;
 use crate::lists::pattern_option;
 use crate::parsed::ParsedOption;
-use crate::parsed::plain;
 use definitions::limits::MAX_BYTE;
 use definitions::limits::MAX_WORD;
 use definitions::table::HeaderField;
@@ -29,6 +29,52 @@ use read_options::tests::number_option;
 use read_options::tests::same_ip_option;
 use read_options::tests::size_option;
 use read_options::tests::ttl_option;
+use read_options::valued::Valued;
+use read_value::no_addresses;
+
+// The value of an option with nothing beside it, read after its name. Left to the last arm is only within.
+fn value_by_name(s: &[u8], at: usize, o: OptionName) -> Valued
+    requires { ⌜ (at ≤ length (now s)) × Single o ⌝ }
+    ensures { λ r. ⌜ ReadsAlone (formOf o) (now (s .entry)) at r ⌝ }
+{
+    match o {
+        OptionName::Protocol => protocol_option(s, at),
+        OptionName::Flow => flow_option(s, at),
+        OptionName::SameIp => same_ip_option(s, at),
+        OptionName::IpId => number_option(s, at, NumberField::IpId, MAX_WORD),
+        OptionName::SourcePort => number_option(s, at, NumberField::SourcePort, MAX_WORD),
+        OptionName::DestinationPort => number_option(s, at, NumberField::DestinationPort, MAX_WORD),
+        OptionName::IpTos => number_option(s, at, NumberField::Tos, MAX_BYTE),
+        OptionName::IpTtl => ttl_option(s, at),
+        OptionName::HeaderTotalLength => field_option(s, at, HeaderField::TotalLength, MAX_WORD),
+        OptionName::HeaderId => field_option(s, at, HeaderField::Id, MAX_WORD),
+        OptionName::HeaderChecksum => field_option(s, at, HeaderField::Checksum, MAX_WORD),
+        OptionName::HeaderTtl => field_option(s, at, HeaderField::Ttl, MAX_BYTE),
+        OptionName::DataSize => size_option(s, at),
+        OptionName::DataAt => at_option(s, at),
+        OptionName::Context => context_option(s, at),
+        OptionName::NoCase => no_case_option(s, at),
+        OptionName::Distance => distance_option(s, at),
+        _ => within_option(s, at),
+    }
+}
+
+// An option with nothing beside its value, read after its name.
+fn plain_by_name(s: &[u8], at: usize, o: OptionName, used: usize) -> ParsedOption
+    requires { ⌜ (at ≤ length (now s)) × Single o ⌝ }
+    ensures { λ r. ⌜ ((bytes : List ℕ) → Parses (formOf o) (now (s .entry)) at (patternBytesOf bytes used) (patternBytesOf bytes (r .used)) r) ⌝ }
+{
+    let v = value_by_name(s, at, o);
+    let value = v.value;
+    let cursor = v.cursor;
+    let list = no_addresses();
+    ParsedOption {
+        value,
+        list,
+        used,
+        cursor,
+    }
+}
 
 // An option read after its name, by the option's form.
 pub fn option_by_name(
@@ -43,38 +89,9 @@ pub fn option_by_name(
 {
     match o {
         OptionName::Name => name_option(s, at, used),
-        OptionName::Protocol => plain(protocol_option(s, at), used),
-        OptionName::Flow => plain(flow_option(s, at), used),
         OptionName::SourceAddress => address_option(s, at, Side::Source, used),
         OptionName::DestinationAddress => address_option(s, at, Side::Destination, used),
-        OptionName::SameIp => plain(same_ip_option(s, at), used),
-        OptionName::IpId => plain(number_option(s, at, NumberField::IpId, MAX_WORD), used),
-        OptionName::SourcePort => plain(
-            number_option(s, at, NumberField::SourcePort, MAX_WORD),
-            used,
-        ),
-        OptionName::DestinationPort => plain(
-            number_option(s, at, NumberField::DestinationPort, MAX_WORD),
-            used,
-        ),
-        OptionName::IpTos => plain(number_option(s, at, NumberField::Tos, MAX_BYTE), used),
-        OptionName::IpTtl => plain(ttl_option(s, at), used),
-        OptionName::HeaderTotalLength => plain(
-            field_option(s, at, HeaderField::TotalLength, MAX_WORD),
-            used,
-        ),
-        OptionName::HeaderId => plain(field_option(s, at, HeaderField::Id, MAX_WORD), used),
-        OptionName::HeaderChecksum => plain(
-            field_option(s, at, HeaderField::Checksum, MAX_WORD),
-            used,
-        ),
-        OptionName::HeaderTtl => plain(field_option(s, at, HeaderField::Ttl, MAX_BYTE), used),
-        OptionName::DataSize => plain(size_option(s, at), used),
-        OptionName::DataAt => plain(at_option(s, at), used),
         OptionName::Pattern => pattern_option(s, at, bytes, used),
-        OptionName::Context => plain(context_option(s, at), used),
-        OptionName::NoCase => plain(no_case_option(s, at), used),
-        OptionName::Distance => plain(distance_option(s, at), used),
-        OptionName::Within => plain(within_option(s, at), used),
+        _ => plain_by_name(s, at, o, used),
     }
 }

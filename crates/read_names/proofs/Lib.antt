@@ -2,3 +2,4 @@
 pub mod SameWord
 pub mod NameBytes
 pub mod Rows
+pub mod Joined

@@ -1,7 +1,8 @@
 -- The options are the rows of the definitions' table, in order; so the option of the first row with a name reads as that row.
 use mathlib.Core.Path.{_≡_, refl, sym, ap, _∙_}
+use mathlib.Core.Bool.{true, false}
 use mathlib.Core.List.{List, [], _∷_, map, head-eq-of-cons-eq, tail-eq-of-cons-eq}
-use Prim.Native.Nat.{ℕ, zero, suc, _+_, _≤_, _<_}
+use Prim.Native.Nat.{ℕ, suc, _+_, _≤_, _<_}
 use native.Mathlib.Omega.{arith}
 use native.Mathlib.Numerals.{add-one}
 use lib.ListN.{length, getD, drop, drop-of-length-le}
@@ -14,7 +15,7 @@ use Rattle.definitions.specs.OptionValues.{OptionValue}
 use Rattle.definitions.specs.Options.{Option, optionTable, namedOption, listed}
 use Rattle.read_names.specs.declared.options.OptionName.{OptionName}
 use Rattle.read_names.specs.declared.options.Lookup.the-variants.{Found, Unlisted}
-use Rattle.read_names.specs.Names.{optionOrder, formOf, optionNames, optionCount, foundIf, optionNamed, parsedAs}
+use Rattle.read_names.specs.Names.{optionOrder, formOf, optionNames, optionCount, optionNamed, parsedAs}
 
 pub rows-in-order : map formOf optionOrder ≡ map (λ row. row .form) optionTable
 unfolding optionOrder formOf optionTable
@@ -39,17 +40,11 @@ module _ (os : List OptionName) (ws : List (List ℕ)) (n : List ℕ) (k : ℕ) 
   unfolding optionNamed
   row = rw (drop-cons os k d h, drop-cons ws k [] g)
 
-  pub row-found : {o : OptionName} → foundIf (sameWord n (getD ws k [])) (getD os k d) ≡ Found o → Found o ≡ optionNamed os ws n
-  row-found {o} e =
-      by-cases (sameWord n (getD ws k []))
-      (λ t. let f : Found (getD os k d) ≡ Found o = rw t at e in sym f ∙ sym (u ∙ row ∙ rw t))
-      (λ t. let f : Unlisted ≡ Found o = rw t at e in absurd (let z : _≡_ {A = ℕ} 0 1 = cc in omega arith))
+  pub row-found : sameWord n (getD ws k []) ≡ true → Found (getD os k d) ≡ optionNamed os ws n
+  row-found t = sym (u ∙ row ∙ rw t)
 
-  pub row-passed : foundIf (sameWord n (getD ws k [])) (getD os k d) ≡ Unlisted → Left os ws n (k + 1)
-  row-passed e =
-      by-cases (sameWord n (getD ws k []))
-      (λ t. let f : Found (getD os k d) ≡ Unlisted = rw t at e in absurd (let z : _≡_ {A = ℕ} 0 1 = cc in omega arith))
-      (λ t. rw add-one (u ∙ row ∙ rw t))
+  pub row-passed : sameWord n (getD ws k []) ≡ false → Left os ws n (k + 1)
+  row-passed t = rw add-one (u ∙ row ∙ rw t)
 
 pub rows-out : (os : List OptionName) (ws : List (List ℕ)) (n : List ℕ) (k : ℕ) → length os ≤ k → Left os ws n k → Unlisted ≡ optionNamed os ws n
 unfolding optionNamed
@@ -71,14 +66,3 @@ parsed-by (o ∷ os) (r ∷ rows) e n s at =
 pub parsed-named : (n s : List ℕ) (at : ℕ) → namedOption optionTable n s at ≡ parsedAs (optionNamed optionOrder optionNames n) s at
 unfolding optionNames
 parsed-named n s at = parsed-by optionOrder optionTable rows-in-order n s at
-
--- ---- the last row
-
--- none of the numbers below j
-abbrev pub NoneBelow : ℕ → ℕ → Type 0
-NoneBelow k zero = Unit {0}
-NoneBelow k (suc j) = NoneBelow k j × (k ≡ j → ⊥)
-
-pub none-below : (j k : ℕ) → NoneBelow k j → j ≤ k
-none-below zero k h = omega arith
-none-below (suc j) k h = let g = none-below j k (h .0) in let n = h .1 in omega (arith, g, n)

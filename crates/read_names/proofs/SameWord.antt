@@ -1,12 +1,12 @@
--- Comparing a part of a text with a word, letter by letter.
+-- Comparing bytes with a word, letter by letter.
 use mathlib.Core.Path.{_≡_, refl, ap, _∙_}
 use mathlib.Core.Bool.{true, false, _&&_}
 use mathlib.Core.List.{List, [], _∷_}
-use Prim.Native.Nat.{ℕ, suc, _+_, _-_, _≤_, _<_}
+use Prim.Native.Nat.{ℕ, suc, _+_, _≤_, _<_}
 use native.Mathlib.Omega.{arith}
 use native.Mathlib.Numerals.{add-one}
-use lib.ListN.{length, getD, take, drop, length-take, length-drop, drop-of-length-le}
-use lib.Seq.{drop-cons, getD-take, getD-drop}
+use lib.ListN.{length, getD, drop, drop-of-length-le}
+use lib.Seq.{drop-cons}
 use lib.Dec.{eqb}
 use borrow.Author.Tests.{eq-eqb, ne-eqb}
 use Rattle.forms.specs.Bytes.{lower, sameWord}
@@ -38,12 +38,3 @@ module _ (x w : List ℕ) (i : ℕ) (same : length x ≡ length w) (h : i < leng
 pub letters-out : (x w : List ℕ) (i : ℕ) → length x ≡ length w → length w ≤ i → Still x w i → sameWord x w ≡ true
 unfolding sameWord
 letters-out x w i same h u = u ∙ rw (drop-of-length-le x {i = i} (omega arith), drop-of-length-le w {i = i} h)
-
--- ---- a part of a text
-
-module _ (s : List ℕ) (from to : ℕ) (h : from ≤ to) (g : to ≤ length s) where
-  pub part-length : length (take (to - from) (drop from s)) ≡ to - from
-  part-length = simp (length-take, length-drop) (omega arith)
-
-  pub part-at : (i : ℕ) → i < to - from → getD (take (to - from) (drop from s)) i 0 ≡ getD s (from + i) 0
-  part-at i k = getD-take (to - from) (drop from s) i 0 k ∙ getD-drop from s i 0

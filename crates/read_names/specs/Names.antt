@@ -1,6 +1,5 @@
 -- The options of the table by name: their order and forms are those of its rows (`rows-in-order`).
 use Prim.Native.Nat.{ℕ}
-use mathlib.Core.Bool.{Bool}
 use mathlib.Core.List.{List, [], _∷_, map}
 use Rattle.forms.specs.Bytes.{if_then_else_, sameWord}
 use Rattle.forms.specs.Form.{Form}
@@ -75,9 +74,6 @@ optionNames = map (λ row. row .name) optionTable
 
 abbrev pub optionCount : ℕ
 optionCount = 22
-
-abbrev pub foundIf : Bool → OptionName → Lookup
-foundIf same o = if same then Found o else Unlisted
 
 -- the option of the first row whose name is n, its letter case ignored
 unfoldable pub optionNamed : List OptionName → List (List ℕ) → List ℕ → Lookup

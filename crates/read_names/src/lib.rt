@@ -5,7 +5,7 @@ ghost use mathlib.Core.List.{[]};
 ghost use lib.ListN.{length, getD, take, drop};
 ghost use Rattle.forms.specs.Bytes.{sameWord, run};
 ghost use Rattle.definitions.specs.Options.{inName};
-ghost use Rattle.read_names.specs.Names.{optionCount, optionNames, optionOrder, foundIf, optionNamed};
+ghost use Rattle.read_names.specs.Names.{optionCount, optionNames, optionOrder, optionNamed};
 use crate::options::Lookup;
 use crate::options::OptionName;
 use definitions::limits::OPTIONS;
@@ -15,6 +15,59 @@ use scan_case::lower_of;
 
 pub mod options;
 
+// Where each row's name starts among the names of `row_named`, and at last where they end.
+const STARTS: [usize; OPTIONS + 1] = [
+    0,
+    4,
+    12,
+    16,
+    24,
+    32,
+    39,
+    44,
+    52,
+    60,
+    66,
+    72,
+    87,
+    92,
+    103,
+    109,
+    118,
+    125,
+    132,
+    139,
+    146,
+    154,
+    160,
+];
+
+// The options of the table, row by row: only here does a number stand for an option.
+const ROWS: [OptionName; OPTIONS] = [
+    OptionName::Name,
+    OptionName::Protocol,
+    OptionName::Flow,
+    OptionName::SourceAddress,
+    OptionName::DestinationAddress,
+    OptionName::SameIp,
+    OptionName::IpId,
+    OptionName::SourcePort,
+    OptionName::DestinationPort,
+    OptionName::IpTos,
+    OptionName::IpTtl,
+    OptionName::HeaderTotalLength,
+    OptionName::HeaderId,
+    OptionName::HeaderChecksum,
+    OptionName::HeaderTtl,
+    OptionName::DataSize,
+    OptionName::DataAt,
+    OptionName::Pattern,
+    OptionName::Context,
+    OptionName::NoCase,
+    OptionName::Distance,
+    OptionName::Within,
+];
+
 // The place after the longest run of a name's bytes.
 pub fn name_end(s: &[u8], at: usize) -> usize
     requires { ⌜ at ≤ length (now s) ⌝ }
@@ -23,19 +76,16 @@ pub fn name_end(s: &[u8], at: usize) -> usize
     run_of(s, at, Class::NameByte)
 }
 
-// Whether the bytes between two places are the word, their letter case ignored.
-fn same_word(s: &[u8], from: usize, to: usize, w: &[u8]) -> bool
-    requires { ⌜ (from ≤ to) × (to ≤ length (now s)) ⌝ }
-    ensures { λ r. ⌜ r ≡ sameWord (take (to - from) (drop from (now (s .entry)))) (now (w .entry)) ⌝ }
+// Whether the bytes are the word, their letter case ignored.
+fn same_word(x: &[u8], w: &[u8]) -> bool
+    ensures { λ r. ⌜ r ≡ sameWord (now (x .entry)) (now (w .entry)) ⌝ }
 {
-    if to - from != w.len() {
+    if x.len() != w.len() {
         return false;
     }
     let mut i = 0;
     while i < w.len() {
-        let b = s[from + i];
-        let l = lower_of(b);
-        if l != w[i] {
+        if lower_of(x[i]) != w[i] {
             return false;
         }
         i += 1;
@@ -43,52 +93,25 @@ fn same_word(s: &[u8], from: usize, to: usize, w: &[u8]) -> bool
     true
 }
 
-// The option, if the bytes between two places are the word.
-fn found_if(s: &[u8], from: usize, to: usize, w: &[u8], o: OptionName) -> Lookup
-    requires { ⌜ (from ≤ to) × (to ≤ length (now s)) ⌝ }
-    ensures { λ r. ⌜ r ≡ foundIf (sameWord (take (to - from) (drop from (now (s .entry)))) (now (w .entry))) o ⌝ }
+// The option at row k of the table.
+fn row_option(k: usize) -> OptionName
+    requires { ⌜ k < optionCount ⌝ }
+    ensures { λ r. ⌜ r ≡ getD optionOrder k OptionName.Name ⌝ }
 {
-    if same_word(s, from, to, w) {
-        return Lookup::Found(o);
-    }
-    Lookup::Unlisted
+    ROWS[k]
 }
 
-// The option at row k of the table, if the bytes between two places are its name. Only here does a number stand for an option.
-fn row_named(s: &[u8], from: usize, to: usize, k: usize) -> Lookup
-    requires { ⌜ (from ≤ to) × (to ≤ length (now s)) × (k < optionCount) ⌝ }
-    ensures { λ r. ⌜ r ≡ foundIf (sameWord (take (to - from) (drop from (now (s .entry)))) (getD optionNames k [])) (getD optionOrder k OptionName.Name) ⌝ }
+// Whether the bytes are the name of row k of the table; the names stand one after the other.
+fn row_named(x: &[u8], k: usize) -> bool
+    requires { ⌜ k < optionCount ⌝ }
+    ensures { λ r. ⌜ r ≡ sameWord (now (x .entry)) (getD optionNames k []) ⌝ }
 {
-    match k {
-        0 => found_if(s, from, to, b"name", OptionName::Name),
-        1 => found_if(s, from, to, b"protocol", OptionName::Protocol),
-        2 => found_if(s, from, to, b"flow", OptionName::Flow),
-        3 => found_if(s, from, to, b"src_addr", OptionName::SourceAddress),
-        4 => found_if(s, from, to, b"dst_addr", OptionName::DestinationAddress),
-        5 => found_if(s, from, to, b"same_ip", OptionName::SameIp),
-        6 => found_if(s, from, to, b"ip_id", OptionName::IpId),
-        7 => found_if(s, from, to, b"src_port", OptionName::SourcePort),
-        8 => found_if(s, from, to, b"dst_port", OptionName::DestinationPort),
-        9 => found_if(s, from, to, b"ip_tos", OptionName::IpTos),
-        10 => found_if(s, from, to, b"ip_ttl", OptionName::IpTtl),
-        11 => found_if(
-            s,
-            from,
-            to,
-            b"ip.total_length",
-            OptionName::HeaderTotalLength,
-        ),
-        12 => found_if(s, from, to, b"ip.id", OptionName::HeaderId),
-        13 => found_if(s, from, to, b"ip.checksum", OptionName::HeaderChecksum),
-        14 => found_if(s, from, to, b"ip.ttl", OptionName::HeaderTtl),
-        15 => found_if(s, from, to, b"data_size", OptionName::DataSize),
-        16 => found_if(s, from, to, b"data_at", OptionName::DataAt),
-        17 => found_if(s, from, to, b"pattern", OptionName::Pattern),
-        18 => found_if(s, from, to, b"context", OptionName::Context),
-        19 => found_if(s, from, to, b"no_case", OptionName::NoCase),
-        20 => found_if(s, from, to, b"distance", OptionName::Distance),
-        _ => found_if(s, from, to, b"within", OptionName::Within),
-    }
+    let names: &[u8] = b"nameprotocolflowsrc_addrdst_addrsame_ipip_idsrc_portdst_port\
+        ip_tosip_ttlip.total_lengthip.idip.checksumip.ttl\
+        data_sizedata_atpatterncontextno_casedistancewithin";
+    let start = STARTS[k];
+    let end = STARTS[k + 1];
+    same_word(x, &names[start..end])
 }
 
 // The option of the first row of the table whose name stands between two places.
@@ -96,11 +119,11 @@ pub fn option_named(s: &[u8], from: usize, to: usize) -> Lookup
     requires { ⌜ (from ≤ to) × (to ≤ length (now s)) ⌝ }
     ensures { λ r. ⌜ r ≡ optionNamed optionOrder optionNames (take (to - from) (drop from (now (s .entry)))) ⌝ }
 {
+    let x = &s[from..to];
     let mut k = 0;
     while k < OPTIONS {
-        let row = row_named(s, from, to, k);
-        if let Lookup::Found(o) = row {
-            return Lookup::Found(o);
+        if row_named(x, k) {
+            return Lookup::Found(row_option(k));
         }
         k += 1;
     }

@@ -1,39 +1,46 @@
 -- Row by row: what is still to come is the answer (`Left`).
-use mathlib.Core.Path.{_≡_, refl, sym, _∙_}
+use mathlib.Core.Path.{_≡_, refl, sym, ap, _∙_}
 use native.Mathlib.Omega.{arith}
 use Prim.Native.Nat.{_-_, _≤_}
-use lib.ListN.{length, take, drop}
-use borrow.Author.Needs.{needs}
+use lib.ListN.{take, drop}
 use Rattle.read_names.specs.declared.options.OptionName.the-variants as option
+use Rattle.read_names.specs.declared.options.Lookup.the-variants.{Found}
 use Rattle.read_names.specs.Names.{optionCount, optionNames, optionOrder}
 use Rattle.read_names.proofs.Rows.{names-count, order-count, Left, row-found, row-passed, rows-out}
 use Rattle.read_names.proofs.option_named.Statement.{statement}
 use Rattle.read_names.proofs.option_named.Tie as tie
 
 abbrev Inv-loop : tie.InvT-loop
-Inv-loop s from to k₀ k = (k ≤ optionCount) × Left optionOrder optionNames (take (to - from) (drop from s)) k
+Inv-loop s from to x k₀ k = (k ≤ optionCount) × Left optionOrder optionNames (take (to - from) (drop from s)) k
 
 abbrev μ-loop : tie.MeasureT-loop
-μ-loop s from to k₀ k = optionCount - k
+μ-loop s from to x k₀ k = optionCount - k
+
+sub-x : tie.Need-sub-x Inv-loop μ-loop
+sub-x c = omega arith
+
+part-x-start : tie.Need-part-x-start Inv-loop μ-loop
+part-x-start c = omega arith
+
+part-x-end : tie.Need-part-x-end Inv-loop μ-loop
+part-x-end c = omega arith
 
 loop-holds : tie.Need-loop-holds Inv-loop μ-loop
 loop-holds c = (omega arith, refl)
 
 row-named-requires : tie.Need-row-named-requires Inv-loop μ-loop
-row-named-requires c κs = (c .before .before .before .pre .0, c .before .before .before .pre .1, c .loop-test .taken)
+row-named-requires c κs = omega arith
 
-enum-known-row : tie.Need-enum-known-row Inv-loop μ-loop
-enum-known-row c = search needs
+row-option-requires : tie.Need-row-option-requires Inv-loop μ-loop
+row-option-requires c κs = omega arith
 
 returns : tie.Need-returns Inv-loop μ-loop
 returns c =
-    let turn = c .before .before .before .before .before .loop in
-    let more = c .before .before .before .before .loop-test .taken in
-    row-found _ _ _ (turn .k) option.Name (omega (arith, more, order-count)) (omega (arith, more, names-count)) (turn .inv .1)
-    (sym (c .before .before .before .row-named .ensures) ∙ c .before .row .given .1)
-
-enum-told : tie.Need-enum-told Inv-loop μ-loop
-enum-told c = search needs
+    let more = c .before .before .before .loop-test .taken in
+    let turn = c .before .before .before .before .loop in
+    let same = sym (c .before .before .row-named .ensures) ∙ c .before .if1 .taken in
+    ap Found (c .row-option .ensures)
+    ∙ row-found _ _ _ (turn .k) option.Name (omega (arith, more, order-count)) (omega (arith, more, names-count)) (turn .inv .1) same
 
 add-k : tie.Need-add-k Inv-loop μ-loop
 add-k c = omega arith
@@ -43,11 +50,11 @@ loop-less c = omega arith
 
 loop-again : tie.Need-loop-again Inv-loop μ-loop
 loop-again c =
-    let turn = c .before .before .before .before .loop in
-    let more = c .before .before .before .loop-test .taken in (
+    let more = c .before .before .loop-test .taken in
+    let turn = c .before .before .before .loop in
+    let other = sym (c .before .row-named .ensures) ∙ c .if1 .left in (
       omega (arith, more),
-      row-passed _ _ _ (turn .k) option.Name (omega (arith, more, order-count)) (omega (arith, more, names-count)) (turn .inv .1)
-          (sym (c .before .before .row-named .ensures) ∙ c .enum-told .given .1),
+      row-passed _ _ _ (turn .k) option.Name (omega (arith, more, order-count)) (omega (arith, more, names-count)) (turn .inv .1) other,
     )
 
 returns-2 : tie.Need-returns-2 Inv-loop μ-loop
@@ -61,11 +68,13 @@ option-named-spec =
     (tie.spec
     Inv-loop
     μ-loop
+    sub-x
+    part-x-start
+    part-x-end
     loop-holds
     row-named-requires
-    enum-known-row
+    row-option-requires
     returns
-    enum-told
     add-k
     loop-less
     loop-again
