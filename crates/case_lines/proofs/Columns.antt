@@ -18,7 +18,7 @@ use Rattle.line_parts.proofs.Delimiters.{part-le}
 use Rattle.line_numbers.specs.HexPairs.{isHex}
 use Rattle.line_packets.specs.declared.packets.PacketColumns.{PacketColumns}
 use Rattle.line_packets.specs.Directions.{isDirection}
-use Rattle.line_packets.specs.FieldMaps.{isMap}
+use Rattle.line_fields.specs.FieldMaps.{isMap}
 use Rattle.line_packets.specs.Packets.{isPacket, packetOf}
 use Rattle.case_columns.specs.Queries.{Query, isQuery, queryOf}
 use Rattle.case_lines.specs.CaseLines.{maxLine, isCase, caseOf}

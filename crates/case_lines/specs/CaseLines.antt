@@ -11,7 +11,7 @@ use Rattle.definitions.specs.Cases.{pairs}
 use Rattle.line_parts.specs.Parts.{contains, afterParts, part}
 use Rattle.line_numbers.specs.HexPairs.{isHex}
 use Rattle.line_packets.specs.Directions.{isDirection, directionOf}
-use Rattle.line_packets.specs.FieldMaps.{isMap, mapOf}
+use Rattle.line_fields.specs.FieldMaps.{isMap, mapOf}
 use Rattle.case_columns.specs.Queries.{Query, isQuery, queryOf}
 
 -- bytes of a line before its LF

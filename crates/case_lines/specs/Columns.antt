@@ -8,7 +8,7 @@ use Rattle.definitions.specs.Reading.{read}
 use Rattle.definitions.specs.Cases.{pairs}
 use Rattle.line_numbers.specs.HexPairs.{isHex}
 use Rattle.line_packets.specs.Directions.{isDirection, directionOf}
-use Rattle.line_packets.specs.FieldMaps.{isMap, mapOf}
+use Rattle.line_fields.specs.FieldMaps.{isMap, mapOf}
 use Rattle.case_columns.specs.Queries.{isQuery, queryOf}
 use Rattle.case_lines.specs.CaseAnswers.{readingText}
 

@@ -9,11 +9,11 @@ use Rattle.definitions.specs.declared.packets.FieldMap.{FieldMap}
 use Rattle.line_parts.proofs.Results.{failed-test, parsed-test, parsed-value}
 use Rattle.line_numbers.specs.HexPairs.{isHex}
 use Rattle.line_packets.specs.declared.directions.DirectionResult.the-variants as direction
-use Rattle.line_packets.specs.declared.field_maps.MapResult.the-variants as map
+use Rattle.line_fields.specs.declared.field_maps.MapResult.the-variants as map
 use Rattle.line_packets.specs.declared.packets.PacketColumns.{PacketColumns}
 use Rattle.line_packets.specs.declared.packets.PacketResult.the-variants.{Parsed, Failed}
 use Rattle.line_packets.specs.Directions.{isDirection, directionOf, parsedDirection}
-use Rattle.line_packets.specs.FieldMaps.{isMap, mapOf, parsedMap}
+use Rattle.line_fields.specs.FieldMaps.{isMap, mapOf, parsedMap}
 use Rattle.line_packets.specs.Packets.{isPacket, packetOf, parsedPacket}
 
 -- ---- what the answers for the direction and for the map tell

@@ -1,4 +1,2 @@
--- Laws of what a line says of a packet: one span, one field, the fields in a row, the four columns.
-pub mod Spans
-pub mod Fields
+-- How the four columns of a packet go together.
 pub mod FourColumns

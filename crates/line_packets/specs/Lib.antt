@@ -1,4 +1,3 @@
 -- What the contracts of `line_packets` cite.
 pub mod Directions
-pub mod FieldMaps
 pub mod Packets

@@ -8,7 +8,7 @@ use Rattle.line_packets.specs.declared.packets.PacketColumns.{PacketColu
 use Rattle.line_packets.specs.declared.packets.PacketResult.{PacketResult}
 use Rattle.line_packets.specs.declared.packets.PacketResult.the-variants.{Parsed, Failed}
 use Rattle.line_packets.specs.Directions.{isDirection, directionOf}
-use Rattle.line_packets.specs.FieldMaps.{isMap, mapOf}
+use Rattle.line_fields.specs.FieldMaps.{isMap, mapOf}
 
 module _ (origin packet fields decoded : List ℕ) where
   unfoldable pub isPacket : Bool

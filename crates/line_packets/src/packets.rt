@@ -3,10 +3,10 @@ ghost use mathlib.Core.Path.{_≡_};
 ghost use Rattle.line_packets.specs.Packets.{parsedPacket};
 use crate::directions::DirectionResult;
 use crate::directions::parse_direction;
-use crate::field_maps::MapResult;
-use crate::field_maps::parse_map;
 use definitions::packets::Direction;
 use definitions::packets::FieldMap;
+use line_fields::field_maps::MapResult;
+use line_fields::field_maps::parse_map;
 use line_numbers::hex_pairs::is_hex_pairs;
 
 // What the columns say beside the bytes of packet and buffer.

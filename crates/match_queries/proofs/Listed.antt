@@ -24,7 +24,8 @@ use Rattle.definitions.specs.Placements.{positives, itemsOf}
 use Rattle.definitions.specs.Answers.{foundAnswer, noneAnswer, inputCheck, placementsOf, firstAnswer, nextAnswer}
 use Rattle.definitions.specs.Queries.{answers}
 use Rattle.laws.proofs.QueryModel.{all-listed, empty-or-none}
-use Rattle.match_queries.specs.Runs.{queryOfByte, numbersOfOne, allNumbers, room, written}
+use Rattle.match_numbers.specs.Numbers.{numbersOfOne}
+use Rattle.match_queries.specs.Runs.{queryOfByte, allNumbers, room, written}
 use Rattle.match_queries.proofs.run.Reads as run
 use Rattle.match_queries.proofs.run.Kinds as run-kinds
 use Rattle.match_queries.proofs.Running.{answers-length}

@@ -15,7 +15,8 @@ use Rattle.definitions.specs.declared.packets.Placement.{Placement}
 use Rattle.definitions.specs.declared.answers.Answer.{Answer}
 use Rattle.definitions.specs.declared.answers.Query.the-variants.{First, Next}
 use Rattle.definitions.specs.Queries.{answerNumbers, queryAnswer, answers}
-use Rattle.match_queries.specs.Runs.{queryOfByte, numbersOfOne, allNumbers, room, written}
+use Rattle.match_numbers.specs.Numbers.{numbersOfOne}
+use Rattle.match_queries.specs.Runs.{queryOfByte, allNumbers, room, written}
 
 pub query-first : (a : ℕ) → a ≡ 0 → First ≡ queryOfByte a
 query-first zero e = refl

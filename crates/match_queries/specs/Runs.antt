@@ -1,5 +1,5 @@
 -- A run of queries over a lent buffer: the answers of the model, as numbers, one answer after the other. Section "Meaning", its last paragraph.
-use Prim.Native.Nat.{ℕ, zero, suc, _+_, _*_}
+use Prim.Native.Nat.{ℕ, zero, suc, _*_}
 use mathlib.Core.Bool.{Bool}
 use mathlib.Core.List.{List, [], _∷_, _++_, map}
 use lib.ListN.{length, drop}
@@ -12,17 +12,13 @@ use Rattle.definitions.specs.declared.packets.Placement.{Placement}
 use Rattle.definitions.specs.declared.answers.Answer.{Answer}
 use Rattle.definitions.specs.declared.answers.Query.{Query}
 use Rattle.definitions.specs.declared.answers.Query.the-variants.{First, Next}
-use Rattle.definitions.specs.Limits.{maxPatterns}
 use Rattle.definitions.specs.Queries.{answerNumbers, answers}
+use Rattle.match_numbers.specs.Numbers.{numbersOfOne}
 
 -- a query is a byte: 0 is "first", any other "next"
 abbrev pub queryOfByte : ℕ → Query
 queryOfByte zero = First
 queryOfByte (suc a) = Next
-
--- refusal number, found or none, count, and all starts
-abbrev pub numbersOfOne : ℕ
-numbersOfOne = 3 + maxPatterns
 
 unfoldable pub allNumbers : List Answer → List ℕ
 allNumbers [] = []

@@ -1,17 +1,15 @@
-// A LIST OF ASKS of one table, packet, decoded buffer, direction and map: the matcher's "first" and "next", called one after the other as a caller
-// does, every answer written down as document 01 compares answers. Demand 3 is one claim about the whole list.
-mod writing;
-
+// A LIST OF QUERIES (document 01's "asks") of one table, packet, decoded buffer, direction and map: the matcher's "first" and "next", called one after the
+// other as a caller does, every answer written down as document 01 compares answers. Demand 3 is one claim about the whole list.
 ghost use mathlib.Core.Path.{_≡_};
 ghost use Rattle.definitions.specs.Queries.{queryAnswer};
 ghost use Rattle.match_queries.specs.Runs.{queryOfByte, room, written};
-use crate::writing::NUMBERS;
-use crate::writing::put_answer;
 use definitions::answers::Answer;
 use definitions::packets::Direction;
 use definitions::packets::FieldMap;
 use definitions::packets::Placement;
 use definitions::table::Table;
+use match_numbers::NUMBERS;
+use match_numbers::put_answer;
 
 // One query, a byte: 0 is "first", any other "next" after the placement held.
 fn answer_to<'a>(

@@ -64,10 +64,12 @@ singles =
     option.IpTtl ∷ option.HeaderTotalLength ∷ option.HeaderId ∷ option.HeaderChecksum ∷ option.HeaderTtl ∷ option.DataSize ∷
     option.DataAt ∷ option.Context ∷ option.NoCase ∷ option.Distance ∷ option.Within ∷ []
 
--- an option that is one of a few is no other
-other : (ps : List OptionName) (p : OptionName) → T (not (hasKey (map (tagOf the-type) ps) (tagOf the-type p))) → (o : OptionName) → OneOfOptions ps o → o ≡ p → ⊥
-other ps p t o k e = miss (map (tagOf the-type) ps) (tagOf the-type p) t (subst (OneOfOptions ps) e k)
+module _ (ps : List OptionName) (o : OptionName) (k : OneOfOptions ps o) where
+  -- an option that is one of a few is no other
+  other : (p : OptionName) → T (not (hasKey (map (tagOf the-type) ps) (tagOf the-type p))) → o ≡ p → ⊥
+  other p t e = miss (map (tagOf the-type) ps) (tagOf the-type p) t (subst (OneOfOptions ps) e k)
 
 pub all-single : (o : OptionName) → OneOfOptions singles o → Single o
 all-single o k =
-    (other singles option.Name tt o k, other singles option.SourceAddress tt o k, other singles option.DestinationAddress tt o k, other singles option.Pattern tt o k)
+    let no = other singles o k in
+    (no option.Name tt, no option.SourceAddress tt, no option.DestinationAddress tt, no option.Pattern tt)

@@ -1,5 +1,5 @@
--- Names and words, and the rows of the table of options.
+-- Names and words, words one after the other, and the rows of the table of options.
 pub mod SameWord
 pub mod NameBytes
-pub mod Rows
 pub mod Joined
+pub mod Rows

@@ -16,7 +16,7 @@ use scan_case::lower_of;
 pub mod options;
 
 // Where each row's name starts among the names of `row_named`, and at last where they end.
-const STARTS: [usize; OPTIONS + 1] = [
+const STARTS: [u8; OPTIONS + 1] = [
     0,
     4,
     12,
@@ -109,8 +109,9 @@ fn row_named(x: &[u8], k: usize) -> bool
     let names: &[u8] = b"nameprotocolflowsrc_addrdst_addrsame_ipip_idsrc_portdst_port\
         ip_tosip_ttlip.total_lengthip.idip.checksumip.ttl\
         data_sizedata_atpatterncontextno_casedistancewithin";
-    let start = STARTS[k];
-    let end = STARTS[k + 1];
+    let starts = STARTS;
+    let start = starts[k] as usize;
+    let end = starts[k + 1] as usize;
     same_word(x, &names[start..end])
 }
 

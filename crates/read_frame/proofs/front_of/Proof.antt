@@ -3,11 +3,8 @@ use mathlib.Core.Path.{_≡_, sym, ap, _∙_}
 use Prim.Native.Nat.{ℕ, _≤_}
 use native.Mathlib.Omega.{arith}
 use borrow.Author.Tests.{not-true, not-false}
-use lib.ListN.{length}
-use Rattle.forms.specs.Bytes.{run}
 use Rattle.definitions.specs.declared.answers.Refusal.the-variants.{TextByte}
 use Rattle.definitions.specs.Limits.{documentLimits}
-use Rattle.definitions.specs.Options.{printable}
 use Rattle.definitions.specs.Reading.{refusedReading}
 use Rattle.read_frame.proofs.Opening.{read-empty, read-long, read-byte, read-unopened, read-opened, opened-long}
 use Rattle.read_frame.proofs.front_of.Statement.{statement}

@@ -1,5 +1,6 @@
 -- The names of the rows stand one after the other, each from its start to the next one's: one law for every row (`Joined`).
 use mathlib.Core.Path.{ap, _∙_}
+use native.Mathlib.Omega.{arith}
 use Rattle.forms.specs.Bytes.{sameWord}
 use Rattle.definitions.specs.Options.{optionTable}
 use Rattle.read_names.specs.Names.{optionNames}
@@ -11,20 +12,25 @@ use Rattle.read_names.proofs.row_named.Tie as tie
 slice-aggregate-names : tie.Need-slice-aggregate-names
 slice-aggregate-names c = search needs
 
-mul-start : tie.Need-mul-start
-mul-start c = search needs
-
 array-read-start : tie.Need-array-read-start
 array-read-start c = search needs
+
+cast-start : tie.Need-cast-start
+unfolding optionNames optionTable
+cast-start c =
+    let k = c .before .before .args .k in
+    let h = c .before .before .pre in
+    record { fits = omega (arith, in-order optionNames k h, inside optionNames k h) }
 
 add-end : tie.Need-add-end
 add-end c = search needs
 
-mul-end : tie.Need-mul-end
-mul-end c = search needs
-
 array-read-end : tie.Need-array-read-end
 array-read-end c = search needs
+
+cast-end : tie.Need-cast-end
+unfolding optionNames optionTable
+cast-end c = record { fits = omega (arith, inside optionNames (c .before .before .args .k) (c .before .before .pre)) }
 
 sub-same-word : tie.Need-sub-same-word
 unfolding optionNames optionTable
@@ -52,11 +58,11 @@ row-named-spec =
     tie.close
     (tie.spec
     slice-aggregate-names
-    mul-start
     array-read-start
+    cast-start
     add-end
-    mul-end
     array-read-end
+    cast-end
     sub-same-word
     part-same-word-start
     part-same-word-end

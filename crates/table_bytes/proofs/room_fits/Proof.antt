@@ -4,7 +4,6 @@ use native.Mathlib.Omega.{arith}
 use lib.ListN.{length, getD}
 use lib.Dec.{leb}
 use borrow.Author.Tests.{le-leb, lt-leb}
-use borrow.Author.Needs.{needs}
 use Rattle.definitions.specs.Limits.{maxByte}
 use Rattle.list_laws.proofs.Every.{first-fit}
 use Rattle.table_bytes.proofs.room_fits.Statement.{statement}

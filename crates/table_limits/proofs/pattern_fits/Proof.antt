@@ -2,7 +2,6 @@
 use mathlib.Core.Bool.{and-true}
 use native.Mathlib.Omega.{arith}
 use borrow.Author.Tests.{lt-ltb, le-ltb}
-use borrow.Author.Needs.{needs}
 use Rattle.definitions.specs.WellFormed.{distanceFits, itemFits}
 use Rattle.table_limits.proofs.Typed.{within-fits}
 use Rattle.table_limits.proofs.pattern_fits.Statement.{statement}

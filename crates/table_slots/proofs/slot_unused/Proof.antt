@@ -1,7 +1,6 @@
 -- Each return rewrites with what the callees ensure of the tests that led there.
 use mathlib.Core.Path.{sym, _∙_}
 use borrow.Author.Tests.{not-true, not-false}
-use borrow.Author.Needs.{needs}
 use Rattle.table_slots.proofs.slot_unused.Statement.{statement}
 use Rattle.table_slots.proofs.slot_unused.Tie as tie
 

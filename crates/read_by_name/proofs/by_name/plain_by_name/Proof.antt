@@ -10,7 +10,9 @@ no-addresses-requires : tie.Need-no-addresses-requires
 no-addresses-requires c κs = tt
 
 returns : tie.Need-returns
-returns c = let start = c .before .before .before in plain-parses (start .args .o) (start .pre .0) (c .before .value-by-name .ensures) (c .no-addresses .ensures)
+returns c =
+    let start = c .before .before .before in
+    plain-parses (start .args .o) (start .pre .0) (c .before .value-by-name .ensures) (c .no-addresses .ensures)
 
 pub plain-by-name-spec : {M : Type 1} → statement M
 plain-by-name-spec = tie.close (tie.spec value-by-name-requires no-addresses-requires returns)

@@ -4,7 +4,6 @@ use Prim.Native.Nat.{_-_, _≤_}
 use native.Mathlib.Omega.{arith}
 use lib.ListN.{length, take, drop}
 use borrow.Author.Tests.{not-true, not-false}
-use borrow.Author.Needs.{needs}
 use Rattle.definitions.specs.Lists.{all?}
 use Rattle.definitions.specs.WellFormed.{addressFits}
 use Rattle.list_laws.proofs.Every.{first-on, first-not, first-all}

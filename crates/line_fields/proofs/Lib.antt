@@ -1,0 +1,3 @@
+-- Laws of a map of fields: one span, one field, the fields in a row.
+pub mod Spans
+pub mod Fields

@@ -1,0 +1,2 @@
+-- What the contracts of `line_fields` cite.
+pub mod FieldMaps

@@ -1,0 +1,2 @@
+-- How numbers are stored one after the other.
+pub mod Storing

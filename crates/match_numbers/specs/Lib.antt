@@ -1,0 +1,2 @@
+-- What the contracts of `match_numbers` cite besides the definitions.
+pub mod Numbers
