@@ -15,7 +15,9 @@ use Rattle.definitions.specs.OptionValues.{OptionValue}
 use Rattle.definitions.specs.Options.{optionAt}
 use Rattle.definitions.specs.Reading.{Located, optionValuesOf, Options, ended, refused, optionStep, options}
 use Rattle.read_state.specs.declared.State.{State}
-use Rattle.read_state.specs.State.{Holds, lastSlot, locatedAlso}
+use Rattle.read_state.specs.declared.Inserted.{Inserted}
+use Rattle.read_state.specs.State.{Holds, lastSlot, locatedAlso, InsertedRight}
+use Rattle.read_by_name.specs.declared.parsed.ParsedOption.{ParsedOption}
 use Rattle.reader.specs.declared.steps.Step.{Step}
 use Rattle.reader.specs.declared.steps.Step.the-variants.{Next, Done, Refused}
 use Rattle.reader.specs.declared.steps.Stepped.{Stepped}
@@ -27,6 +29,12 @@ stepBy (Refuse r) at next = Refused r at
 -- a step that inserts nothing
 abbrev pub stepOnly : Step → State → Stepped
 stepOnly t st = record { step = t; state = st; place = maxItems; slot = noSlot }
+
+-- the option that was read is inserted as `insert` does it, and the text goes on at a place unless something is due
+abbrev pub InsertsOption : State → Slot → ℕ → ParsedOption → ℕ → Stepped → Type 0
+InsertsOption st last at p next r =
+    (e : Inserted) × InsertedRight st last at (p .value) (p .list) (p .used) e
+    × (r ≡ record { step = stepBy (e .check) at next; state = e .state; place = e .place; slot = e .slot })
 
 -- where an option begins: some options make the state, no more pattern bytes are in use than stand before, and two bytes stand there
 pub record Steppable (s bytes : List ℕ) (st : State) (last : Slot) (at : ℕ) : Type 0 where

@@ -1,11 +1,13 @@
 // One option of a text: its name, its form, and what it does to the state.
 ghost use mathlib.Core.Path.{_≡_};
-ghost use Rattle.reader.specs.Stepping.{Steppable, Steps, stepBy, stepOnly, closingStep, Placed, Goes};
+ghost use Rattle.read_state.specs.State.{After};
+ghost use Rattle.reader.specs.Stepping.{Steppable, Steps, stepBy, stepOnly, InsertsOption, closingStep, Placed, Goes};
 use definitions::answers::Check;
 use definitions::answers::Refusal;
 use definitions::limits::ITEMS;
 use definitions::table::Slot;
 use read_by_name::by_name::option_by_name;
+use read_by_name::parsed::ParsedOption;
 use read_frame::Ended;
 use read_frame::dashes_at;
 use read_frame::ended_by;
@@ -44,6 +46,25 @@ fn step_only(step: Step, state: State) -> Stepped
     }
 }
 
+// The option was read, and the text goes on at `next`: it is inserted, unless something is due for it.
+fn insert_option(st: State, last: Slot, at: usize, p: ParsedOption, next: usize) -> Stepped
+    requires { ⌜ After st last (p .value) (p .list) (p .used) ⌝ }
+    ensures { λ r. ⌜ InsertsOption st last at p next r ⌝ }
+{
+    let value = p.value;
+    let list = p.list;
+    let e = insert(st, last, at, value, list, p.used);
+    let check = e.check;
+    let state = e.state;
+    let slot = e.slot;
+    Stepped {
+        step: step_by(check, at, next),
+        state,
+        place: e.place,
+        slot,
+    }
+}
+
 // The option whose first dash stands at the place. Its pattern bytes are stored after those in use; `last` is the last pattern's slot.
 fn option_step(s: &[u8], bytes: &mut [u8], st: State, last: Slot, at: usize) -> Stepped
     requires { ⌜ Steppable (now s) (now bytes) st last at ⌝ }
@@ -59,20 +80,7 @@ fn option_step(s: &[u8], bytes: &mut [u8], st: State, last: Slot, at: usize) -> 
     let cursor = p.cursor;
     let ended = ended_by(cursor);
     match ended {
-        Ended::Next(next) => {
-            let value = p.value;
-            let list = p.list;
-            let e = insert(st, last, at, value, list, p.used);
-            let check = e.check;
-            let state = e.state;
-            let slot = e.slot;
-            Stepped {
-                step: step_by(check, at, next),
-                state,
-                place: e.place,
-                slot,
-            }
-        }
+        Ended::Next(next) => insert_option(st, last, at, p, next),
         Ended::Refused(r) => step_only(Step::Refused(r, at), st),
     }
 }

@@ -10,7 +10,7 @@ use Rattle.read_value.specs.Values.{PatternBytes, optionValueOf}
 use Rattle.scan_cursors.specs.Reads.{readBy}
 use Rattle.read_state.specs.State.{Holds, optionIn, locatedAlso}
 use Rattle.read_insert.proofs.OneMore.{bytes-full}
-use Rattle.reader.specs.declared.steps.Step.{Step}
+use Rattle.reader.specs.declared.steps.Stepped.{Stepped}
 use Rattle.reader.specs.Stepping.{StepsTo}
 use Rattle.reader.proofs.Listed.{option-at, name-inside}
 use Rattle.reader.proofs.OptionSteps.{taken-unlisted, taken-refused, ended-parsed, read-after, stepped, parsed-inside}
@@ -61,22 +61,19 @@ ended-by-requires c κs = tt
 enum-known-ended : tie.Need-enum-known-ended
 enum-known-ended c = search needs
 
-insert-requires : tie.Need-insert-requires
-insert-requires c κs =
-    let ended = c .before .before .before .before in
+insert-option-requires : tie.Need-insert-option-requires
+insert-option-requires c κs =
+    let ended = c .before .before .before in
     let parsed = ended .before .before .before in
     let named = parsed .before .before .before .before .before .before in
     let start = named .before .before .before in
     let pre = start .pre in
     let read = parsed .option-by-name in
-    let q = ended-parsed (read .result .cursor) (sym (ended .ended-by .ensures) ∙ c .before .before .ended .given .1) in
+    let q = ended-parsed (read .result .cursor) (sym (ended .ended-by .ensures) ∙ c .before .ended .given .1) in
     let g = name-inside _ _ (pre .inside) (named .name-end .ensures) in
     let z = parsed-inside (start .args .s .now) (read .result .cursor) _ (read .ensures .reads .inside) q in
     let u = pre .after in
     read-after (pre .located) (read .result) (read .ensures) (pre .holds) (pre .latest) _ q (omega (arith, u, g .0)) z (pre .short)
-
-step-by-requires : tie.Need-step-by-requires
-step-by-requires c κs = tt
 
 enum-known-ended-2 : tie.Need-enum-known-ended-2
 enum-known-ended-2 c = search needs
@@ -88,7 +85,7 @@ returns-2 : tie.Need-returns-2
 unfolding read-after
 returns-2 c =
     λ located items held latest.
-    let ended = c .before .before .before .before .before .before .before .before in
+    let ended = c .before .before .before .before in
     let parsed = ended .before .before .before in
     let known = parsed .before .before .before in
     let named = known .before .before .before in
@@ -97,8 +94,9 @@ returns-2 c =
     let pre = start .pre in
     let read = parsed .option-by-name in
     let P = read .ensures in
-    let q = ended-parsed (read .result .cursor) (sym (ended .ended-by .ensures) ∙ c .before .before .before .before .before .before .ended .given .1) in
-    let inserted = c .before .before .before .insert in
+    let q = ended-parsed (read .result .cursor) (sym (ended .ended-by .ensures) ∙ c .before .before .ended .given .1) in
+    let inserts = c .insert-option .ensures in
+    let e = inserts .0 in
     let ended = named .name-end .ensures in
     let g = name-inside _ _ (pre .inside) ended in
     let z = parsed-inside (x .s .now) (read .result .cursor) _ (P .reads .inside) q in
@@ -106,16 +104,16 @@ returns-2 c =
     let w = P .grown _ q in
     let k = read-after located (read .result) P held latest _ q (omega (arith, u, g .0)) z (pre .short) in
     let after : List ℕ = read .last .1 .1 .1 .0 in
-    let put : List Slot = set items (inserted .result .place) (inserted .result .slot) in
+    let put : List Slot = set items (e .place) (e .slot) in
     let i =
     option-at _ _ _ _ ended (known .before .before .option-named .ensures) (known .found .given .1)
     ∙ ap listed (sym (P .reads .reads) ∙ ap (readBy (optionValueOf _ (read .result .value) (P .al) (P .b))) q) in
-    subst (λ (t : Step). StepsTo (x .s .now) located (x .at) t (inserted .result .state) after put) (sym (c .step-by .ensures))
+    subst (λ (t : Stepped). StepsTo (x .s .now) located (x .at) (t .step) (t .state) after (set items (t .place) (t .slot))) (sym (inserts .2))
     (stepped _ located _ _ _ after items put _ _ _ (P .al) (P .b) (P .apart _ q) held i z (omega (arith, g .0, w)) (omega (arith, u, g .0, w)) _
-    (inserted .ensures .check k)
-    (λ e.
-    subst (λ (l : List ℕ). Holds (x .s .now) (locatedAlso located (x .at) (optionIn k)) (inserted .result .state) l put)
-    (sym (ap (λ (m : PatternBytes). m .bytes) (P .stored))) (inserted .ensures .holds k e)))
+    (inserts .1 .check k)
+    (λ y.
+    subst (λ (l : List ℕ). Holds (x .s .now) (locatedAlso located (x .at) (optionIn k)) (e .state) l put)
+    (sym (ap (λ (m : PatternBytes). m .bytes) (P .stored))) (inserts .1 .holds k y)))
 
 same-length : tie.Need-same-length
 same-length c = search needs
@@ -151,8 +149,7 @@ option-step-spec =
     option-by-name-requires
     ended-by-requires
     enum-known-ended
-    insert-requires
-    step-by-requires
+    insert-option-requires
     enum-known-ended-2
     step-only-requires-2
     same-length
