@@ -41,7 +41,7 @@ pub const LINE_BYTES: usize = 16384;
 // Bytes that the pairs of a column write at most.
 pub const PAIRS: usize = LINE_BYTES / 2;
 
-// The answer to a query. `Bad` does not come here: such a line is answered `bad` before; its arm says what the definition's does.
+// The answer to a query; the last arm is `First`, since a line whose query is `Bad` is answered before.
 fn put_query<'a>(
     out: &mut [u8],
     at: usize,
@@ -57,9 +57,8 @@ fn put_query<'a>(
 {
     match kind {
         Kind::All => put_list(out, at, t, p, decoded, dir, m),
-        Kind::First => put_answer(out, at, matcher::first(t, p, decoded, dir, m)),
         Kind::Next => put_answer(out, at, matcher::next(t, p, decoded, dir, m, held)),
-        Kind::Bad => put_answer(out, at, matcher::first(t, p, decoded, dir, m)),
+        _ => put_answer(out, at, matcher::first(t, p, decoded, dir, m)),
     }
 }
 
