@@ -9,6 +9,9 @@ use borrow.Author.Tests.{le-leb, lt-leb}
 use Rattle.forms.specs.Bytes.{text}
 use Rattle.definitions.specs.declared.packets.Direction.{Direction}
 use Rattle.definitions.specs.declared.packets.FieldMap.{FieldMap}
+use Rattle.definitions.specs.declared.answers.Refusal.{Refusal}
+use Rattle.definitions.specs.declared.answers.ReadOutcome.{ReadOutcome}
+use Rattle.definitions.specs.declared.answers.ReadOutcome.the-variants as outcome
 use Rattle.definitions.specs.declared.answers.Reading.{Reading}
 use Rattle.definitions.specs.Limits.{documentLimits}
 use Rattle.definitions.specs.Reading.{read}
@@ -22,20 +25,30 @@ use Rattle.line_fields.specs.FieldMaps.{isMap}
 use Rattle.line_packets.specs.Packets.{isPacket, packetOf}
 use Rattle.case_columns.specs.Queries.{Query, isQuery, queryOf}
 use Rattle.case_lines.specs.CaseLines.{maxLine, isCase, caseOf}
-use Rattle.case_lines.specs.CaseAnswers.{readingText, caseAnswer}
+use Rattle.case_lines.specs.CaseAnswers.{queryText, unreadText, outcomeText, readingText, caseAnswer}
 use Rattle.case_lines.specs.Columns.{maxPairs, areColumns, columnsText}
 
 -- a lent array is long enough for the pairs of a line
 pub room-is : {n : ℕ} → n ≡ maxPairs → maxLine ≤ n * 2
 room-is e = omega (arith, e)
 
-pub formed-is :
-    {x u y v : List ℕ} {r q : Reading} (dir : Direction) (m : FieldMap) (a : Query) → x ≡ u → y ≡ v → r ≡ q
-    → readingText u v dir m q a ≡ readingText x y dir m r a
-formed-is {x = x} {u = u} {y = y} {v = v} {r = r} {q = q} dir m a e f g =
-    ap (λ (w : List ℕ). readingText w v dir m q a) (sym e)
-    ∙ ap (λ (w : List ℕ). readingText x w dir m q a) (sym f)
-    ∙ ap (λ (w : Reading). readingText x y dir m w a) (sym g)
+-- ---- a text that is read
+
+pub accepted-is :
+    {x u y v : List ℕ} {r q : Reading} (dir : Direction) (m : FieldMap) (a : Query) → x ≡ u → y ≡ v → r ≡ q → r .outcome ≡ outcome.Accepted
+    → readingText u v dir m q a ≡ queryText x y dir m (r .table) a
+accepted-is {x = x} {u = u} {y = y} {v = v} {r = r} dir m a e f g h =
+    ap (λ (w : Reading). readingText u v dir m w a) (sym g)
+    ∙ ap (λ (o : ReadOutcome). outcomeText u v dir m o (r .table) a) h
+    ∙ ap (λ (w : List ℕ). queryText w v dir m (r .table) a) (sym e)
+    ∙ ap (λ (w : List ℕ). queryText x w dir m (r .table) a) (sym f)
+
+pub refused-is :
+    (u v : List ℕ) {r q : Reading} (dir : Direction) (m : FieldMap) (a : Query) {w : Refusal} {place : ℕ}
+    → r ≡ q → r .outcome ≡ outcome.Refused w place → readingText u v dir m q a ≡ unreadText w place
+refused-is u v {r = r} dir m a g h =
+    ap (λ (w : Reading). readingText u v dir m w a) (sym g)
+    ∙ ap (λ (o : ReadOutcome). outcomeText u v dir m o (r .table) a) h
 
 -- ---- the columns
 

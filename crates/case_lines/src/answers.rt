@@ -13,18 +13,16 @@ ghost use Rattle.case_lines.specs.CaseLines.{maxLine};
 ghost use Rattle.case_lines.specs.CaseAnswers.{queryText, unreadText, readingText, caseAnswer};
 ghost use Rattle.case_lines.specs.Columns.{columnsText};
 use case_columns::Kind;
+use case_columns::Queried;
 use case_columns::is_query;
 use case_columns::parse_query;
 use case_lists::answers::put_answer;
 use case_lists::lists::put_list;
 use definitions::answers::ReadOutcome;
-use definitions::answers::Reading;
 use definitions::answers::Refusal;
-use definitions::packets::Direction;
-use definitions::packets::FieldMap;
-use definitions::packets::Placement;
 use definitions::table::Table;
 use line_numbers::hex_pairs::put_pairs;
+use line_packets::packets::PacketColumns;
 use line_packets::packets::PacketResult;
 use line_packets::packets::parse_packet;
 use line_parts::contains;
@@ -48,17 +46,21 @@ fn put_query<'a>(
     t: Table,
     p: &'a [u8],
     decoded: &'a [u8],
-    dir: Direction,
-    m: FieldMap,
-    kind: Kind,
-    held: Placement,
+    located: PacketColumns,
+    asked: Queried,
 ) -> usize
-    ensures { λ r. ⌜ Puts (now (out .entry)) at (queryText (now (p .entry)) (now (decoded .entry)) dir m t (queryBy kind held)) (now (out .exit)) r ⌝ }
+    ensures { λ r. ⌜ Puts (now (out .entry)) at (queryText (now (p .entry)) (now (decoded .entry)) (located .direction) (located .fields) t (queryBy (asked .kind) (asked .placement))) (now (out .exit)) r ⌝ }
 {
+    let kind = asked.kind;
+    let dir = located.direction;
     match kind {
-        Kind::All => put_list(out, at, t, p, decoded, dir, m),
-        Kind::Next => put_answer(out, at, matcher::next(t, p, decoded, dir, m, held)),
-        _ => put_answer(out, at, matcher::first(t, p, decoded, dir, m)),
+        Kind::All => put_list(out, at, t, p, decoded, dir, located.fields),
+        Kind::Next => put_answer(
+            out,
+            at,
+            matcher::next(t, p, decoded, dir, located.fields, asked.placement),
+        ),
+        _ => put_answer(out, at, matcher::first(t, p, decoded, dir, located.fields)),
     }
 }
 
@@ -72,60 +74,41 @@ fn put_unread(out: &mut [u8], at: usize, r: Refusal, place: usize) -> usize
     put_decimal(out, a3, place as u64)
 }
 
-fn put_reading<'a>(
-    out: &mut [u8],
-    at: usize,
-    reading: Reading,
-    p: &'a [u8],
-    decoded: &'a [u8],
-    dir: Direction,
-    m: FieldMap,
-    kind: Kind,
-    held: Placement,
-) -> usize
-    ensures { λ r. ⌜ Puts (now (out .entry)) at (readingText (now (p .entry)) (now (decoded .entry)) dir m reading (queryBy kind held)) (now (out .exit)) r ⌝ }
-{
-    let outcome = reading.outcome;
-    let table = reading.table;
-    match outcome {
-        ReadOutcome::Accepted => put_query(out, at, table, p, decoded, dir, m, kind, held),
-        ReadOutcome::Refused(r, place) => put_unread(out, at, r, place),
-    }
-}
-
 // A case whose columns are of their form; the pairs of packet and decoded buffer are written into room that the caller lends.
 fn put_formed(
     out: &mut [u8],
     at: usize,
-    dir: Direction,
     packet: &[u8],
-    m: FieldMap,
     decoded: &[u8],
-    kind: Kind,
-    held: Placement,
+    located: PacketColumns,
+    asked: Queried,
     text: &[u8],
     room: &mut [u8; PAIRS],
     more: &mut [u8; PAIRS],
 ) -> usize
     requires { ⌜ (isHex (now packet) ≡ true) × (isHex (now decoded) ≡ true) × (length (now packet) ≤ maxLine) × (length (now decoded) ≤ maxLine) ⌝ }
-    ensures { λ r. ⌜ Puts (now (out .entry)) at (readingText (pairs (now (packet .entry))) (pairs (now (decoded .entry))) dir m (readText documentLimits (now (text .entry))) (queryBy kind held)) (now (out .exit)) r ⌝ }
+    ensures { λ r. ⌜ Puts (now (out .entry)) at (readingText (pairs (now (packet .entry))) (pairs (now (decoded .entry))) (located .direction) (located .fields) (readText documentLimits (now (text .entry))) (queryBy (asked .kind) (asked .placement))) (now (out .exit)) r ⌝ }
 {
-    let n = put_pairs(room, 0, packet);
-    let d = put_pairs(more, 0, decoded);
     let reading = reader::read(text);
-    let packet_bytes = &room[..];
-    let decoded_bytes = &more[..];
-    put_reading(
-        out,
-        at,
-        reading,
-        &packet_bytes[0..n],
-        &decoded_bytes[0..d],
-        dir,
-        m,
-        kind,
-        held,
-    )
+    let outcome = reading.outcome;
+    match outcome {
+        ReadOutcome::Accepted => {
+            let n = put_pairs(room, 0, packet);
+            let d = put_pairs(more, 0, decoded);
+            let packet_bytes = &room[..];
+            let decoded_bytes = &more[..];
+            put_query(
+                out,
+                at,
+                reading.table,
+                &packet_bytes[0..n],
+                &decoded_bytes[0..d],
+                located,
+                asked,
+            )
+        }
+        ReadOutcome::Refused(r, place) => put_unread(out, at, r, place),
+    }
 }
 
 // The six columns of a line; `bad` where one is of another form.
@@ -144,30 +127,15 @@ fn put_columns(
     requires { ⌜ (length (now packet) ≤ maxLine) × (length (now decoded) ≤ maxLine) ⌝ }
     ensures { λ r. ⌜ Puts (now (out .entry)) at (columnsText (now (origin .entry)) (now (packet .entry)) (now (fields .entry)) (now (decoded .entry)) (now (query .entry)) (now (text .entry))) (now (out .exit)) r ⌝ }
 {
-    let queried = parse_query(query);
-    let kind = queried.kind;
-    let held = queried.placement;
+    let asked = parse_query(query);
+    let kind = asked.kind;
     if !is_query(kind) {
         return put_word(out, at, b"bad");
     }
     let PacketResult::Parsed(located) = parse_packet(origin, packet, fields, decoded) else {
         return put_word(out, at, b"bad");
     };
-    let dir = located.direction;
-    let map = located.fields;
-    put_formed(
-        out,
-        at,
-        dir,
-        packet,
-        map,
-        decoded,
-        kind,
-        held,
-        text,
-        room,
-        more,
-    )
+    put_formed(out, at, packet, decoded, located, asked, text, room, more)
 }
 
 // THE ANSWER to a line, without its number and the LF. The caller lends room for the bytes of packet and decoded buffer.

@@ -23,7 +23,7 @@ put-word-requires c κs = tt
 returns : tie.Need-returns
 returns c =
     let test = c .before .before .before .before .before in
-    let queried = test .before .before .before in
+    let queried = test .before .before in
     told
     (no-query _ _ _ _ _ _ (sym (query-is _ _ (queried .parse-query .ensures)) ∙ (sym (test .before .is-query .ensures) ∙ not-true _ (test .if1 .taken))))
     (c .before .before .put-word .ensures)
@@ -58,16 +58,16 @@ same-length-2 c = same (returns-2 c)
 
 put-formed-requires : tie.Need-put-formed-requires
 put-formed-requires c κs =
-    let found = c .before .before .before .before .before in
-    let start = found .before .before .before .before .before .before .before .before .before .before .before .before .before .before in
+    let found = c .before .before .before .before in
+    let start = found .before .before .before .before .before .before .before .before .before .before .before .before .before in
     let e = sym (found .before .before .parse-packet .ensures) ∙ found .located .given .1 in
     (hex-packet _ _ _ _ _ e, hex-decoded _ _ _ _ _ e, start .pre .0, start .pre .1)
 
 returns-3 : tie.Need-returns-3
 returns-3 c =
-    let found = c .before .before .before .before .before .before .before .before in
+    let found = c .before .before .before .before .before .before .before in
     let test = found .before .before .before in
-    let queried = test .before .before .before in
+    let queried = test .before .before in
     let e = sym (found .before .before .parse-packet .ensures) ∙ found .located .given .1 in
     let y = sym (query-is _ _ (queried .parse-query .ensures)) ∙ (sym (test .before .is-query .ensures) ∙ not-false _ (test .if1 .left)) in
     told

@@ -45,7 +45,7 @@ returns-3 c =
     let test = c .before .before .before .before .before in
     let args = test .before .before .before .before .args in
     told
-    (asked-first _ _ _ _ _ (args .held) (args .kind) (test .match .keys3) ∙ ap answerText (sym (c .before .before .before .first .ensures)))
+    (asked-first _ _ _ _ _ (args .asked .placement) (args .asked .kind) (test .match .keys3) ∙ ap answerText (sym (c .before .before .before .first .ensures)))
     (c .before .before .put-answer2 .ensures)
 
 same-length : tie.Need-same-length
