@@ -15,14 +15,14 @@ use Rattle.case_columns.specs.Queries.{first, queryBy}
 use Rattle.case_lines.specs.CaseAnswers.{queryText}
 
 module _ (p decoded : List ℕ) (dir : Direction) (m : FieldMap) (t : Table) (h : Placement) where
-  pub asked : {k j : Kind} → k ≡ j → queryText p decoded dir m t (queryBy k h) ≡ queryText p decoded dir m t (queryBy j h)
-  asked e = ap (λ (k : Kind). queryText p decoded dir m t (queryBy k h)) e
+  pub queried : {k j : Kind} → k ≡ j → queryText p decoded dir m t (queryBy k h) ≡ queryText p decoded dir m t (queryBy j h)
+  queried e = ap (λ (k : Kind). queryText p decoded dir m t (queryBy k h)) e
 
   -- what is neither `all` nor an earlier placement asks for the first
-  pub asked-first :
+  pub queried-first :
       (k : Kind) → OneOf (tagOf the-type First ∷ tagOf the-type Bad ∷ []) (tagOf the-type k)
       → queryText p decoded dir m t (queryBy k h) ≡ queryText p decoded dir m t first
-  asked-first All o = absurd (miss (1 ∷ 3 ∷ []) 0 tt o)
-  asked-first First o = refl
-  asked-first Next o = absurd (miss (1 ∷ 3 ∷ []) 2 tt o)
-  asked-first Bad o = refl
+  queried-first All o = absurd (miss (1 ∷ 3 ∷ []) 0 tt o)
+  queried-first First o = refl
+  queried-first Next o = absurd (miss (1 ∷ 3 ∷ []) 2 tt o)
+  queried-first Bad o = refl

@@ -47,18 +47,18 @@ fn put_query<'a>(
     p: &'a [u8],
     decoded: &'a [u8],
     located: PacketColumns,
-    asked: Queried,
+    queried: Queried,
 ) -> usize
-    ensures { λ r. ⌜ Puts (now (out .entry)) at (queryText (now (p .entry)) (now (decoded .entry)) (located .direction) (located .fields) t (queryBy (asked .kind) (asked .placement))) (now (out .exit)) r ⌝ }
+    ensures { λ r. ⌜ Puts (now (out .entry)) at (queryText (now (p .entry)) (now (decoded .entry)) (located .direction) (located .fields) t (queryBy (queried .kind) (queried .placement))) (now (out .exit)) r ⌝ }
 {
-    let kind = asked.kind;
+    let kind = queried.kind;
     let dir = located.direction;
     match kind {
         Kind::All => put_list(out, at, t, p, decoded, dir, located.fields),
         Kind::Next => put_answer(
             out,
             at,
-            matcher::next(t, p, decoded, dir, located.fields, asked.placement),
+            matcher::next(t, p, decoded, dir, located.fields, queried.placement),
         ),
         _ => put_answer(out, at, matcher::first(t, p, decoded, dir, located.fields)),
     }
@@ -81,13 +81,13 @@ fn put_formed(
     packet: &[u8],
     decoded: &[u8],
     located: PacketColumns,
-    asked: Queried,
+    queried: Queried,
     text: &[u8],
     room: &mut [u8; PAIRS],
     more: &mut [u8; PAIRS],
 ) -> usize
     requires { ⌜ (isHex (now packet) ≡ true) × (isHex (now decoded) ≡ true) × (length (now packet) ≤ maxLine) × (length (now decoded) ≤ maxLine) ⌝ }
-    ensures { λ r. ⌜ Puts (now (out .entry)) at (readingText (pairs (now (packet .entry))) (pairs (now (decoded .entry))) (located .direction) (located .fields) (readText documentLimits (now (text .entry))) (queryBy (asked .kind) (asked .placement))) (now (out .exit)) r ⌝ }
+    ensures { λ r. ⌜ Puts (now (out .entry)) at (readingText (pairs (now (packet .entry))) (pairs (now (decoded .entry))) (located .direction) (located .fields) (readText documentLimits (now (text .entry))) (queryBy (queried .kind) (queried .placement))) (now (out .exit)) r ⌝ }
 {
     let reading = reader::read(text);
     let outcome = reading.outcome;
@@ -104,7 +104,7 @@ fn put_formed(
                 &packet_bytes[0..n],
                 &decoded_bytes[0..d],
                 located,
-                asked,
+                queried,
             )
         }
         ReadOutcome::Refused(r, place) => put_unread(out, at, r, place),
@@ -127,15 +127,15 @@ fn put_columns(
     requires { ⌜ (length (now packet) ≤ maxLine) × (length (now decoded) ≤ maxLine) ⌝ }
     ensures { λ r. ⌜ Puts (now (out .entry)) at (columnsText (now (origin .entry)) (now (packet .entry)) (now (fields .entry)) (now (decoded .entry)) (now (query .entry)) (now (text .entry))) (now (out .exit)) r ⌝ }
 {
-    let asked = parse_query(query);
-    let kind = asked.kind;
+    let queried = parse_query(query);
+    let kind = queried.kind;
     if !is_query(kind) {
         return put_word(out, at, b"bad");
     }
     let PacketResult::Parsed(located) = parse_packet(origin, packet, fields, decoded) else {
         return put_word(out, at, b"bad");
     };
-    put_formed(out, at, packet, decoded, located, asked, text, room, more)
+    put_formed(out, at, packet, decoded, located, queried, text, room, more)
 }
 
 // THE ANSWER to a line, without its number and the LF. The caller lends room for the bytes of packet and decoded buffer.

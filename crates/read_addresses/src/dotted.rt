@@ -10,9 +10,9 @@ use definitions::limits::MAX_BYTE;
 use definitions::limits::MAX_PREFIX;
 use definitions::table::Address;
 use scan_cursors::Cursor;
-use scan_steps::numbers::then_number;
 use scan_steps::literals::next_is;
 use scan_steps::literals::then_literal;
+use scan_steps::numbers::then_number;
 
 // A byte that digits write, and where scanning stands after it.
 pub struct ByteAt {

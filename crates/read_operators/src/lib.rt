@@ -10,10 +10,10 @@ use definitions::table::Operator;
 use definitions::table::Order;
 use scan_cursors::Cursor;
 use scan_pieces::numbers::Numeric;
-use scan_steps::numbers::then_numeral;
 use scan_steps::literals::next_is;
 use scan_steps::literals::then_literal;
 use scan_steps::literals::then_spaces;
+use scan_steps::numbers::then_numeral;
 
 // An order, and where scanning stands after it.
 pub struct OrderAt {

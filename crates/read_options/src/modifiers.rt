@@ -18,9 +18,9 @@ use read_value::Value;
 use read_words::then_context;
 use scan_pieces::literals::closing_at;
 use scan_pieces::literals::gap_at;
-use scan_steps::numbers::then_number;
 use scan_steps::literals::then_closing;
 use scan_steps::literals::then_optional_literal;
+use scan_steps::numbers::then_number;
 
 // The option context.
 pub fn context_option(s: &[u8], at: usize) -> Valued

@@ -28,10 +28,10 @@ use read_operators::then_size_order;
 use read_value::Value;
 use scan_pieces::literals::closing_at;
 use scan_pieces::literals::gap_at;
-use scan_steps::numbers::then_number;
-use scan_steps::numbers::then_numeral;
 use scan_steps::literals::then_closing;
 use scan_steps::literals::then_spaces;
+use scan_steps::numbers::then_number;
+use scan_steps::numbers::then_numeral;
 
 // The option same_ip.
 pub fn same_ip_option(s: &[u8], at: usize) -> Valued

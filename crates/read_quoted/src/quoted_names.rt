@@ -6,8 +6,8 @@ use scan_bytes::bytes::Class;
 use scan_cursors::Cursor;
 use scan_cursors::limited;
 use scan_pieces::runs::RunAt;
-use scan_steps::runs::then_run;
 use scan_steps::literals::then_literal;
+use scan_steps::runs::then_run;
 
 // A name, one byte or more between two quotes; one that is too long is told by its opening quote.
 pub fn then_name(s: &[u8], c: Cursor) -> RunAt

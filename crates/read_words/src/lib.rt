@@ -12,8 +12,8 @@ use definitions::table::Reference;
 use definitions::table::SizeField;
 use scan_cursors::Cursor;
 use scan_pieces::numbers::Numeric;
-use scan_steps::numbers::then_number;
 use scan_steps::literals::next_is_letter;
+use scan_steps::numbers::then_number;
 use scan_steps::words::then_either_word;
 use scan_steps::words::then_word;
 

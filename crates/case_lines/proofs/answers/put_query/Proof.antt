@@ -2,7 +2,7 @@ use mathlib.Core.Path.{sym, ap, _∙_}
 use Rattle.write_bytes.proofs.Putting.{told, same-length as same}
 use Rattle.case_lists.specs.AnswerTexts.{answerText}
 use Rattle.case_lines.specs.CaseAnswers.{queryText}
-use Rattle.case_lines.proofs.Queries.{asked, asked-first}
+use Rattle.case_lines.proofs.Queries.{queried, queried-first}
 use borrow.Author.Needs.{needs}
 use Rattle.case_lines.proofs.answers.put_query.Statement.{statement}
 use Rattle.case_lines.proofs.answers.put_query.Tie as tie
@@ -30,13 +30,13 @@ put-answer-requires-2 c κs = tt
 
 returns : tie.Need-returns
 unfolding queryText
-returns c = told (asked _ _ _ _ _ _ (c .before .before .before .before .enum-told .given .1)) (c .before .before .put-list .ensures)
+returns c = told (queried _ _ _ _ _ _ (c .before .before .before .before .enum-told .given .1)) (c .before .before .put-list .ensures)
 
 returns-2 : tie.Need-returns-2
 unfolding queryText
 returns-2 c =
     told
-    (asked _ _ _ _ _ _ (c .before .before .before .before .before .enum-told2 .given .1) ∙ ap answerText (sym (c .before .before .before .next .ensures)))
+    (queried _ _ _ _ _ _ (c .before .before .before .before .before .enum-told2 .given .1) ∙ ap answerText (sym (c .before .before .before .next .ensures)))
     (c .before .before .put-answer .ensures)
 
 returns-3 : tie.Need-returns-3
@@ -45,7 +45,8 @@ returns-3 c =
     let test = c .before .before .before .before .before in
     let args = test .before .before .before .before .args in
     told
-    (asked-first _ _ _ _ _ (args .asked .placement) (args .asked .kind) (test .match .keys3) ∙ ap answerText (sym (c .before .before .before .first .ensures)))
+    (queried-first _ _ _ _ _ (args .queried .placement) (args .queried .kind) (test .match .keys3)
+    ∙ ap answerText (sym (c .before .before .before .first .ensures)))
     (c .before .before .put-answer2 .ensures)
 
 same-length : tie.Need-same-length
