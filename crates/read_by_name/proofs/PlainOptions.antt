@@ -14,7 +14,7 @@ use Rattle.read_names.specs.Names.{formOf}
 use Rattle.read_value.specs.declared.Value.{Value}
 use Rattle.read_value.specs.declared.Value.the-variants as value
 use Rattle.read_value.specs.Values.{patternBytesOf, Plain}
-use Rattle.read_options.specs.declared.valued.Valued.{Valued}
+use Rattle.read_value.specs.declared.Valued.{Valued}
 use Rattle.read_state.specs.State.{Apart}
 use Rattle.read_quoted.proofs.Appended.{appended-none}
 use Rattle.read_by_name.specs.Parsing.{ReadsAlone, Parses}

@@ -14,7 +14,7 @@ use Rattle.scan_cursors.specs.declared.Cursor.the-variants.{Parsed}
 use Rattle.scan_cursors.specs.Reads.{Reads}
 use Rattle.read_names.specs.declared.options.OptionName.{OptionName}
 use Rattle.read_names.specs.declared.options.OptionName.the-variants as option
-use Rattle.read_options.specs.declared.valued.Valued.{Valued}
+use Rattle.read_value.specs.declared.Valued.{Valued}
 use Rattle.read_state.specs.State.{Apart}
 use Rattle.read_by_name.specs.declared.parsed.ParsedOption.{ParsedOption}
 

@@ -23,13 +23,13 @@ use read_options::modifiers::context_option;
 use read_options::modifiers::distance_option;
 use read_options::modifiers::no_case_option;
 use read_options::modifiers::within_option;
-use read_options::tests::at_option;
-use read_options::tests::field_option;
-use read_options::tests::number_option;
-use read_options::tests::same_ip_option;
-use read_options::tests::size_option;
-use read_options::tests::ttl_option;
-use read_options::valued::Valued;
+use read_tests::tests::at_option;
+use read_tests::tests::field_option;
+use read_tests::tests::number_option;
+use read_tests::tests::same_ip_option;
+use read_tests::tests::size_option;
+use read_tests::tests::ttl_option;
+use read_value::Valued;
 use read_value::no_addresses;
 
 // The value of an option with nothing beside it, read after its name. Left to the last arm is only within.

@@ -1,3 +1,2 @@
--- How an option is put together of its pieces.
-pub mod Closing
+-- A signed number by its sign and its digits.
 pub mod Negation

@@ -1,2 +1,2 @@
--- Names for parts of the options' forms.
+-- Names for parts of the forms of ranges.
 pub mod Parts

@@ -1,30 +1,11 @@
--- Parts of the options' forms: what may follow a number, and options over their limit.
-use Prim.Native.Nat.{ℕ}
+-- Parts of the ranges' forms: what may follow a number, after an optional comma.
 use Rattle.forms.specs.Bytes.{text}
 use mathlib.Core.Bool.{Bool, true, false}
-use Rattle.forms.specs.Form.{Form, pair, fmap}
-use Rattle.forms.specs.Pieces.{terminated, keyword}
-use Rattle.definitions.specs.declared.table.SizeField.{SizeField}
-use Rattle.definitions.specs.declared.table.SizeField.the-variants as sizeFields
-use Rattle.definitions.specs.Numbers.{number, numeral}
-use Rattle.definitions.specs.OptionValues.{OptionValue}
-use Rattle.definitions.specs.Forms.{spaces, valued, comma, test, comparison, referenceWord}
-use Rattle.definitions.specs.declared.table.NumberField.{NumberField}
-use Rattle.definitions.specs.declared.table.HeaderField.{HeaderField}
-use Rattle.definitions.specs.declared.table.Item.the-variants as item
-use Rattle.definitions.specs.declared.table.Operator.{Operator}
+use Rattle.forms.specs.Form.{Form, pair}
+use Rattle.forms.specs.Pieces.{keyword}
+use Rattle.definitions.specs.Forms.{comma, referenceWord}
 use Rattle.definitions.specs.declared.table.Reference.{Reference}
 use Rattle.definitions.specs.declared.table.Reference.the-variants as references
-use Rattle.read_words.specs.Words.{sizeWord}
-use Rattle.read_operators.specs.Operators.{masked}
-
--- ---- after an optional comma
-
-abbrev pub sizeField : Form SizeField
-sizeField = comma sizeFields.Payload sizeWord
-
-abbrev pub relative : Form Bool
-relative = comma false (keyword (text "relative") true)
 
 abbrev pub reference : Form Reference
 reference = comma references.Match referenceWord
@@ -35,13 +16,3 @@ reversed = comma false (keyword (text "reverse") true)
 -- a reference, only then `,reverse`
 abbrev pub directed : Form (Reference × Bool)
 directed = comma (references.Match, false) (pair referenceWord reversed)
-
--- ---- options over the limit: at a field's own limit they are definitions' `numberForm` and `fieldForm`
-
-abbrev pub numberWithin : NumberField → ℕ → Form OptionValue
-numberWithin f limit = valued (fmap (λ (n : ℕ). test (item.Number (record { field = f; number = n }))) (number limit))
-
-abbrev pub fieldWithin : HeaderField → ℕ → Form OptionValue
-fieldWithin f limit =
-    valued (fmap (λ (p : ℕ × (Operator × ℕ)). test (item.Field (record { field = f; mask = p .0; operator = p .1 .0; number = p .1 .1 })))
-    (pair (masked limit) (pair (terminated comparison spaces) (numeral limit))))

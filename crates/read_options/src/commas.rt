@@ -1,12 +1,9 @@
-// What may follow a number after a comma.
+// What may follow the number of a range, after a comma.
 ghost use Rattle.scan_cursors.specs.Reads.{Inside, Reads};
-ghost use Rattle.read_options.specs.Parts.{sizeField, relative, reference, reversed, directed};
+ghost use Rattle.read_options.specs.Parts.{reference, reversed, directed};
 use definitions::table::Reference;
-use definitions::table::SizeField;
 use read_words::ReferenceAt;
-use read_words::SizeFieldAt;
 use read_words::then_reference;
-use read_words::then_size_word;
 use scan_cursors::Cursor;
 use scan_pieces::literals::OptionalLiteral;
 use scan_steps::literals::next_is;
@@ -18,39 +15,6 @@ pub struct DirectedAt {
     pub reference: Reference,
     pub reverse: bool,
     pub cursor: Cursor,
-}
-
-// Optional `,` and the field of data_size.
-pub fn then_size_field(s: &[u8], c: Cursor) -> SizeFieldAt
-    requires { ⌜ Inside (now s) c ⌝ }
-    ensures { λ r. ⌜ Reads sizeField (now (s .entry)) c (r .field) (r .cursor) ⌝ }
-{
-    if next_is(s, c, b',') {
-        let comma = then_literal(s, c, b',');
-        return then_size_word(s, comma);
-    }
-    SizeFieldAt {
-        field: SizeField::Payload,
-        cursor: c,
-    }
-}
-
-// Optional `,relative`.
-pub fn then_relative(s: &[u8], c: Cursor) -> OptionalLiteral
-    requires { ⌜ Inside (now s) c ⌝ }
-    ensures { λ r. ⌜ Reads relative (now (s .entry)) c (r .yes) (r .cursor) ⌝ }
-{
-    if next_is(s, c, b',') {
-        let comma = then_literal(s, c, b',');
-        return OptionalLiteral {
-            yes: true,
-            cursor: then_word(s, comma, b"relative"),
-        };
-    }
-    OptionalLiteral {
-        yes: false,
-        cursor: c,
-    }
 }
 
 // Optional `,reverse`.

@@ -11,6 +11,7 @@ use definitions::table::DistanceValue;
 use definitions::table::Flow;
 use definitions::table::Item;
 use definitions::table::WithinValue;
+use scan_cursors::Cursor;
 
 // A name is told by its first byte's place in the text and its length, a pattern by its length: its bytes are the last in use.
 // The addresses of an address test stand beside the value.
@@ -25,6 +26,12 @@ pub enum Value {
     NoCase,
     Distance(DistanceValue),
     Within(WithinValue),
+}
+
+// An option's value, and where scanning stands after it.
+pub struct Valued {
+    pub value: Value,
+    pub cursor: Cursor,
 }
 
 // The addresses beside a value that has none.

@@ -1,2 +1,3 @@
--- How two words are told apart.
+-- How two words are told apart, and how an option is put together of its pieces.
 pub mod EitherWord
+pub mod Closing

@@ -8,7 +8,7 @@ use Rattle.scan_cursors.specs.declared.Cursor.the-variants.{Parsed}
 use Rattle.scan_cursors.specs.Reads.{Reads}
 use Rattle.scan_cursors.proofs.Readings.{fmap-reads}
 use Rattle.scan_cursors.proofs.Onward.{came-parsed}
-use Rattle.read_options.proofs.Closing.{valued-reads}
+use Rattle.scan_steps.proofs.Closing.{valued-reads}
 use Rattle.read_quoted.proofs.Appended.{appended-none}
 use Rattle.read_by_name.proofs.EndPlaces.{grown-none}
 use borrow.Author.Needs.{needs}

@@ -1,4 +1,4 @@
-use Rattle.read_options.proofs.Closing.{comma-reads, no-comma}
+use Rattle.scan_steps.proofs.Closing.{comma-reads, no-comma}
 use borrow.Author.Needs.{needs}
 use Rattle.read_options.proofs.commas.then_comma_reference.Statement.{statement}
 use Rattle.read_options.proofs.commas.then_comma_reference.Tie as tie

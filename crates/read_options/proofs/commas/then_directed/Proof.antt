@@ -1,5 +1,5 @@
 use Rattle.scan_cursors.proofs.Readings.{pair-reads}
-use Rattle.read_options.proofs.Closing.{comma-reads, no-comma}
+use Rattle.scan_steps.proofs.Closing.{comma-reads, no-comma}
 use borrow.Author.Needs.{needs}
 use Rattle.read_options.proofs.commas.then_directed.Statement.{statement}
 use Rattle.read_options.proofs.commas.then_directed.Tie as tie

@@ -1,7 +1,7 @@
 use Rattle.forms.specs.Bytes.{text}
 use mathlib.Core.Bool.{true}
 use Rattle.scan_pieces.proofs.Wording.{keyword-reads}
-use Rattle.read_options.proofs.Closing.{comma-reads, no-comma}
+use Rattle.scan_steps.proofs.Closing.{comma-reads, no-comma}
 use borrow.Author.Needs.{needs}
 use Rattle.read_options.proofs.commas.then_reverse.Statement.{statement}
 use Rattle.read_options.proofs.commas.then_reverse.Tie as tie

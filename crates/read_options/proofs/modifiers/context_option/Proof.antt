@@ -1,6 +1,6 @@
 use Rattle.read_value.specs.Values.{optionValueOf}
 use Rattle.scan_cursors.proofs.Readings.{fmap-reads}
-use Rattle.read_options.proofs.Closing.{valued-reads}
+use Rattle.scan_steps.proofs.Closing.{valued-reads}
 use borrow.Author.Needs.{needs}
 use Rattle.read_options.proofs.modifiers.context_option.Statement.{statement}
 use Rattle.read_options.proofs.modifiers.context_option.Tie as tie

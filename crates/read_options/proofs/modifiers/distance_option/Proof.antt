@@ -1,7 +1,7 @@
 use Rattle.read_options.proofs.Negation.{signed-kept}
 use Rattle.read_value.specs.Values.{optionValueOf}
 use Rattle.scan_cursors.proofs.Readings.{fmap-reads, pair-reads}
-use Rattle.read_options.proofs.Closing.{valued-reads}
+use Rattle.scan_steps.proofs.Closing.{valued-reads}
 use borrow.Author.Needs.{needs}
 use Rattle.read_options.proofs.modifiers.distance_option.Statement.{statement}
 use Rattle.read_options.proofs.modifiers.distance_option.Tie as tie

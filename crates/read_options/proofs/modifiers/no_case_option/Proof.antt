@@ -1,5 +1,5 @@
 use Rattle.read_value.specs.Values.{optionValueOf}
-use Rattle.read_options.proofs.Closing.{bare-reads}
+use Rattle.scan_steps.proofs.Closing.{bare-reads}
 use borrow.Author.Needs.{needs}
 use Rattle.read_options.proofs.modifiers.no_case_option.Statement.{statement}
 use Rattle.read_options.proofs.modifiers.no_case_option.Tie as tie

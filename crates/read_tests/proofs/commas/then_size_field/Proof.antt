@@ -1,7 +1,7 @@
-use Rattle.read_options.proofs.Closing.{comma-reads, no-comma}
+use Rattle.scan_steps.proofs.Closing.{comma-reads, no-comma}
 use borrow.Author.Needs.{needs}
-use Rattle.read_options.proofs.commas.then_size_field.Statement.{statement}
-use Rattle.read_options.proofs.commas.then_size_field.Tie as tie
+use Rattle.read_tests.proofs.commas.then_size_field.Statement.{statement}
+use Rattle.read_tests.proofs.commas.then_size_field.Tie as tie
 
 next-is-requires : tie.Need-next-is-requires
 next-is-requires c κs = search needs

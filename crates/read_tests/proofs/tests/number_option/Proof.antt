@@ -1,9 +1,9 @@
 use Rattle.read_value.specs.Values.{optionValueOf}
 use Rattle.scan_cursors.proofs.Readings.{fmap-reads}
-use Rattle.read_options.proofs.Closing.{valued-reads}
+use Rattle.scan_steps.proofs.Closing.{valued-reads}
 use borrow.Author.Needs.{needs}
-use Rattle.read_options.proofs.tests.number_option.Statement.{statement}
-use Rattle.read_options.proofs.tests.number_option.Tie as tie
+use Rattle.read_tests.proofs.tests.number_option.Statement.{statement}
+use Rattle.read_tests.proofs.tests.number_option.Tie as tie
 
 gap-at-requires : tie.Need-gap-at-requires
 gap-at-requires c κs = search needs

@@ -1,8 +1,8 @@
 use Rattle.read_value.specs.Values.{optionValueOf}
-use Rattle.read_options.proofs.Closing.{bare-reads}
+use Rattle.scan_steps.proofs.Closing.{bare-reads}
 use borrow.Author.Needs.{needs}
-use Rattle.read_options.proofs.tests.same_ip_option.Statement.{statement}
-use Rattle.read_options.proofs.tests.same_ip_option.Tie as tie
+use Rattle.read_tests.proofs.tests.same_ip_option.Statement.{statement}
+use Rattle.read_tests.proofs.tests.same_ip_option.Tie as tie
 
 closing-at-requires : tie.Need-closing-at-requires
 closing-at-requires c κs = search needs

@@ -1,10 +1,10 @@
 use Rattle.forms.specs.Bytes.{text}
 use mathlib.Core.Bool.{true}
 use Rattle.scan_pieces.proofs.Wording.{keyword-reads}
-use Rattle.read_options.proofs.Closing.{comma-reads, no-comma}
+use Rattle.scan_steps.proofs.Closing.{comma-reads, no-comma}
 use borrow.Author.Needs.{needs}
-use Rattle.read_options.proofs.commas.then_relative.Statement.{statement}
-use Rattle.read_options.proofs.commas.then_relative.Tie as tie
+use Rattle.read_tests.proofs.commas.then_relative.Statement.{statement}
+use Rattle.read_tests.proofs.commas.then_relative.Tie as tie
 
 next-is-requires : tie.Need-next-is-requires
 next-is-requires c κs = search needs

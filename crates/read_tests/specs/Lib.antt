@@ -1,0 +1,2 @@
+-- Names for parts of the forms of tests.
+pub mod Parts
