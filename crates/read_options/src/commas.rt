@@ -1,38 +1,19 @@
 // What may follow the number of a range, after a comma.
 ghost use Rattle.scan_cursors.specs.Reads.{Inside, Reads};
-ghost use Rattle.read_options.specs.Parts.{reference, reversed, directed};
+ghost use Rattle.read_options.specs.Parts.{reference, directed};
 use definitions::table::Reference;
 use read_words::ReferenceAt;
 use read_words::then_reference;
 use scan_cursors::Cursor;
-use scan_pieces::literals::OptionalLiteral;
 use scan_steps::literals::next_is;
 use scan_steps::literals::then_literal;
-use scan_steps::words::then_word;
+use scan_steps::words::then_comma_word;
 
 // A reference, whether `reverse` follows it, and where scanning stands after them.
 pub struct DirectedAt {
     pub reference: Reference,
     pub reverse: bool,
     pub cursor: Cursor,
-}
-
-// Optional `,reverse`.
-fn then_reverse(s: &[u8], c: Cursor) -> OptionalLiteral
-    requires { ⌜ Inside (now s) c ⌝ }
-    ensures { λ r. ⌜ Reads reversed (now (s .entry)) c (r .yes) (r .cursor) ⌝ }
-{
-    if next_is(s, c, b',') {
-        let comma = then_literal(s, c, b',');
-        return OptionalLiteral {
-            yes: true,
-            cursor: then_word(s, comma, b"reverse"),
-        };
-    }
-    OptionalLiteral {
-        yes: false,
-        cursor: c,
-    }
 }
 
 // Optional `,` and a reference.
@@ -59,7 +40,7 @@ pub fn then_directed(s: &[u8], c: Cursor) -> DirectedAt
         let comma = then_literal(s, c, b',');
         let r = then_reference(s, comma);
         let c = r.cursor;
-        let m = then_reverse(s, c);
+        let m = then_comma_word(s, c, b"reverse");
         let reference = r.reference;
         let cursor = m.cursor;
         return DirectedAt {

@@ -1,9 +1,7 @@
 -- Parts of the tests' forms: what may follow a number, and tests over their limit.
 use Prim.Native.Nat.{ℕ}
-use Rattle.forms.specs.Bytes.{text}
-use mathlib.Core.Bool.{Bool, true, false}
 use Rattle.forms.specs.Form.{Form, pair, fmap}
-use Rattle.forms.specs.Pieces.{terminated, keyword}
+use Rattle.forms.specs.Pieces.{terminated}
 use Rattle.definitions.specs.declared.table.SizeField.{SizeField}
 use Rattle.definitions.specs.declared.table.SizeField.the-variants as sizeFields
 use Rattle.definitions.specs.Numbers.{number, numeral}
@@ -20,9 +18,6 @@ use Rattle.read_operators.specs.Operators.{masked}
 
 abbrev pub sizeField : Form SizeField
 sizeField = comma sizeFields.Payload sizeWord
-
-abbrev pub relative : Form Bool
-relative = comma false (keyword (text "relative") true)
 
 -- ---- options over the limit: at a field's own limit they are definitions' `numberForm` and `fieldForm`
 

@@ -1,14 +1,12 @@
-// What may follow a test's number, after a comma.
+// What may follow the number of data_size, after a comma.
 ghost use Rattle.scan_cursors.specs.Reads.{Inside, Reads};
-ghost use Rattle.read_tests.specs.Parts.{sizeField, relative};
+ghost use Rattle.read_tests.specs.Parts.{sizeField};
 use definitions::table::SizeField;
 use read_words::SizeFieldAt;
 use read_words::then_size_word;
 use scan_cursors::Cursor;
-use scan_pieces::literals::OptionalLiteral;
 use scan_steps::literals::next_is;
 use scan_steps::literals::then_literal;
-use scan_steps::words::then_word;
 
 // Optional `,` and the field of data_size.
 pub fn then_size_field(s: &[u8], c: Cursor) -> SizeFieldAt
@@ -21,24 +19,6 @@ pub fn then_size_field(s: &[u8], c: Cursor) -> SizeFieldAt
     }
     SizeFieldAt {
         field: SizeField::Payload,
-        cursor: c,
-    }
-}
-
-// Optional `,relative`.
-pub fn then_relative(s: &[u8], c: Cursor) -> OptionalLiteral
-    requires { ⌜ Inside (now s) c ⌝ }
-    ensures { λ r. ⌜ Reads relative (now (s .entry)) c (r .yes) (r .cursor) ⌝ }
-{
-    if next_is(s, c, b',') {
-        let comma = then_literal(s, c, b',');
-        return OptionalLiteral {
-            yes: true,
-            cursor: then_word(s, comma, b"relative"),
-        };
-    }
-    OptionalLiteral {
-        yes: false,
         cursor: c,
     }
 }

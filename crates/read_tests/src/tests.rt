@@ -8,7 +8,6 @@ ghost use Rattle.read_tests.specs.Parts.{numberWithin, fieldWithin};
 ghost use Rattle.read_value.specs.Values.{optionValueOf, Plain};
 ghost use Rattle.scan_cursors.specs.Reads.{Reads};
 ghost use Rattle.scan_cursors.specs.declared.Cursor.the-variants.{Parsed};
-use crate::commas::then_relative;
 use crate::commas::then_size_field;
 use definitions::limits::MAX_BYTE;
 use definitions::limits::MAX_WORD;
@@ -32,6 +31,7 @@ use scan_steps::literals::then_closing;
 use scan_steps::literals::then_spaces;
 use scan_steps::numbers::then_number;
 use scan_steps::numbers::then_numeral;
+use scan_steps::words::then_comma_word;
 
 // The option same_ip.
 pub fn same_ip_option(s: &[u8], at: usize) -> Valued
@@ -141,7 +141,7 @@ pub fn at_option(s: &[u8], at: usize) -> Valued
     let c = gap_at(s, at);
     let n = then_number(s, c, MAX_WORD);
     let c = n.cursor;
-    let m = then_relative(s, c);
+    let m = then_comma_word(s, c, b"relative");
     let c = m.cursor;
     let cursor = then_closing(s, c);
     let number = n.value as u16;

@@ -3,11 +3,15 @@ ghost use mathlib.Core.Bool.{true, false};
 ghost use Prim.Native.Nat.{_≤_};
 ghost use lib.ListN.{length};
 ghost use Rattle.forms.specs.Pieces.{or, keyword, word};
+ghost use Rattle.definitions.specs.Forms.{comma};
 ghost use Rattle.scan_cursors.specs.Reads.{Inside, Reads};
+use crate::literals::next_is;
 use crate::literals::next_is_letter;
+use crate::literals::then_literal;
 use scan_cursors::Cursor;
 use scan_cursors::join;
 use scan_cursors::place;
+use scan_pieces::literals::OptionalLiteral;
 use scan_pieces::words::word_at;
 
 // The word, which is written in small letters.
@@ -41,5 +45,23 @@ pub fn then_either_word(s: &[u8], c: Cursor, one: &[u8], other: &[u8]) -> Either
     EitherAt {
         first: false,
         cursor: then_word(s, c, other),
+    }
+}
+
+// Optional `,` and the word, which is written in small letters.
+pub fn then_comma_word(s: &[u8], c: Cursor, w: &[u8]) -> OptionalLiteral
+    requires { ⌜ Inside (now s) c ⌝ }
+    ensures { λ r. ⌜ Reads (comma false (keyword (now (w .entry)) true)) (now (s .entry)) c (r .yes) (r .cursor) ⌝ }
+{
+    if next_is(s, c, b',') {
+        let after = then_literal(s, c, b',');
+        return OptionalLiteral {
+            yes: true,
+            cursor: then_word(s, after, w),
+        };
+    }
+    OptionalLiteral {
+        yes: false,
+        cursor: c,
     }
 }

@@ -13,16 +13,19 @@ then-literal-requires c κs = search needs
 then-reference-requires : tie.Need-then-reference-requires
 then-reference-requires c κs = search needs
 
-then-reverse-requires : tie.Need-then-reverse-requires
-then-reverse-requires c κs = search needs
+slice-aggregate-then-comma-word : tie.Need-slice-aggregate-then-comma-word
+slice-aggregate-then-comma-word c = search needs
+
+then-comma-word-requires : tie.Need-then-comma-word-requires
+then-comma-word-requires c κs = search needs
 
 returns : tie.Need-returns
 returns c =
-    let r = c .before in
+    let r = c .before .before in
     let l = r .before in
     let k = l .before in
     let comma = l .then-literal .ensures in
-    let both = pair-reads (comma .inside) (r .then-reference .ensures) (c .then-reverse .ensures) in
+    let both = pair-reads (comma .inside) (r .then-reference .ensures) (c .then-comma-word .ensures) in
     comma-reads _ (k .before .before .before .pre) (k .before .next-is .ensures) (k .if1 .taken) comma both
 
 returns-2 : tie.Need-returns-2
@@ -35,6 +38,7 @@ then-directed-spec =
     next-is-requires
     then-literal-requires
     then-reference-requires
-    then-reverse-requires
+    slice-aggregate-then-comma-word
+    then-comma-word-requires
     returns
     returns-2)

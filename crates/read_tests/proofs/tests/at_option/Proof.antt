@@ -11,8 +11,11 @@ gap-at-requires c κs = search needs
 then-number-requires : tie.Need-then-number-requires
 then-number-requires c κs = search needs
 
-then-relative-requires : tie.Need-then-relative-requires
-then-relative-requires c κs = search needs
+slice-aggregate-then-comma-word : tie.Need-slice-aggregate-then-comma-word
+slice-aggregate-then-comma-word c = search needs
+
+then-comma-word-requires : tie.Need-then-comma-word-requires
+then-comma-word-requires c κs = search needs
 
 then-closing-requires : tie.Need-then-closing-requires
 then-closing-requires c κs = search needs
@@ -25,10 +28,10 @@ unfolding optionValueOf
 returns c =
     let k = c .before in
     let m = k .before in
-    let n = m .before in
+    let n = m .before .before in
     let g = n .before in
     let number = n .then-number .ensures .0 in
-    let value = fmap-reads _ (pair-reads (g .gap-at .ensures .1 .inside) number (m .then-relative .ensures)) in
+    let value = fmap-reads _ (pair-reads (g .gap-at .ensures .1 .inside) number (m .then-comma-word .ensures)) in
     (valued-reads (g .before .before .pre) (g .gap-at .ensures) value (k .then-closing .ensures), tt)
 
 pub at-option-spec : {M : Type 1} → statement M
@@ -37,7 +40,8 @@ at-option-spec =
     (tie.spec
     gap-at-requires
     then-number-requires
-    then-relative-requires
+    slice-aggregate-then-comma-word
+    then-comma-word-requires
     then-closing-requires
     cast-number
     returns)
