@@ -2,6 +2,7 @@
 pub mod Starred
 pub mod LeftOut
 pub mod Tables
+pub mod EveryNumber
 pub mod OneByteDecides
 pub mod Sample
 pub mod OtherItems

@@ -20,7 +20,8 @@ use Rattle.definitions.specs.Starts.{startAt}
 use Rattle.definitions.specs.Refusals.{readNumber, readPlace}
 use Rattle.definitions.specs.Reading.{read}
 use Rattle.definitions.specs.Answers.{placementOf}
-use Rattle.definitions.specs.Queries.{answers, answerNumbers}
+use Rattle.definitions.specs.AnswerNumbers.{answerNumbers}
+use Rattle.definitions.specs.Queries.{answers}
 
 -- bytes written as pairs of hex digits
 unfoldable pub pairs : List ℕ → List ℕ

@@ -5,6 +5,7 @@ pub mod Numbers
 pub mod OptionValues
 pub mod Forms
 pub mod Options
+pub mod CodeLimits
 pub mod Tables
 pub mod Items
 pub mod Starts
@@ -22,7 +23,9 @@ pub mod Tests
 pub mod Windows
 pub mod Placements
 pub mod Answers
+pub mod AnswerNumbers
 pub mod Queries
 pub mod Lines
 pub mod Cases
+pub mod NumberCases
 pub mod Computing

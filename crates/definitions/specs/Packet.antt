@@ -77,7 +77,7 @@ transportLength d =
 abbrev pub portAt : List ℕ → ℕ → ℕ
 portAt d at = if hasPorts (protocolOf d) then bigEndian 2 (afterHeader d) at else 0
 
--- THE FACTS of a datagram; the payload follows the TCP header, 8 bytes of UDP or ICMP header, or the IP header for other protocols
+-- THE HEADER FIELDS of a datagram; the payload follows the TCP header, 8 bytes of UDP or ICMP header, or the IP header for other protocols
 unfoldable pub headerOf : List ℕ → PacketHeader
 headerOf d =
     record {

@@ -1,5 +1,5 @@
 -- The model of a list of queries, which document 01 calls "asks". Section "Meaning", its last paragraph.
-use mathlib.Core.List.{List, [], _∷_, map}
+use mathlib.Core.List.{List, [], _∷_}
 use Prim.Native.Nat.{ℕ}
 use Rattle.definitions.specs.declared.table.Table.{Table}
 use Rattle.definitions.specs.declared.packets.Direction.{Direction}
@@ -8,13 +8,7 @@ use Rattle.definitions.specs.declared.packets.Placement.{Placement}
 use Rattle.definitions.specs.declared.answers.Answer.{Answer}
 use Rattle.definitions.specs.declared.answers.Query.{Query}
 use Rattle.definitions.specs.declared.answers.Query.the-variants.{First, Next}
-use Rattle.definitions.specs.Starts.{startNumber}
-use Rattle.definitions.specs.Refusals.{foundNumber, foundOne}
 use Rattle.definitions.specs.Answers.{firstAnswer, nextAnswer}
-
--- an answer's refusal number, found or none, count, starts and unused room, as numbers
-abbrev pub answerNumbers : Answer → List ℕ
-answerNumbers a = foundNumber (a .found) ∷ foundOne (a .found) ∷ a .placement .count ∷ map startNumber (a .placement .starts)
 
 module _ (t : Table) (p decoded : List ℕ) (dir : Direction) (m : FieldMap) where
   -- the model holds the placement h, at the start any numbers

@@ -1,4 +1,6 @@
-// The limits of document 01 that the types and the code go by, each named once. specs/Limits.antt has them for the definitions.
+// The limits of document 01 that the types and the code go by, each named once. specs/Limits.antt has them for the definitions; `document_limits` ties the two.
+ghost use mathlib.Core.Path.{_≡_};
+ghost use Rattle.definitions.specs.CodeLimits.{codeLimits};
 
 // Bytes of a text, and of a canonical text.
 pub const TEXT_BYTES: usize = 1024;
@@ -34,3 +36,45 @@ pub const MAX_PREFIX: u8 = 32;
 
 // The options of document 01's table.
 pub const OPTIONS: usize = 22;
+
+// Every limit that this code goes by, for its callers.
+pub struct DocumentLimits {
+    pub text: usize,
+    pub canonical: usize,
+    pub room: usize,
+    pub name: usize,
+    pub patterns: usize,
+    pub tests: usize,
+    pub items: usize,
+    pub addresses: usize,
+    pub packet: usize,
+    pub decoded: usize,
+    pub byte: u64,
+    pub word: u64,
+    pub offset: i32,
+    pub prefix: u8,
+    pub options: usize,
+}
+
+// The limits above are those of the definitions: the one contract that ties each constant to its name in specs/Limits.antt.
+pub fn document_limits() -> DocumentLimits
+    ensures { λ r. ⌜ r ≡ codeLimits ⌝ }
+{
+    DocumentLimits {
+        text: TEXT_BYTES,
+        canonical: CANONICAL_BYTES,
+        room: PATTERN_BYTES,
+        name: NAME_BYTES,
+        patterns: PATTERNS,
+        tests: TESTS,
+        items: ITEMS,
+        addresses: ADDRESSES,
+        packet: PACKET_BYTES,
+        decoded: DECODED_BYTES,
+        byte: MAX_BYTE,
+        word: MAX_WORD,
+        offset: MAX_OFFSET,
+        prefix: MAX_PREFIX,
+        options: OPTIONS,
+    }
+}

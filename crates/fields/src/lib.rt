@@ -3,6 +3,7 @@ pub mod places;
 
 ghost use mathlib.Core.Path.{_≡_};
 ghost use Rattle.definitions.specs.Fields.{present, fieldOf, fieldSpan, fieldsCheck, fieldPasses};
+ghost use Rattle.definitions.specs.AnswerNumbers.{checkNumbers, fieldsInNumbers};
 ghost use Rattle.field_parts.specs.Parts.{PartOf};
 ghost use Rattle.fields.specs.Places.{ownBuffer};
 use crate::places::part_of_one;
@@ -47,7 +48,8 @@ fn field_passes(payload: &[u8], decoded: &[u8], m: FieldMap, c: Context) -> bool
 
 // Refusal 35, if a present field's span passes its buffer.
 pub fn fields_check(payload: &[u8], decoded: &[u8], m: FieldMap) -> Check
-    ensures { λ r. ⌜ r ≡ fieldsCheck (now (payload .entry)) (now (decoded .entry)) m ⌝ }
+    ensures answer { λ r. ⌜ r ≡ fieldsCheck (now (payload .entry)) (now (decoded .entry)) m ⌝ }
+    ensures numbers { λ r. ⌜ checkNumbers r ≡ fieldsInNumbers (now (payload .entry)) (now (decoded .entry)) m ⌝ }
 {
     let uri = field_passes(payload, decoded, m, Context::Uri);
     let header = field_passes(payload, decoded, m, Context::Header);

@@ -54,7 +54,7 @@ writing-among lim t n =
     (refuse-among writeCauses (ltb (lim .canonical) (length (canonicalText t))) refusal.CanonicalLength _ refl
     (refuse-among writeCauses (ltb n (length (canonicalText t))) refusal.ShortBuffer Pass refl refl))
 
-packet-among : (p decoded : List ℕ) → CheckAmong packetCauses (packetCheck p decoded)
+pub packet-among : (p decoded : List ℕ) → CheckAmong packetCauses (packetCheck p decoded)
 unfolding packetCheck any?
 packet-among p decoded =
     refuse-among packetCauses (ltb maxPacket (length p) || ltb maxDecoded (length decoded)) refusal.BufferLength _ refl

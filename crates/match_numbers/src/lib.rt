@@ -7,7 +7,7 @@ ghost use lib.Seq.{sets};
 ghost use Rattle.definitions.specs.Limits.{maxPatterns};
 ghost use Rattle.definitions.specs.Starts.{startNumber};
 ghost use Rattle.definitions.specs.Refusals.{foundNumber, foundOne};
-ghost use Rattle.definitions.specs.Queries.{answerNumbers};
+ghost use Rattle.definitions.specs.AnswerNumbers.{answerNumbers};
 ghost use Rattle.match_numbers.specs.Numbers.{numbersOfOne};
 use definitions::answers::Answer;
 use definitions::answers::Found;

@@ -15,6 +15,7 @@ use Rattle.definitions.specs.declared.answers.Answer.{Answer}
 use Rattle.definitions.specs.declared.answers.Query.{Query}
 use Rattle.definitions.specs.declared.answers.Query.the-variants.{First, Next}
 use Rattle.definitions.specs.Queries.{answers}
+use Rattle.laws.proofs.Numbers.{first-told, next-told}
 use Rattle.matcher.proofs.first.Reads as first
 use Rattle.matcher.proofs.first.Kinds as first-kinds
 use Rattle.matcher.proofs.next.Reads as next
@@ -33,13 +34,13 @@ module _ (κs : Lfts 1) (t : Table) (p d : RefT (List ℕ)) (dir : Direction) (m
   unfolding answers
   allowed-is-model done = refl
   allowed-is-model (by-first {queries = queries} {r = r} s e rest) =
-      ap (λ (l : List Answer). r ∷ l) (allowed-is-model rest) ∙ ap (λ (x : Answer). x ∷ answers t (now p) (now d) dir m (x .placement) queries) e
+      ap (λ (l : List Answer). r ∷ l) (allowed-is-model rest) ∙ ap (λ (x : Answer). x ∷ answers t (now p) (now d) dir m (x .placement) queries) (e .0)
   allowed-is-model (by-next {queries = queries} {r = r} s e rest) =
-      ap (λ (l : List Answer). r ∷ l) (allowed-is-model rest) ∙ ap (λ (x : Answer). x ∷ answers t (now p) (now d) dir m (x .placement) queries) e
+      ap (λ (l : List Answer). r ∷ l) (allowed-is-model rest) ∙ ap (λ (x : Answer). x ∷ answers t (now p) (now d) dir m (x .placement) queries) (e .0)
 
   -- and the model's list is allowed
   pub model-is-allowed : (h : Placement) (queries : List Query) → Allowed h queries (answers t (now p) (now d) dir m h queries)
   unfolding answers
   model-is-allowed h [] = done
-  model-is-allowed h (First ∷ queries) = by-first (t, (p, (d, (dir, (m, tt))))) refl (model-is-allowed _ queries)
-  model-is-allowed h (Next ∷ queries) = by-next (t, (p, (d, (dir, (m, (h, tt)))))) refl (model-is-allowed _ queries)
+  model-is-allowed h (First ∷ queries) = by-first (t, (p, (d, (dir, (m, tt))))) (first-told t (now p) (now d) dir m refl) (model-is-allowed _ queries)
+  model-is-allowed h (Next ∷ queries) = by-next (t, (p, (d, (dir, (m, (h, tt)))))) (next-told t (now p) (now d) dir m h refl) (model-is-allowed _ queries)

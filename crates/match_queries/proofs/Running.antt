@@ -14,7 +14,8 @@ use Rattle.definitions.specs.declared.packets.FieldMap.{FieldMap}
 use Rattle.definitions.specs.declared.packets.Placement.{Placement}
 use Rattle.definitions.specs.declared.answers.Answer.{Answer}
 use Rattle.definitions.specs.declared.answers.Query.the-variants.{First, Next}
-use Rattle.definitions.specs.Queries.{answerNumbers, queryAnswer, answers}
+use Rattle.definitions.specs.AnswerNumbers.{answerNumbers}
+use Rattle.definitions.specs.Queries.{queryAnswer, answers}
 use Rattle.match_numbers.specs.Numbers.{numbersOfOne}
 use Rattle.match_queries.specs.Runs.{queryOfByte, allNumbers, room, written}
 

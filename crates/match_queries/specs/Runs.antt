@@ -12,7 +12,8 @@ use Rattle.definitions.specs.declared.packets.Placement.{Placement}
 use Rattle.definitions.specs.declared.answers.Answer.{Answer}
 use Rattle.definitions.specs.declared.answers.Query.{Query}
 use Rattle.definitions.specs.declared.answers.Query.the-variants.{First, Next}
-use Rattle.definitions.specs.Queries.{answerNumbers, answers}
+use Rattle.definitions.specs.AnswerNumbers.{answerNumbers}
+use Rattle.definitions.specs.Queries.{answers}
 use Rattle.match_numbers.specs.Numbers.{numbersOfOne}
 
 -- a query is a byte: 0 is "first", any other "next"

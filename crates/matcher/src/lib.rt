@@ -2,6 +2,7 @@
 // and earlier placement; refusals 20 and 30 to 36 come first, in this order.
 ghost use mathlib.Core.Path.{_≡_};
 ghost use Rattle.definitions.specs.Answers.{verdictAnswer, firstAnswer, nextAnswer};
+ghost use Rattle.definitions.specs.AnswerNumbers.{verdictNumbers, answerNumbers, verdictInNumbers, firstInNumbers, nextInNumbers};
 use definitions::answers::Answer;
 use definitions::answers::PacketAnswer;
 use definitions::answers::Verdict;
@@ -18,7 +19,8 @@ use packet::payload_of;
 
 // THE VERDICT: met exactly if some placement meets the table.
 pub fn verdict<'a>(t: Table, p: &'a [u8], decoded: &'a [u8], dir: Direction, m: FieldMap) -> Verdict
-    ensures { λ r. ⌜ r ≡ verdictAnswer t (now (p .entry)) (now (decoded .entry)) dir m ⌝ }
+    ensures answer { λ r. ⌜ r ≡ verdictAnswer t (now (p .entry)) (now (decoded .entry)) dir m ⌝ }
+    ensures numbers { λ r. ⌜ verdictNumbers r ≡ verdictInNumbers t (now (p .entry)) (now (decoded .entry)) dir m ⌝ }
 {
     let seen = check_input(t, p, decoded);
     match seen {
@@ -34,7 +36,8 @@ pub fn verdict<'a>(t: Table, p: &'a [u8], decoded: &'a [u8], dir: Direction, m: 
 
 // FIRST: the first of the list of placements, or none.
 pub fn first<'a>(t: Table, p: &'a [u8], decoded: &'a [u8], dir: Direction, m: FieldMap) -> Answer
-    ensures { λ r. ⌜ r ≡ firstAnswer t (now (p .entry)) (now (decoded .entry)) dir m ⌝ }
+    ensures answer { λ r. ⌜ r ≡ firstAnswer t (now (p .entry)) (now (decoded .entry)) dir m ⌝ }
+    ensures numbers { λ r. ⌜ answerNumbers r ≡ firstInNumbers t (now (p .entry)) (now (decoded .entry)) dir m ⌝ }
 {
     let seen = check_input(t, p, decoded);
     match seen {
@@ -55,7 +58,8 @@ pub fn next<'a>(
     m: FieldMap,
     held: Placement,
 ) -> Answer
-    ensures { λ r. ⌜ r ≡ nextAnswer t (now (p .entry)) (now (decoded .entry)) dir m held ⌝ }
+    ensures answer { λ r. ⌜ r ≡ nextAnswer t (now (p .entry)) (now (decoded .entry)) dir m held ⌝ }
+    ensures numbers { λ r. ⌜ answerNumbers r ≡ nextInNumbers t (now (p .entry)) (now (decoded .entry)) dir m held ⌝ }
 {
     let seen = check_input(t, p, decoded);
     match seen {

@@ -2,6 +2,7 @@
 ghost use mathlib.Core.Path.{_≡_};
 ghost use Rattle.definitions.specs.Packet.{headerOf, packetAnswer};
 ghost use Rattle.definitions.specs.Fields.{shown};
+ghost use Rattle.definitions.specs.AnswerNumbers.{packetNumbers, packetInNumbers};
 ghost use Rattle.field_parts.specs.Parts.{PartOf};
 ghost use Rattle.packet.specs.Datagram.{datagramAnswer, spanBetween, payloadSpan, payloadPart};
 use definitions::answers::PacketAnswer;
@@ -69,7 +70,8 @@ fn datagram_header(d: &[u8]) -> PacketAnswer
 
 // THE PACKET: the header fields of the datagram in a lent packet, or the first due of 30 to 34.
 pub fn packet_header(p: &[u8], decoded: &[u8]) -> PacketAnswer
-    ensures { λ r. ⌜ r ≡ packetAnswer (now (p .entry)) (now (decoded .entry)) ⌝ }
+    ensures answer { λ r. ⌜ r ≡ packetAnswer (now (p .entry)) (now (decoded .entry)) ⌝ }
+    ensures numbers { λ r. ⌜ packetNumbers r ≡ packetInNumbers (now (p .entry)) (now (decoded .entry)) ⌝ }
 {
     if buffer_too_long(p, decoded) {
         return PacketAnswer::Refused(Refusal::BufferLength);

@@ -5,6 +5,7 @@ ghost use lib.ListN.{length};
 ghost use Rattle.definitions.specs.Limits.{documentLimits};
 ghost use Rattle.definitions.specs.Options.{opening};
 ghost use Rattle.definitions.specs.Reading.{read as readText};
+ghost use Rattle.definitions.specs.AnswerNumbers.{readNumbers, readInNumbers};
 ghost use Rattle.read_frame.specs.Framing.{optionsRead};
 use crate::steps::Step;
 use crate::steps::step_at;
@@ -66,7 +67,8 @@ fn read_options(s: &[u8]) -> Reading
 
 // THE READER: any bytes in, the table or a refusal with its place out.
 pub fn read(s: &[u8]) -> Reading
-    ensures { λ r. ⌜ r ≡ readText documentLimits (now (s .entry)) ⌝ }
+    ensures answer { λ r. ⌜ r ≡ readText documentLimits (now (s .entry)) ⌝ }
+    ensures numbers { λ r. ⌜ readNumbers (r .outcome) ≡ readInNumbers documentLimits (now (s .entry)) ⌝ }
 {
     let front = front_of(s);
     match front {

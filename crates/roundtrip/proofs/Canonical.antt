@@ -2,7 +2,7 @@
 -- a text
 -- are the well-formed ones. The options of the table are written option by option, stand, and make the table again.
 use mathlib.Core.Path.{_≡_, refl, sym, ap, subst, _∙_}
-use mathlib.Core.Bool.{true, false, _&&_}
+use mathlib.Core.Bool.{true, false, _&&_, false≢true}
 use mathlib.Core.List.{List, [], _∷_, _++_, append-assoc}
 use mathlib.Core.Logic.{_↔_}
 use Prim.Native.Nat.{ℕ, _+_}
@@ -10,7 +10,7 @@ use native.Mathlib.Omega.{arith}
 use lib.ListN.{length, length-take}
 use lib.Dec.{eqb·suc-zero}
 use Rattle.forms.specs.Bytes.{text}
-use Rattle.forms.proofs.Bools.{both-left}
+use Rattle.forms.proofs.Bools.{by-cases, both-left}
 use Rattle.definitions.specs.declared.table.Table.{Table}
 use Rattle.definitions.specs.declared.packets.LastMatch.the-variants.{None}
 use Rattle.definitions.specs.Lists.{all?, keep, count}
@@ -98,6 +98,11 @@ canonical-reads room t h w = syntax-exactly room (canonicalText t) t .1 (canonic
 -- REFUSAL 20 IS EXACT
 pub readable-exactly : (room : ℕ) (t : Table) → Shaped room t → Readable room t ↔ (wellFormed t ≡ true)
 readable-exactly room t h = (λ r. read-formed room (r .0) t h (r .1), λ w. (canonicalText t, canonical-reads room t h w))
+
+pub unreadable-exactly : (room : ℕ) (t : Table) → Shaped room t → (Readable room t → ⊥) ↔ (wellFormed t ≡ false)
+unreadable-exactly room t h =
+    let exact = readable-exactly room t h in
+    (λ n. by-cases (wellFormed t) (λ w. absurd (n (exact .1 w))) (λ f. f), λ f r. false≢true (sym f ∙ exact .0 r))
 
 -- two tables, two canonical texts
 pub canonical-one : (room : ℕ) (t u : Table) → Shaped room t → Shaped room u → wellFormed t ≡ true → wellFormed u ≡ true

@@ -25,3 +25,4 @@ pub mod CanonicalFits
 pub mod Printed
 pub mod Canonical
 pub mod Buffer
+pub mod Typed

@@ -1,7 +1,9 @@
 // Writing a table as canonical text into a lent buffer.
 ghost use mathlib.Core.Path.{_≡_};
 ghost use Rattle.definitions.specs.Limits.{documentLimits};
+ghost use lib.ListN.{length};
 ghost use Rattle.definitions.specs.Writing.{writes, bufferAfter};
+ghost use Rattle.definitions.specs.AnswerNumbers.{writeNumbers, writeInNumbers};
 use definitions::answers::Refusal;
 use definitions::answers::Writing;
 use definitions::limits::CANONICAL_BYTES;
@@ -33,8 +35,9 @@ fn write_measured(t: Table, room: &mut [u8; CANONICAL_BYTES], out: &mut [u8]) ->
 // THE WRITER. Any table and any buffer: 20, 21 and 22 in this order, each leaving the buffer as it was; else the canonical text at its front, the
 // bytes after it untouched, and the text's length.
 pub fn write(t: Table, out: &mut [u8]) -> Writing
-    ensures { λ r. ⌜ r ≡ writes documentLimits t (now (out .entry)) ⌝ }
-    ensures { λ _. ⌜ now (out .exit) ≡ bufferAfter documentLimits t (now (out .entry)) ⌝ }
+    ensures answer { λ r. ⌜ r ≡ writes documentLimits t (now (out .entry)) ⌝ }
+    ensures buffer { λ _. ⌜ now (out .exit) ≡ bufferAfter documentLimits t (now (out .entry)) ⌝ }
+    ensures numbers { λ r. ⌜ writeNumbers r ≡ writeInNumbers documentLimits t (length (now (out .entry))) ⌝ }
 {
     let mut room = [0u8; CANONICAL_BYTES];
     write_measured(t, &mut room, out)

@@ -16,7 +16,7 @@ packet-header-requires c κs = tt
 
 returns-2 : tie.Need-returns-2
 unfolding packetAnswer
-returns-2 c = rw (sym (c .before .before .well-formed .ensures) ∙ not-false _ (c .before .if1 .left)) (c .packet-header .ensures)
+returns-2 c = rw (sym (c .before .before .well-formed .ensures) ∙ not-false _ (c .before .if1 .left)) (c .packet-header .ensures .0)
 
 pub check-input-spec : {M : Type 1} → statement M
 check-input-spec = tie.close (tie.spec well-formed-requires returns packet-header-requires returns-2)

@@ -19,7 +19,7 @@ returns : tie.Need-returns
 returns c =
     let w = c .before .before .before .before in
     let x = w .before .before .before .args in
-    first-refused (x .t) (x .header) (x .payload .now) (x .decoded .now) (x .dir) (x .m) (w .fields-check .ensures) (c .before .before .check .given .1)
+    first-refused (x .t) (x .header) (x .payload .now) (x .decoded .now) (x .dir) (x .m) (w .fields-check .ensures .0) (c .before .before .check .given .1)
     (c .refused .ensures)
 
 enum-told : tie.Need-enum-told
@@ -35,7 +35,7 @@ returns-2 : tie.Need-returns-2
 returns-2 c =
     let w = c .before .before .before .before in
     let x = w .before .before .before .args in
-    first-found (x .t) (x .header) (x .payload .now) (x .decoded .now) (x .dir) (x .m) (w .fields-check .ensures) (c .before .before .enum-told .given .1)
+    first-found (x .t) (x .header) (x .payload .now) (x .decoded .now) (x .dir) (x .m) (w .fields-check .ensures .0) (c .before .before .enum-told .given .1)
     (replicate maxPatterns (startAt 0)) (c .before .find .ensures) (c .answered .ensures)
 
 pub first-in-spec : {M : Type 1} → statement M

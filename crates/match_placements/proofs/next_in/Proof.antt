@@ -19,7 +19,7 @@ returns : tie.Need-returns
 returns c =
     let w = c .before .before .before .before in
     let x = w .before .before .before .args in
-    next-refused (x .t) (x .header) (x .payload .now) (x .decoded .now) (x .dir) (x .m) (w .fields-check .ensures) (c .before .before .check .given .1)
+    next-refused (x .t) (x .header) (x .payload .now) (x .decoded .now) (x .dir) (x .m) (w .fields-check .ensures .0) (c .before .before .check .given .1)
     (c .refused .ensures) (x .held)
 
 enum-told : tie.Need-enum-told
@@ -37,7 +37,7 @@ returns-2 c =
     let n = c .before .before .before in
     let w = n .before .before .before .before in
     let x = w .before .before .before .args in
-    next-uncounted (x .t) (x .header) (x .payload .now) (x .decoded .now) (x .dir) (x .m) (w .fields-check .ensures) (n .before .before .enum-told .given .1)
+    next-uncounted (x .t) (x .header) (x .payload .now) (x .decoded .now) (x .dir) (x .m) (w .fields-check .ensures .0) (n .before .before .enum-told .given .1)
     (x .held) (n .positive-count .ensures (x .t .bytes)) (c .before .if1 .taken) (c .refused2 .ensures)
 
 find-requires : tie.Need-find-requires
@@ -52,7 +52,7 @@ returns-3 c =
     let n = c .before .before .before .before .before in
     let w = n .before .before .before .before in
     let x = w .before .before .before .args in
-    next-found (x .t) (x .header) (x .payload .now) (x .decoded .now) (x .dir) (x .m) (w .fields-check .ensures) (n .before .before .enum-told .given .1)
+    next-found (x .t) (x .header) (x .payload .now) (x .decoded .now) (x .dir) (x .m) (w .fields-check .ensures .0) (n .before .before .enum-told .given .1)
     (x .held) (n .positive-count .ensures (x .t .bytes)) (c .before .before .before .if1 .left) (c .before .find .ensures) (c .answered .ensures)
 
 pub next-in-spec : {M : Type 1} → statement M

@@ -12,7 +12,7 @@ first-requires c κs = search needs
 returns : tie.Need-returns
 returns c =
     let x = c .before .before .before .before .args in
-    c .first .ensures ∙ ap (queryAnswer (x .t) (x .p .now) (x .decoded .now) (x .dir) (x .m) (x .held)) (query-first (x .query) (c .before .if1 .taken))
+    c .first .ensures .0 ∙ ap (queryAnswer (x .t) (x .p .now) (x .decoded .now) (x .dir) (x .m) (x .held)) (query-first (x .query) (c .before .if1 .taken))
 
 next-requires : tie.Need-next-requires
 next-requires c κs = search needs
@@ -20,7 +20,7 @@ next-requires c κs = search needs
 returns-2 : tie.Need-returns-2
 returns-2 c =
     let x = c .before .before .before .before .args in
-    c .next .ensures ∙ ap (queryAnswer (x .t) (x .p .now) (x .decoded .now) (x .dir) (x .m) (x .held)) (query-next (x .query) (c .before .if1 .left))
+    c .next .ensures .0 ∙ ap (queryAnswer (x .t) (x .p .now) (x .decoded .now) (x .dir) (x .m) (x .held)) (query-next (x .query) (c .before .if1 .left))
 
 pub answer-to-spec : {M : Type 1} → statement M
 answer-to-spec = tie.close (tie.spec first-requires returns next-requires returns-2)

@@ -1,5 +1,6 @@
 -- A refusal is the first due of 20 and 30 to 34; else the first goes by header fields and payload.
 use mathlib.Core.Path.{_∙_}
+use Rattle.laws.proofs.Numbers.{first-told}
 use Rattle.match_placements.proofs.CheckedInput.{seen-checked, searchable}
 use Rattle.matcher.proofs.Answering.{first-refused, first-here}
 use Rattle.matcher.proofs.first.Statement.{statement}
@@ -31,7 +32,8 @@ returns : tie.Need-returns
 returns c =
     let a = c .before .before .before .before in
     let x = a .before .before .before .args in
-    first-refused (x .t) (x .p .now) (x .decoded .now) (x .dir) (x .m) (a .check-input .ensures) (c .before .before .seen .given .1) (c .refused .ensures)
+    first-told (x .t) (x .p .now) (x .decoded .now) (x .dir) (x .m)
+    (first-refused (x .t) (x .p .now) (x .decoded .now) (x .dir) (x .m) (a .check-input .ensures) (c .before .before .seen .given .1) (c .refused .ensures))
 
 returns-2 : tie.Need-returns-2
 returns-2 c =
@@ -39,7 +41,7 @@ returns-2 c =
     let a = s .before .before .before .before in
     let x = a .before .before .before .args in
     let ok = seen-checked (x .t) (x .p .now) (x .decoded .now) (a .check-input .ensures) (s .before .before .seen2 .given .1) (s .payload-of .ensures .0) in
-    c .first-in .ensures ∙ first-here ok (x .dir) (x .m)
+    first-told (x .t) (x .p .now) (x .decoded .now) (x .dir) (x .m) (c .first-in .ensures ∙ first-here ok (x .dir) (x .m))
 
 pub first-spec : {M : Type 1} → statement M
 first-spec =

@@ -1,5 +1,6 @@
 -- A refusal is the first due of 20 and 30 to 34; else the next goes by header fields and payload.
 use mathlib.Core.Path.{_∙_}
+use Rattle.laws.proofs.Numbers.{next-told}
 use Rattle.match_placements.proofs.CheckedInput.{seen-checked, searchable}
 use Rattle.matcher.proofs.Answering.{next-refused, next-here}
 use Rattle.matcher.proofs.next.Statement.{statement}
@@ -31,8 +32,9 @@ returns : tie.Need-returns
 returns c =
     let a = c .before .before .before .before in
     let x = a .before .before .before .args in
-    next-refused (x .t) (x .p .now) (x .decoded .now) (x .dir) (x .m) (a .check-input .ensures) (c .before .before .seen .given .1) (x .held)
-    (c .refused .ensures)
+    next-told (x .t) (x .p .now) (x .decoded .now) (x .dir) (x .m) (x .held)
+    (next-refused (x .t) (x .p .now) (x .decoded .now) (x .dir) (x .m) (a .check-input .ensures) (c .before .before .seen .given .1) (x .held)
+    (c .refused .ensures))
 
 returns-2 : tie.Need-returns-2
 returns-2 c =
@@ -40,7 +42,7 @@ returns-2 c =
     let a = s .before .before .before .before in
     let x = a .before .before .before .args in
     let ok = seen-checked (x .t) (x .p .now) (x .decoded .now) (a .check-input .ensures) (s .before .before .seen2 .given .1) (s .payload-of .ensures .0) in
-    c .next-in .ensures ∙ next-here ok (x .dir) (x .m) (x .held)
+    next-told (x .t) (x .p .now) (x .decoded .now) (x .dir) (x .m) (x .held) (c .next-in .ensures ∙ next-here ok (x .dir) (x .m) (x .held))
 
 pub next-spec : {M : Type 1} → statement M
 next-spec =

@@ -2,6 +2,7 @@
 use mathlib.Core.Path.{ap, _∙_}
 use Rattle.definitions.specs.declared.answers.Answer.{Answer}
 use Rattle.match_answers.specs.Verdicts.{verdictOf}
+use Rattle.laws.proofs.Numbers.{verdict-told}
 use Rattle.match_placements.proofs.CheckedInput.{seen-checked, searchable}
 use Rattle.matcher.proofs.Answering.{verdict-refused, verdict-here}
 use Rattle.matcher.proofs.verdict.Statement.{statement}
@@ -32,7 +33,8 @@ verdict-of-requires c κs = tt
 returns : tie.Need-returns
 returns c =
     let x = c .before .before .before .before .before .before .args in
-    verdict-refused (x .t) (x .p .now) (x .decoded .now) (x .dir) (x .m) (c .before .before .before .check-input .ensures) (c .before .seen .given .1)
+    verdict-told (x .t) (x .p .now) (x .decoded .now) (x .dir) (x .m)
+    (verdict-refused (x .t) (x .p .now) (x .decoded .now) (x .dir) (x .m) (c .before .before .before .check-input .ensures) (c .before .seen .given .1))
 
 returns-2 : tie.Need-returns-2
 returns-2 c =
@@ -41,7 +43,8 @@ returns-2 c =
     let a = s .before .before .before .before in
     let x = a .before .before .before .args in
     let ok = seen-checked (x .t) (x .p .now) (x .decoded .now) (a .check-input .ensures) (s .before .before .seen2 .given .1) (s .payload-of .ensures .0) in
-    c .verdict-of .ensures ∙ ap (λ (y : Answer). verdictOf (y .found)) (first .first-in .ensures) ∙ verdict-here ok (x .dir) (x .m)
+    verdict-told (x .t) (x .p .now) (x .decoded .now) (x .dir) (x .m)
+    (c .verdict-of .ensures ∙ ap (λ (y : Answer). verdictOf (y .found)) (first .first-in .ensures) ∙ verdict-here ok (x .dir) (x .m))
 
 pub verdict-spec : {M : Type 1} → statement M
 verdict-spec =

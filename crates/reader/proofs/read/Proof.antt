@@ -3,6 +3,7 @@ use mathlib.Core.Path.{sym, _∙_, subst}
 use borrow.Author.Needs.{needs}
 use Rattle.read_frame.specs.declared.Front.{Front}
 use Rattle.read_frame.specs.Framing.{Fronts}
+use Rattle.laws.proofs.Numbers.{read-told}
 use Rattle.reader.proofs.read.Statement.{statement}
 use Rattle.reader.proofs.read.Tie as tie
 
@@ -30,13 +31,13 @@ returns c =
     let front = c .before .before .before .front-of in
     let s = c .before .before .before .before .before .args .s .now in
     let g = subst (λ (f : Front). Fronts s f) (c .before .enum-told .given .1) (front .ensures) in
-    c .read-options .ensures ∙ sym (g .0)
+    read-told s (c .read-options .ensures ∙ sym (g .0))
 
 returns-2 : tie.Need-returns-2
 returns-2 c =
     let front = c .before .before .before .before .front-of in
     let s = c .before .before .before .before .before .before .args .s .now in
-    c .refused .ensures ∙ sym (subst (λ (f : Front). Fronts s f) (c .before .before .front .given .1) (front .ensures))
+    read-told s (c .refused .ensures ∙ sym (subst (λ (f : Front). Fronts s f) (c .before .before .front .given .1) (front .ensures)))
 
 pub read-spec : {M : Type 1} → statement M
 read-spec =

@@ -62,12 +62,12 @@ returns c =
     let packet = pairs-are maxLine (omega arith) _ _ _ _ (first .put-pairs .ensures) (start .pre .2) (room-is (first .before .put-pairs-arg .given .0 .1)) in
     let room = room-is (second .before .put-pairs-arg2 .given .0 .1) in
     let decoded = pairs-are maxLine (omega arith) _ _ _ _ (second .put-pairs2 .ensures) (start .pre .3) room in
-    told (accepted-is _ _ _ packet decoded (read .read .ensures) (arm .enum-told .given .1)) (c .before .before .put-query .ensures)
+    told (accepted-is _ _ _ packet decoded (read .read .ensures .0) (arm .enum-told .given .1)) (c .before .before .put-query .ensures)
 
 returns-2 : tie.Need-returns-2
 returns-2 c =
     let arm = c .before .before .before .before .before in
-    told (refused-is _ _ _ _ _ (arm .before .before .read .ensures) (arm .outcome .given .1)) (c .before .before .put-unread .ensures)
+    told (refused-is _ _ _ _ _ (arm .before .before .read .ensures .0) (arm .outcome .given .1)) (c .before .before .put-unread .ensures)
 
 same-length : tie.Need-same-length
 same-length c = same (returns c)

@@ -36,7 +36,7 @@ returns-2 : tie.Need-returns-2
 unfolding queryText
 returns-2 c =
     told
-    (queried _ _ _ _ _ _ (c .before .before .before .before .before .enum-told2 .given .1) ∙ ap answerText (sym (c .before .before .before .next .ensures)))
+    (queried _ _ _ _ _ _ (c .before .before .before .before .before .enum-told2 .given .1) ∙ ap answerText (sym (c .before .before .before .next .ensures .0)))
     (c .before .before .put-answer .ensures)
 
 returns-3 : tie.Need-returns-3
@@ -46,7 +46,7 @@ returns-3 c =
     let args = test .before .before .before .before .args in
     told
     (queried-first _ _ _ _ _ (args .queried .placement) (args .queried .kind) (test .match .keys3)
-    ∙ ap answerText (sym (c .before .before .before .first .ensures)))
+    ∙ ap answerText (sym (c .before .before .before .first .ensures .0)))
     (c .before .before .put-answer2 .ensures)
 
 same-length : tie.Need-same-length

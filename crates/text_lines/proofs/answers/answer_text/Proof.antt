@@ -27,7 +27,7 @@ returns : tie.Need-returns
 returns c =
     let x = c .before .before .before .before .before .before .before .before .before .before .args in
     let read = c .before .before .before .before .before .before .before .read in
-    told (read-line (x .s .now) (read .result) (read .ensures) (c .before .before .before .before .before .enum-told .given .1))
+    told (read-line (x .s .now) (read .result) (read .ensures .0) (c .before .before .before .before .before .enum-told .given .1))
     (c .before .before .put-table .ensures)
 
 same-length-2 : tie.Need-same-length-2
@@ -38,7 +38,7 @@ returns-2 c =
     let x = c .before .before .before .before .before .before .before .before .before .before .args in
     let read = c .before .before .before .before .before .before .before .read in
     let outcome = c .before .before .before .before .before .outcome .given in
-    told (refused-line (x .s .now) (read .result) (read .ensures) (outcome .0 .0) (outcome .0 .1 .0) (outcome .1)) (c .before .before .put-refused .ensures)
+    told (refused-line (x .s .now) (read .result) (read .ensures .0) (outcome .0 .0) (outcome .0 .1 .0) (outcome .1)) (c .before .before .put-refused .ensures)
 
 pub answer-text-spec : {M : Type 1} → statement M
 answer-text-spec =

@@ -1,0 +1,150 @@
+-- Every number of refusal with its place or effect, and the answers that refuse nothing, by examples: one table. Section "Numbers of refusal".
+-- proofs/EveryNumber.antt has the statement.
+use mathlib.Core.Bool.{Bool, false}
+use mathlib.Core.List.{List, [], _∷_, _++_, map}
+use Prim.Native.Nat.{ℕ}
+use Prim.Native.String.{String}
+use lib.ListN.{getD, replicate}
+use lib.Dec.{eqb}
+use Rattle.forms.specs.Bytes.{text}
+use Rattle.definitions.specs.declared.table.Side.the-variants.{Source}
+use Rattle.definitions.specs.declared.table.Item.the-variants as item
+use Rattle.definitions.specs.declared.table.Table.{Table}
+use Rattle.definitions.specs.declared.packets.Direction.the-variants.{Client}
+use Rattle.definitions.specs.declared.packets.FieldSpan.the-variants.{Absent, At}
+use Rattle.definitions.specs.declared.packets.FieldMap.{FieldMap}
+use Rattle.definitions.specs.Limits.{documentLimits}
+use Rattle.definitions.specs.Lists.{any?, sameBytes}
+use Rattle.definitions.specs.OptionValues.{OptionValue, Name, Protocol, Test, Pattern}
+use Rattle.definitions.specs.Tables.{tableOf}
+use Rattle.definitions.specs.Starts.{startAt}
+use Rattle.definitions.specs.Reading.{read}
+use Rattle.definitions.specs.Writing.{writes, bufferAfter}
+use Rattle.definitions.specs.Packet.{packetAnswer}
+use Rattle.definitions.specs.Fields.{fieldsCheck}
+use Rattle.definitions.specs.Answers.{placementOf, verdictAnswer, firstAnswer, nextAnswer}
+use Rattle.definitions.specs.AnswerNumbers.{readNumbers, writeNumbers, packetNumbers, checkNumbers, verdictNumbers, answerNumbers}
+use Rattle.definitions.specs.Cases.{hex, found, packetWith, uriOnly}
+
+-- what the definitions give, and what document 01 says: a number and its values
+pub record Example : Type 0 where
+  pub given : List ℕ
+  pub said : List ℕ
+
+unfoldable pub agrees : Example → Bool
+agrees e = sameBytes (e .given) (e .said)
+
+-- whether a number is said in one of the examples
+unfoldable pub shownIn : List Example → ℕ → Bool
+shownIn es n = any? (λ (e : Example). eqb (getD (e .said) 0 0) n) es
+
+-- the section's numbers
+unfoldable pub refusalNumbers : List ℕ
+refusalNumbers = 1 ∷ 2 ∷ 3 ∷ 4 ∷ 5 ∷ 6 ∷ 7 ∷ 8 ∷ 9 ∷ 10 ∷ 11 ∷ 12 ∷ 20 ∷ 21 ∷ 22 ∷ 30 ∷ 31 ∷ 32 ∷ 33 ∷ 34 ∷ 35 ∷ 36 ∷ []
+
+-- ---- what is given to the entries
+
+-- the table of some options after a name and a protocol, and one with a protocol beyond its limit
+unfoldable pub ruleWith : List OptionValue → Table
+ruleWith es = tableOf (documentLimits .room) (Name (text "n") ∷ Protocol 6 ∷ es)
+
+unfoldable pub illFormed : Table
+illFormed = tableOf (documentLimits .room) (Name (text "n") ∷ Protocol 256 ∷ [])
+
+-- 64 addresses of 18 bytes
+unfoldable pub longRule : Table
+longRule =
+    ruleWith (replicate 8
+    (Test (item.Address (record { side = Source; negated = false; count = 8 })) (replicate 8 (record { number = 4294967295; prefix = 31 }))))
+
+-- a packet of 20 bytes: from the first on, and from the flags on, as said
+unfoldable pub header : String → String → List ℕ
+header first flags = hex first ++ (hex "00140000" ++ (hex flags ++ hex "400600000102030405060708"))
+
+unfoldable pub good : List ℕ
+good = packetWith (text "aXbX")
+
+unfoldable pub noFields : FieldMap
+noFields = uriOnly Absent
+
+unfoldable pub longUri : FieldMap
+longUri = uriOnly (At (record { start = 0; len = 1 }))
+
+-- ---- examples of each entry
+
+unfoldable pub reads : String → List ℕ → Example
+reads s said = record { given = readNumbers (read documentLimits (text s) .outcome); said = said }
+
+-- an option after a name and a protocol, 31 bytes
+unfoldable pub readsOption : String → List ℕ → Example
+readsOption s said =
+    record { given = readNumbers (read documentLimits (text "F-SBID(--name \"n\";--protocol 6;" ++ (text s ++ text ")")) .outcome); said = said }
+
+-- the answer, and the whole buffer afterwards
+unfoldable pub writesTo : Table → List ℕ → List ℕ → Example
+writesTo t out said = record { given = writeNumbers (writes documentLimits t out) ++ bufferAfter documentLimits t out; said = said }
+
+unfoldable pub seen : List ℕ → List ℕ → Example
+seen p said = record { given = packetNumbers (packetAnswer p []); said = said }
+
+unfoldable pub judged : Table → List ℕ → FieldMap → List ℕ → Example
+judged t p m said = record { given = verdictNumbers (verdictAnswer t p [] Client m); said = said }
+
+unfoldable pub firstOf : Table → List ℕ → FieldMap → List ℕ → Example
+firstOf t p m said = record { given = answerNumbers (firstAnswer t p [] Client m); said = said }
+
+unfoldable pub nextOf : Table → List ℕ → List ℕ → Example
+nextOf t held said = record { given = answerNumbers (nextAnswer t good [] Client noFields (placementOf (map startAt held))); said = said }
+
+-- a refusal of "first" and "next": its number, and a placement of count 0
+unfoldable pub refusedWith : ℕ → List ℕ
+refusedWith n = n ∷ replicate 10 0
+
+unfoldable pub numberCases : List Example
+numberCases =
+    -- reading: number and place
+    readsOption "" (0 ∷ 0 ∷ []) ∷
+    reads "" (1 ∷ 0 ∷ []) ∷
+    reads "F-SBID(\t)" (2 ∷ 7 ∷ []) ∷
+    reads "f-sbid()" (3 ∷ 0 ∷ []) ∷
+    reads "F-SBID( -name \"n\"; )" (4 ∷ 8 ∷ []) ∷
+    readsOption "--tag 1;" (5 ∷ 31 ∷ []) ∷
+    readsOption "--ip_id 1x;" (6 ∷ 31 ∷ []) ∷
+    readsOption "--ip_id 65536;" (7 ∷ 31 ∷ []) ∷
+    readsOption "--same_ip;--name \"m\";" (8 ∷ 41 ∷ []) ∷
+    readsOption "--no_case;" (9 ∷ 31 ∷ []) ∷
+    readsOption "--pattern \"a\";--distance 1,match,reverse;" (10 ∷ 31 ∷ []) ∷
+    readsOption "--src_addr [0.0.0.0,0.0.0.0,0.0.0.0,0.0.0.0,0.0.0.0,0.0.0.0,0.0.0.0,0.0.0.0,0.0.0.0];" (11 ∷ 31 ∷ []) ∷
+    reads "F-SBID(--name \"n\";)" (12 ∷ 19 ∷ []) ∷
+    -- writing: number, bytes written, and the buffer; refused, it is as it was
+    writesTo (ruleWith []) (replicate 37 7) (0 ∷ 35 ∷ (text "F-SBID( --name \"n\"; --protocol 6; )" ++ (7 ∷ 7 ∷ []))) ∷
+    writesTo illFormed (7 ∷ 7 ∷ []) (20 ∷ 0 ∷ 7 ∷ 7 ∷ []) ∷
+    writesTo longRule (7 ∷ 7 ∷ []) (21 ∷ 0 ∷ 7 ∷ 7 ∷ []) ∷
+    writesTo (ruleWith []) (7 ∷ 7 ∷ []) (22 ∷ 0 ∷ 7 ∷ 7 ∷ []) ∷
+    -- a packet: number, header fields
+    seen good (0 ∷ 44 ∷ 40 ∷ 6 ∷ 0 ∷ 4663 ∷ 64 ∷ 0 ∷ 168430335 ∷ 16909060 ∷ 0 ∷ 0 ∷ []) ∷
+    seen (replicate 2049 69) (30 ∷ []) ∷
+    seen (header "3500" "0000") (31 ∷ []) ∷
+    seen (header "4600" "0000") (32 ∷ []) ∷
+    seen (header "4500" "2000") (33 ∷ []) ∷
+    seen (header "4500" "0000") (34 ∷ []) ∷
+    -- the fields: number
+    record { given = checkNumbers (fieldsCheck [] [] noFields); said = 0 ∷ [] } ∷
+    record { given = checkNumbers (fieldsCheck [] [] longUri); said = 35 ∷ [] } ∷
+    -- a verdict: number, met; refused, there is none
+    judged (ruleWith (Pattern false (text "X") ∷ [])) good noFields (0 ∷ 1 ∷ []) ∷
+    judged (ruleWith (Pattern false (text "q") ∷ [])) good noFields (0 ∷ 0 ∷ []) ∷
+    judged illFormed good noFields (20 ∷ 0 ∷ []) ∷
+    judged (ruleWith []) (replicate 2049 69) noFields (30 ∷ 0 ∷ []) ∷
+    judged (ruleWith []) (header "3500" "0000") noFields (31 ∷ 0 ∷ []) ∷
+    judged (ruleWith []) (header "4600" "0000") noFields (32 ∷ 0 ∷ []) ∷
+    judged (ruleWith []) (header "4500" "2000") noFields (33 ∷ 0 ∷ []) ∷
+    judged (ruleWith []) (header "4500" "0000") noFields (34 ∷ 0 ∷ []) ∷
+    judged (ruleWith []) good longUri (35 ∷ 0 ∷ []) ∷
+    -- first and next: number, found, count, starts and unused room
+    firstOf (ruleWith (Pattern false (text "X") ∷ [])) good noFields (found (1 ∷ [])) ∷
+    firstOf (ruleWith []) good longUri (refusedWith 35) ∷
+    nextOf (ruleWith (Pattern false (text "X") ∷ [])) (1 ∷ []) (found (3 ∷ [])) ∷
+    nextOf (ruleWith (Pattern false (text "X") ∷ [])) (3 ∷ []) (refusedWith 0) ∷
+    nextOf (ruleWith (Pattern false (text "X") ∷ [])) [] (refusedWith 36) ∷
+    []
