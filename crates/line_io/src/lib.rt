@@ -1,5 +1,7 @@
 // Standard input and output of a program that answers lines: reads blocks, writes answers, and says what failed.
+ghost use mathlib.Core.Path.{_≡_};
 ghost use Prim.Native.Nat.{_<_, _≤_};
+ghost use Rattle.line_io.specs.Blocks.{begins, isOver, oneLess, restOf, placeAfter, goesOn, Fills, Writes};
 use libc::STDERR_FILENO;
 use libc::STDIN_FILENO;
 use libc::STDOUT_FILENO;
@@ -20,7 +22,9 @@ pub struct Step {
 }
 
 // A run that begins.
-pub fn start() -> Step {
+pub fn start() -> Step
+    ensures { λ r. ⌜ r ≡ begins ⌝ }
+{
     let begun = Begun { number: 1, len: 0 };
     Step {
         begun,
@@ -33,7 +37,7 @@ pub fn start() -> Step {
 
 // The run is over.
 fn over(s: Step) -> Step
-    ensures { λ r. ⌜ r .left ≤ s .left ⌝ }
+    ensures { λ r. ⌜ r ≡ isOver s ⌝ }
 {
     let begun = s.begun;
     Step {
@@ -47,7 +51,7 @@ fn over(s: Step) -> Step
 
 // An answer is longer than the output: says so, so that nothing is lost unsaid, and the run is over.
 fn no_room(s: Step) -> Step
-    ensures { λ r. ⌜ r .left ≤ s .left ⌝ }
+    ensures { λ r. ⌜ r ≡ isOver s ⌝ }
 {
     io::write_all(STDERR_FILENO, b"an answer has no room\n");
     over(s)
@@ -55,7 +59,7 @@ fn no_room(s: Step) -> Step
 
 // A read failed: says so, and the run is over.
 fn unread(s: Step) -> Step
-    ensures { λ r. ⌜ r .left ≤ s .left ⌝ }
+    ensures { λ r. ⌜ r ≡ isOver s ⌝ }
 {
     os::fail(b"standard input");
     over(s)
@@ -64,7 +68,8 @@ fn unread(s: Step) -> Step
 // Reads a block, if all of the one before is fed.
 pub fn fill(block: &mut [u8], s: Step) -> Step
     requires { ⌜ 0 < s .left ⌝ }
-    ensures { λ r. ⌜ r .left < s .left ⌝ }
+    ensures step { λ r. ⌜ Fills (now (block .entry)) (now (block .exit)) s r ⌝ }
+    ensures less { λ r. ⌜ r .left < s .left ⌝ }
 {
     let mut next = s;
     next.left = s.left - 1;
@@ -83,15 +88,18 @@ pub fn fill(block: &mut [u8], s: Step) -> Step
 }
 
 // The bytes of the block that are still to be fed.
-pub fn rest<'a>(block: &'a [u8], s: Step) -> &'a [u8] {
+pub fn rest<'a>(block: &'a [u8], s: Step) -> &'a [u8]
+    ensures { λ r. ⌜ now r ≡ restOf (now (block .entry)) s ⌝ }
+{
     let from = s.from;
     let end = s.end;
-    if end <= block.len() {
-        if from <= end {
-            return &block[from..end];
-        }
+    if block.len() < end {
+        return &block[0..0];
     }
-    &block[0..0]
+    if end < from {
+        return &block[0..0];
+    }
+    &block[from..end]
 }
 
 // Writes the first bytes of the output; if it can't, says so. There are as many.
@@ -107,7 +115,9 @@ fn write_first(out: &[u8], put: usize) -> bool {
 }
 
 // The place after some more bytes, within the end.
-fn place_after(from: usize, taken: usize, end: usize) -> usize {
+fn place_after(from: usize, taken: usize, end: usize) -> usize
+    ensures { λ r. ⌜ r ≡ placeAfter from taken end ⌝ }
+{
     if from < end {
         if taken < end - from {
             return from + taken;
@@ -118,7 +128,8 @@ fn place_after(from: usize, taken: usize, end: usize) -> usize {
 
 // Writes the answers of a feed, and goes on after what it took.
 pub fn write_fed(out: &[u8], fed: Fed, s: Step) -> Step
-    ensures { λ r. ⌜ r .left ≤ s .left ⌝ }
+    ensures step { λ r. ⌜ Writes fed s r ⌝ }
+    ensures most { λ r. ⌜ r .left ≤ s .left ⌝ }
 {
     if !write_first(out, fed.put) {
         return over(s);
@@ -138,7 +149,8 @@ pub fn write_fed(out: &[u8], fed: Fed, s: Step) -> Step
 
 // Writes the answer to a last line that lacks its LF, where all of the input was read. The run is over.
 pub fn write_last(out: &[u8], put: usize, s: Step) -> Step
-    ensures { λ r. ⌜ r .left ≤ s .left ⌝ }
+    ensures step { λ r. ⌜ r ≡ isOver s ⌝ }
+    ensures most { λ r. ⌜ r .left ≤ s .left ⌝ }
 {
     if s.ended {
         if out.len() < put {

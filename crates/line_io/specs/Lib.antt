@@ -1,0 +1,2 @@
+-- What the contracts of `line_io` cite.
+pub mod Blocks
