@@ -4,6 +4,7 @@ ghost use mathlib.Core.Path.{_≡_};
 ghost use Rattle.definitions.specs.Queries.{queryAnswer};
 ghost use Rattle.match_queries.specs.Runs.{queryOfByte, room, written};
 use definitions::answers::Answer;
+use definitions::answers::Query;
 use definitions::packets::Direction;
 use definitions::packets::FieldMap;
 use definitions::packets::Placement;
@@ -11,7 +12,14 @@ use definitions::table::Table;
 use match_numbers::NUMBERS;
 use match_numbers::put_answer;
 
-// One query, a byte: 0 is "first", any other "next" after the placement held.
+// A query of the list that is lent, a byte: 0 is "first", any other "next".
+fn query_of(b: u8) -> Query
+    ensures { λ r. ⌜ r ≡ queryOfByte b ⌝ }
+{
+    if b == 0 { Query::First } else { Query::Next }
+}
+
+// One query: "first", or "next" after the placement held.
 fn answer_to<'a>(
     t: Table,
     p: &'a [u8],
@@ -19,14 +27,14 @@ fn answer_to<'a>(
     dir: Direction,
     m: FieldMap,
     held: Placement,
-    query: u8,
+    query: Query,
 ) -> Answer
-    ensures { λ r. ⌜ r ≡ queryAnswer t (now (p .entry)) (now (decoded .entry)) dir m held (queryOfByte query) ⌝ }
+    ensures { λ r. ⌜ r ≡ queryAnswer t (now (p .entry)) (now (decoded .entry)) dir m held query ⌝ }
 {
-    if query == 0 {
-        return matcher::first(t, p, decoded, dir, m);
+    match query {
+        Query::First => matcher::first(t, p, decoded, dir, m),
+        Query::Next => matcher::next(t, p, decoded, dir, m, held),
     }
-    matcher::next(t, p, decoded, dir, m, held)
 }
 
 // Runs the queries. Each "next" is handed the placement of the answer before it, at the start `held`. Where `out` has no room for the numbers of all
@@ -50,7 +58,8 @@ pub fn run<'a>(
     let mut h = held;
     let mut i = 0;
     while i < queries.len() {
-        let a = answer_to(t, p, decoded, dir, m, h, queries[i]);
+        let query = query_of(queries[i]);
+        let a = answer_to(t, p, decoded, dir, m, h, query);
         put_answer(&mut *out, i * NUMBERS, a);
         let placement = a.placement;
         h = placement;

@@ -1,8 +1,9 @@
 -- The buffer with the queries so far answered, and the others still to come, is what is written in the end.
-use mathlib.Core.Path.{_≡_, refl, _∙_}
+use mathlib.Core.Path.{_≡_, refl, ap, _∙_}
 use Prim.Native.Nat.{_-_, _≤_}
 use native.Mathlib.Omega.{arith}
 use lib.ListN.{length}
+use Rattle.definitions.specs.Queries.{queryAnswer}
 use Rattle.match_queries.specs.Runs.{written}
 use Rattle.match_queries.proofs.Running.{no-room, pending, run-start, run-step, run-done}
 use Rattle.match_queries.proofs.run.Statement.{statement}
@@ -25,34 +26,39 @@ loop-holds c =
     let x = c .before .before .before .before .before .args in
     (refl, omega arith, run-start (x .t) (x .p .now) (x .decoded .now) (x .dir) (x .m) (x .held) (x .queries .now) (x .out .now) (omega arith))
 
-shared-slice-read-answer-to : tie.Need-shared-slice-read-answer-to Inv-loop μ-loop
-shared-slice-read-answer-to c = omega arith
+shared-slice-read-query-of : tie.Need-shared-slice-read-query-of Inv-loop μ-loop
+shared-slice-read-query-of c = omega arith
+
+query-of-requires : tie.Need-query-of-requires Inv-loop μ-loop
+query-of-requires c κs = tt
 
 answer-to-requires : tie.Need-answer-to-requires Inv-loop μ-loop
 answer-to-requires c κs = tt
 
 mul-put-answer : tie.Need-mul-put-answer Inv-loop μ-loop
-mul-put-answer c = omega arith
+mul-put-answer c = omega (arith, c .before .before .before .before .before .before .before .before .before .before .before)
 
 put-answer-requires : tie.Need-put-answer-requires Inv-loop μ-loop
 put-answer-requires c κs = omega arith
 
 add-i : tie.Need-add-i Inv-loop μ-loop
-add-i c = omega arith
+add-i c = omega (arith, c .before .before .before .before .before .before .before .before .before .before .before .before .before .before .before)
 
 loop-less : tie.Need-loop-less Inv-loop μ-loop
 loop-less c = omega arith
 
 loop-again : tie.Need-loop-again Inv-loop μ-loop
 loop-again c =
-    let x = c .before .before .before .before .before .before .before .before .before .before .before .before .before .before .args in
-    let l = c .before .before .before .before .before .before .before .before .loop in
+    let x = c .before .before .before .before .before .before .before .before .before .before .before .before .before .before .before .args in
+    let l = c .before .before .before .before .before .before .before .before .before .loop in
     let put = c .before .before .before .put-answer in
-    let r = c .before .before .before .before .before .answer-to in (
+    let r = c .before .before .before .before .before .answer-to in
+    let query = c .before .before .before .before .before .before .query-of .ensures in
+    let answer = r .ensures ∙ ap (queryAnswer (x .t) (x .p .now) (x .decoded .now) (x .dir) (x .m) (l .h)) query in (
       put .kept .0 ∙ l .inv .0,
       omega arith,
       l .inv .2 ∙ run-step (x .t) (x .p .now) (x .decoded .now) (x .dir) (x .m) (x .queries .now) (l .out) (put .last .0) (l .h) (l .i) (r .result)
-          (c .before .before .before .before .before .before .before .loop-test .taken) (omega arith) (r .ensures) (put .ensures) (put .kept .0),
+          (c .before .before .before .before .before .before .before .before .loop-test .taken) (omega arith) answer (put .ensures) (put .kept .0),
     )
 
 same-length : tie.Need-same-length Inv-loop μ-loop
@@ -73,7 +79,8 @@ run-spec =
     μ-loop
     returns
     loop-holds
-    shared-slice-read-answer-to
+    shared-slice-read-query-of
+    query-of-requires
     answer-to-requires
     mul-put-answer
     put-answer-requires
