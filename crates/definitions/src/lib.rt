@@ -1,4 +1,4 @@
-// The types of document 01: limits, the rule table, packet and fields, answers. No code; specs/ says what they mean.
+// The types of document 01: limits, the rule table, packet and fields, answers. No code but `document_limits`; specs/ says what they mean.
 pub mod answers;
 pub mod limits;
 pub mod packets;

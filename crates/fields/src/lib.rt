@@ -25,7 +25,7 @@ pub fn is_present(m: FieldMap, c: Context) -> bool
 }
 
 // THE FIELD ENTRY: the field's bytes, at their own place in the caller's buffer. An absent field, and one past its buffer, is the empty part at
-// that buffer's start.
+// that buffer's start. Both buffers have one lifetime, so neither can be written while the caller holds the answer.
 pub fn field_of<'a>(payload: &'a [u8], decoded: &'a [u8], m: FieldMap, c: Context) -> &'a [u8]
     ensures bytes { λ r. ⌜ now r ≡ fieldOf (now (payload .entry)) (now (decoded .entry)) m c ⌝ }
     ensures part { λ r. ⌜ PartOf (ownBuffer (payload .entry) (decoded .entry) c) (fieldSpan (now (payload .entry)) (now (decoded .entry)) m c) r ⌝ }
