@@ -35,37 +35,55 @@ fn write_length(w: Writing) -> usize
     }
 }
 
-// Writes a table into a buffer, and shows the answer and the buffer.
-fn show(t: Table, buffer: &mut [u8]) {
-    let w = write(t, buffer);
+// The line that is shown: number, bytes written, buffer.
+fn put_line(out: &mut [u8], w: Writing, buffer: &[u8]) -> usize {
+    let a1 = put_decimal(out, 0, write_number(w));
+    let a2 = put(out, a1, b'\t');
+    let a3 = put_decimal(out, a2, write_length(w) as u64);
+    let a4 = put(out, a3, b'\t');
+    let a5 = put_word(out, a4, buffer);
+    put(out, a5, b'\n')
+}
+
+// Shows a line.
+fn show(w: Writing, buffer: &[u8]) {
     let mut out = [0u8; SHOWN];
-    let a1 = put_decimal(&mut out, 0, write_number(w));
-    let a2 = put(&mut out, a1, b'\t');
-    let a3 = put_decimal(&mut out, a2, write_length(w) as u64);
-    let a4 = put(&mut out, a3, b'\t');
-    let a5 = put_word(&mut out, a4, buffer);
-    let end = put(&mut out, a5, b'\n');
+    let end = put_line(&mut out, w, buffer);
     if end <= SHOWN {
         io::write_all(STDOUT_FILENO, &out[0..end]);
     }
 }
 
+// Writes a table into a buffer, and shows what came of it.
+fn try_in(t: Table, buffer: &mut [u8]) {
+    let w = write(t, buffer);
+    show(w, buffer);
+}
+
+// Of a table that a text reads as: room for more than its canonical text, for just that, and for a byte less.
+fn try_whole(t: Table) {
+    let mut roomy = [b'.'; 37];
+    try_in(t, &mut roomy);
+    let mut exact = [b'.'; 35];
+    try_in(t, &mut exact);
+    let mut short = [b'.'; 34];
+    try_in(t, &mut short);
+}
+
+// Of two tables that no text reads as: with a name of no bytes, and with a byte in room that is not used.
+fn try_edited(t: Table) {
+    let mut nameless = t;
+    nameless.len = 0;
+    let mut buffer = [b'.'; 37];
+    try_in(nameless, &mut buffer);
+    let mut stale = t;
+    stale.bytes[1023] = 1;
+    try_in(stale, &mut buffer);
+}
+
 fn main() {
     let reading = read(b"F-SBID( --name \"n\"; --protocol 6; )");
     let table = reading.table;
-    let mut roomy = [b'.'; 37];
-    show(table, &mut roomy);
-    let mut exact = [b'.'; 35];
-    show(table, &mut exact);
-    let mut short = [b'.'; 34];
-    show(table, &mut short);
-    // A name of no bytes, and a byte in room that is not used.
-    let mut nameless = table;
-    nameless.len = 0;
-    let mut buffer = [b'.'; 37];
-    show(nameless, &mut buffer);
-    let mut stale = table;
-    stale.bytes[1023] = 1;
-    let mut other = [b'.'; 37];
-    show(stale, &mut other);
+    try_whole(table);
+    try_edited(table);
 }
