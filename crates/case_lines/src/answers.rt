@@ -33,11 +33,11 @@ use write_bytes::put;
 use write_bytes::put_decimal;
 use write_bytes::put_word;
 
-// Bytes of a line before its LF.
-pub const LINE_BYTES: usize = 16384;
+// Bytes of a case: of its line, before the LF.
+pub const CASE_BYTES: usize = 16384;
 
 // Bytes that the pairs of a column write at most.
-pub const PAIRS: usize = LINE_BYTES / 2;
+pub const PAIRS: usize = CASE_BYTES / 2;
 
 // The answer to a query; the last arm is `First`, since a line whose query is `Bad` is answered before.
 fn put_query<'a>(
@@ -148,7 +148,7 @@ pub fn answer_case(
 ) -> usize
     ensures { λ r. ⌜ Puts (now (out .entry)) at (caseAnswer (now (line .entry))) (now (out .exit)) r ⌝ }
 {
-    if LINE_BYTES < line.len() {
+    if CASE_BYTES < line.len() {
         return put_word(out, at, b"bad");
     }
     let r1 = part_after(line, b'\t');

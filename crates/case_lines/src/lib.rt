@@ -5,6 +5,7 @@ ghost use lib.ListN.{take};
 ghost use Rattle.case_lines.specs.CaseAnswers.{caseAnswer};
 ghost use Rattle.write_bytes.specs.Puts.{Puts};
 ghost use Rattle.line_stream.specs.Stream.{lastLine, Feeds};
+use crate::answers::CASE_BYTES;
 use crate::answers::PAIRS;
 use crate::answers::answer_case;
 use line_stream::Begun;
@@ -15,8 +16,11 @@ use line_stream::kept;
 use line_stream::last_line;
 use line_stream::next_line;
 
+// Bytes of a line that are kept: one more than a case may have, so that a longer line is known to be longer.
+pub const LINE_BYTES: usize = CASE_BYTES + 1;
+
 // Takes bytes of the input until all are taken, or an answer has no room in the output.
-pub fn feed(input: &[u8], line: &mut [u8], out: &mut [u8], begun: Begun) -> Fed
+pub fn feed(input: &[u8], line: &mut [u8; LINE_BYTES], out: &mut [u8], begun: Begun) -> Fed
     ensures { λ r. ⌜ Feeds caseAnswer (now (input .entry)) (now (line .entry)) (now (out .entry)) (now (line .exit)) (now (out .exit)) begun r ⌝ }
 {
     // For the bytes of a case: cleared once a feed, not once a line.
@@ -32,7 +36,7 @@ pub fn feed(input: &[u8], line: &mut [u8], out: &mut [u8], begun: Begun) -> Fed
 }
 
 // After the last byte: the answer to a line that lacks its LF. The answer is how many bytes it has, more than the buffer's if it has no room.
-pub fn finish(line: &[u8], out: &mut [u8], begun: Begun) -> usize
+pub fn finish(line: &[u8; LINE_BYTES], out: &mut [u8], begun: Begun) -> usize
     ensures { λ r. ⌜ Puts (now (out .entry)) 0 (lastLine caseAnswer (begun .number) (take (begun .len) (now (line .entry)))) (now (out .exit)) r ⌝ }
 {
     let t = last_line(line, out, begun);

@@ -1,6 +1,6 @@
 // Answers cases, one a line: standard input and output (crate line_io) around the work on lines (crate case_lines).
 ghost use Prim.Native.Nat.{_<_};
-use case_lines::answers::LINE_BYTES;
+use case_lines::LINE_BYTES;
 use case_lines::feed;
 use case_lines::finish;
 use line_io::BLOCK;
@@ -11,11 +11,13 @@ use line_io::start;
 use line_io::write_fed;
 use line_io::write_last;
 
-// Bytes of a line that are kept: one more than an answer looks at.
-const LINE: usize = LINE_BYTES + 1;
-
 // Reads, answers what came and writes; at the end of the input, a last line that lacks its LF.
-fn step(block: &mut [u8; BLOCK], line: &mut [u8; LINE], out: &mut [u8; BLOCK], s: Step) -> Step
+fn step(
+    block: &mut [u8; BLOCK],
+    line: &mut [u8; LINE_BYTES],
+    out: &mut [u8; BLOCK],
+    s: Step,
+) -> Step
     requires { ⌜ 0 < s .left ⌝ }
     ensures { λ r. ⌜ r .left < s .left ⌝ }
 {
@@ -30,7 +32,7 @@ fn step(block: &mut [u8; BLOCK], line: &mut [u8; LINE], out: &mut [u8; BLOCK], s
 
 fn main() {
     let mut block = [0u8; BLOCK];
-    let mut line = [0u8; LINE];
+    let mut line = [0u8; LINE_BYTES];
     let mut out = [0u8; BLOCK];
     let mut s = start();
     while s.left > 0 {

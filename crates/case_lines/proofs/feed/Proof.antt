@@ -25,36 +25,33 @@ answer-case-requires c κs = tt
 
 next-line-requires : tie.Need-next-line-requires Inv-loop μ-loop
 next-line-requires c κs =
-    let test = c .before .before .before .before .before .before .before .before .before .before .before in
-    let first = test .before .before .before .before .before .before in
+    let test = c .before .before .before .before .before .before .before .before .before .before .before .before in
+    let first = test .before .before .before .before in
     loop.loop-lf _ (test .before .loop .inv) (first .first-line .ensures) (test .loop-test .taken)
 
 loop-less : tie.Need-loop-less Inv-loop μ-loop
 loop-less c =
-    let next = c .before .before .before .before in
-    let test = next .before .before .before .before .before .before .before .before .before .before .before .before in
+    let next = c .before .before in
+    let test = next .before .before .before .before .before .before .before .before .before .before .before .before .before in
     loop.loop-less _ (test .before .loop .inv) (test .loop-test .taken) (next .next-line .ensures)
 
 loop-again : tie.Need-loop-again Inv-loop μ-loop
 loop-again c =
-    let next = c .before .before .before .before in
+    let next = c .before .before in
     let answered = next .before .before .before .before .before in
     let kept = answered .before .before .before in
-    let test = kept .before .before .before .before in
+    let test = kept .before .before .before .before .before in
     let answer = answered .answer-case .ensures in
     loop.loop-goes _ (test .before .loop .inv) (test .loop-test .taken) (kept .kept .ensures) answer (next .next-line .ensures)
 
 returns : tie.Need-returns Inv-loop μ-loop
 returns c =
     let test = c .before in
-    let first = test .before .before .before .before .before .before in
+    let first = test .before .before .before .before in
     loop.loop-ends _ (test .before .loop .inv) (first .first-line .ensures) (test .loop-test .left)
 
 same-length : tie.Need-same-length Inv-loop μ-loop
-same-length c = returns c .same-line
-
-same-length-2 : tie.Need-same-length-2 Inv-loop μ-loop
-same-length-2 c = returns c .same-out
+same-length c = returns c .same-out
 
 pub feed-spec : {M : Type 1} → statement M
 feed-spec =
@@ -70,5 +67,4 @@ feed-spec =
     loop-less
     loop-again
     same-length
-    same-length-2
     returns)

@@ -25,7 +25,7 @@ returns c =
     let ended = c .before .before in
     let answered = ended .before .before .before .before in
     let kept = answered .before .before .before in
-    let test = kept .before .before in
+    let test = kept .before .before .before in
     let answer = answered .answer-case .ensures in
     one-waits caseAnswer (test .before .before .before .last-line .ensures) (test .if1 .taken) (kept .kept .ensures) answer (ended .end-line .ensures)
 

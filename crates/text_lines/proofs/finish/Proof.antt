@@ -26,7 +26,7 @@ returns c =
     let ended = c .before .before in
     let answered = ended .before .before .before .before in
     let kept = answered .before in
-    let test = kept .before .before in
+    let test = kept .before .before .before in
     let answer = answered .answer-text .ensures in
     one-waits (lineOf documentLimits) (test .before .before .before .last-line .ensures) (test .if1 .taken) (kept .kept .ensures) answer
     (ended .end-line .ensures)
