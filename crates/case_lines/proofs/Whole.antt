@@ -1,8 +1,9 @@
--- THE OUTPUT FOR LINES OF CASES is what any run of `feed` and `finish` writes, in whatever parts the input comes: for a line buffer that is longer than a line
--- may be, and as long as 64 bits hold the numbers of the lines.
+-- THE OUTPUT FOR LINES OF CASES is what any run of `feed` and `finish` writes, in whatever parts the input comes, as long as 64 bits hold the numbers of the
+-- lines: the line buffer that they take is one byte longer than a case may be.
 use mathlib.Core.Path.{_≡_}
 use mathlib.Core.List.{List}
 use Prim.Native.Nat.{ℕ, _+_, _<_, _^_}
+use native.Mathlib.Omega.{arith}
 use lib.ListN.{length}
 use Rattle.definitions.specs.Lines.{outputOver}
 use Rattle.case_lines.specs.CaseLines.{maxLine}
@@ -11,6 +12,6 @@ use Rattle.line_stream.specs.Runs.{Runs}
 use Rattle.line_stream.proofs.Running.{runs-output}
 use Rattle.case_lines.proofs.Kept.{kept-case}
 
-pub run-writes : {input line w : List ℕ} → maxLine < length line → length input + 1 < 2 ^ 64
+pub run-writes : {input line w : List ℕ} → length line ≡ maxLine + 1 → length input + 1 < 2 ^ 64
     → Runs caseAnswer input line (record { number = 1; len = 0 }) w → w ≡ outputOver caseAnswer input
-run-writes roomy few u = runs-output caseAnswer maxLine kept-case roomy few u
+run-writes long few u = runs-output caseAnswer maxLine kept-case (omega (arith, long)) few u

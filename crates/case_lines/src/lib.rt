@@ -21,7 +21,7 @@ pub const LINE_BYTES: usize = CASE_BYTES + 1;
 
 // Takes bytes of the input until all are taken, or an answer has no room in the output.
 pub fn feed(input: &[u8], line: &mut [u8; LINE_BYTES], out: &mut [u8], begun: Begun) -> Fed
-    ensures { λ r. ⌜ Feeds caseAnswer (now (input .entry)) (now (line .entry)) (now (out .entry)) (now (line .exit)) (now (out .exit)) begun r ⌝ }
+    ensures { λ r. ⌜ Feeds caseAnswer (now (input .entry)) (now (line .entry)) (now (out .entry)) begun (now (line .exit)) (now (out .exit)) r ⌝ }
 {
     // For the bytes of a case: cleared once a feed, not once a line.
     let mut room = [0u8; PAIRS];

@@ -1,20 +1,20 @@
 -- A part more of a line: kept as far as the buffer has room; what is kept stays the first bytes of the line.
 use mathlib.Core.Path.{_≡_, refl, sym, ap, _∙_}
-use mathlib.Core.List.{List, [], _∷_, _++_, append-assoc, append-nil}
-use Prim.Native.Nat.{ℕ, suc, _+_, _-_, _≤_, _<_}
+use mathlib.Core.List.{List, [], _∷_, _++_}
+use Prim.Native.Nat.{ℕ, zero, suc, _+_, _-_, _≤_, _<_}
 use native.Mathlib.Omega.{arith}
 use native.Mathlib.Nat.{le-refl}
 use native.Mathlib.Numerals.{add-one}
 use lib.Dec.{ltb, leb}
-use lib.ListN.{length, getD, take, set, length-append}
-use lib.Seq.{take-nil, take-all, take-append-le, length-take-le, paste, paste-zero, paste-suc, length-paste, take-paste}
+use lib.ListN.{length, getD, take, set, length-append, length-set}
+use lib.Seq.{take-nil, take-all, take-append-le, take-suc, take-suc-set, length-take-le, set-out, sets, length-sets}
 use borrow.Author.Tests.{le-ltb, ltb-true, ltb-false, leb-true, leb-false}
 use Rattle.forms.specs.Bytes.{if_then_else_}
 use Rattle.forms.proofs.Bools.{by-cases}
 use Rattle.write_bytes.specs.Clipped.{atMost}
 use Rattle.write_bytes.proofs.Clipping.{at-most-le, taken-most}
-use Rattle.line_stream.specs.Stream.{State}
-use Rattle.line_stream.specs.Steps.{fitting, Keeps}
+use Rattle.write_bytes.proofs.Whole.{most-of, most-full}
+use Rattle.line_stream.specs.Steps.{Keeps}
 
 -- ---- byte by byte
 
@@ -34,121 +34,127 @@ first-more room s b =
     let h : room ≤ length s = ltb-false (length s) room f in
     rw (length-take-le room s h, le-ltb room room (le-refl room)) (sym (take-append-le room s (b ∷ []) h)))
 
--- ---- part by part
-
--- a part more of it
-abbrev pub partly : ℕ → List ℕ → List ℕ → List ℕ
-partly room s part = s ++ take (room - length s) part
-
-pub partly-none : (room : ℕ) (s : List ℕ) → partly room s [] ≡ s
-partly-none room s = rw (take-nil (room - length s)) (append-nil s)
-
-pub partly-on : (room : ℕ) (s : List ℕ) (b : ℕ) (part : List ℕ) → partly room (more room s b) part ≡ partly room s (b ∷ part)
-partly-on room s b part =
-    by-cases (ltb (length s) room)
+-- as the front of a buffer
+pub kept-one : (line : List ℕ) (n b : ℕ) {room : ℕ} → length line ≡ room → more room (take n line) b ≡ take (suc n) (set line n b)
+kept-one line n b {room = room} e =
+    by-cases (ltb n room)
     (λ t.
-    let h : length s < room = ltb-true (length s) room t in
-    let long : length (s ++ (b ∷ [])) ≡ suc (length s) = omega (arith, length-append s (b ∷ [])) in
-    let left : room - length s ≡ suc (room - suc (length s)) = omega (arith, h) in
-    rw (t, long, left) (append-assoc s (b ∷ []) (take (room - suc (length s)) part)))
+    let h : n < length line = omega (arith, e, ltb-true n room t) in
+    rw (length-take-le n line (omega (arith, h)), t) (sym (take-suc-set line n b h)))
     (λ f.
-    let none : room - length s ≡ 0 = omega (arith, ltb-false (length s) room f) in
-    rw (f, none))
+    let h : length line ≤ n = omega (arith, e, ltb-false n room f) in
+    rw (take-all n line h, le-ltb (length line) room (omega (arith, e)), set-out line n b h) (sym (take-all (suc n) line (omega (arith, h)))))
 
--- the state of a program that keeps a part more of the line begun
-abbrev pub further : ℕ → State → List ℕ → State
-further room st part = record { number = st .number; begun = partly room (st .begun) part; written = st .written }
+-- ---- stored one after the other
 
--- ---- in a buffer, as the code keeps it
+pub sets-past : (line : List ℕ) (n : ℕ) (part : List ℕ) → length line ≤ n → sets line n part ≡ line
+sets-past line n [] h = refl
+sets-past line n (b ∷ part) h = rw (set-out line n b h) (sets-past line (suc n) part (omega (arith, h)))
 
-module _ (line : List ℕ) (len : ℕ) (part : List ℕ) where
-  fitting-part : fitting line len part ≤ length part
-  fitting-part = at-most-le (length line - len) (length part)
+-- what is past the end is not kept
+sets-fitting : (line : List ℕ) (n k : ℕ) (part : List ℕ) → length line ≤ n + k → sets line n (take k part) ≡ sets line n part
+sets-fitting line n k [] h = ap (sets line n) (take-nil k)
+sets-fitting line n zero (b ∷ part) h = sym (sets-past line n (b ∷ part) (omega (arith, h)))
+sets-fitting line n (suc k) (b ∷ part) h = sets-fitting (set line n b) (suc n) k part (omega (arith, h, length-set line n b))
 
-  fitting-room : fitting line len part ≤ length line - len
-  unfolding atMost
-  fitting-room =
-      by-cases (leb (length line - len) (length part))
-      (λ t. rw t (le-refl (length line - len)))
-      (λ f. rw f (omega (arith, leb-false (length line - len) (length part) f)))
-
-  abbrev kept : List ℕ
-  kept = paste line len part (fitting line len part)
-
-  -- past its end nothing is kept
-  kept-past : length line ≤ len → kept ≡ line
-  kept-past h =
-      let none : fitting line len part ≡ 0 = omega (arith, fitting-room, h) in
-      ap (paste line len part) none ∙ sym (paste-zero line len part)
-
-  kept-length : length kept ≡ length line
-  kept-length =
-      by-cases (leb len (length line))
-      (λ t. length-paste line len part (fitting line len part) (omega (arith, leb-true len (length line) t, fitting-room)) fitting-part)
-      (λ f. ap length (kept-past (omega (arith, leb-false len (length line) f))))
-
-  kept-partly : take (len + fitting line len part) kept ≡ partly (length line) (take len line) part
-  kept-partly =
-      by-cases (leb len (length line))
-      (λ t.
-      let h : len ≤ length line = leb-true len (length line) t in
-      take-paste line len part (fitting line len part) h fitting-part
-      ∙ rw (length-take-le len line h) (ap (λ (l : List ℕ). take len line ++ l) (sym (taken-most (length line - len) part refl refl))))
-      (λ f.
-      let h : length line ≤ len = omega (arith, leb-false len (length line) f) in
-      let left : length line - length line ≡ 0 = omega arith in
-      ap (take (len + fitting line len part)) (kept-past h)
-      ∙ take-all (len + fitting line len part) line (omega (arith, h))
-      ∙ rw (take-all len line h, left) (sym (append-nil line)))
+sets-one : (line : List ℕ) (n : ℕ) (part : List ℕ) (b : ℕ) → sets line n (part ++ (b ∷ [])) ≡ set (sets line n part) (n + length part) b
+sets-one line n [] b = let e : n + 0 ≡ n = omega arith in ap (λ (k : ℕ). set line k b) (sym e)
+sets-one line n (x ∷ part) b =
+    let e : suc n + length part ≡ n + suc (length part) = omega arith in
+    sets-one (set line n x) (suc n) part b ∙ ap (λ (k : ℕ). set (sets (set line n x) (suc n) part) k b) e
 
 -- ---- the loop over a part
 
 -- so many of the bytes that have room stand in the buffer
-pub record Copied (line₀ part line : List ℕ) (len n i : ℕ) : Type 0 where
-  pub all : n ≡ fitting line₀ len part
+pub record Copied (line₀ part line : List ℕ) (len first n i : ℕ) : Type 0 where
+  pub from : first ≡ atMost len (length line₀)
+  pub all : n ≡ atMost (length line₀ - first) (length part)
   pub some : i ≤ n
-  pub is : line ≡ paste line₀ len part i
+  pub is : line ≡ sets line₀ first (take i part)
 
-pub copied-none : {line part : List ℕ} {len r n : ℕ} → r ≡ length line - len → n ≡ atMost r (length part) → Copied line part line len n 0
-copied-none {line = line} {part = part} {len = len} e is =
-    record { all = is ∙ ap (λ (k : ℕ). atMost k (length part)) e; some = omega arith; is = paste-zero line len part }
+pub copied-none : {line part : List ℕ} {len first n : ℕ} → first ≡ atMost len (length line) → n ≡ atMost (length line - first) (length part)
+    → Copied line part line len first n 0
+copied-none e is = record { from = e; all = is; some = omega arith; is = refl }
 
-module _ {line₀ part line : List ℕ} {len n i : ℕ} (s : Copied line₀ part line len n i) where
+at-most-n : (n most : ℕ) → atMost n most ≤ n
+unfolding atMost
+at-most-n n most = by-cases (leb n most) (λ t. rw t (le-refl n)) (λ f. rw f (omega (arith, leb-false n most f)))
+
+module _ {line₀ part line : List ℕ} {len first n i : ℕ} (s : Copied line₀ part line len first n i) where
   most : n ≤ length part
-  most = omega (arith, s .all, fitting-part line₀ len part)
+  most = omega (arith, s .all, at-most-le (length line₀ - first) (length part))
 
-  pub copied-room : n ≤ length line₀ - len
-  copied-room = omega (arith, s .all, fitting-room line₀ len part)
+  pub copied-room : first + n ≤ length line₀
+  copied-room =
+      omega (arith, s .from, at-most-le len (length line₀), s .all, at-most-n (length line₀ - first) (length part))
 
-  pub copied-within : i < n → (i < length part) × (len + i < length line)
-  copied-within h =
-      let same : length (paste line₀ len part i) ≡ length line₀ = length-paste line₀ len part i (omega (arith, h, copied-room)) (omega (arith, h, most)) in
-      let long : length line ≡ length line₀ = ap length (s .is) ∙ same in
-      (omega (arith, h, most), omega (arith, h, copied-room, long))
+  same : length line ≡ length line₀
+  same = ap length (s .is) ∙ length-sets line₀ first (take i part)
 
-  pub copied-one : i < n → Copied line₀ part (set line (len + i) (getD part i 0)) len n (i + 1)
-  copied-one h = record {
-    all = s .all;
-    some = omega (arith, h);
-    is =
-        ap (λ (l : List ℕ). set l (len + i) (getD part i 0)) (s .is)
-        ∙ paste-suc line₀ len part i 0 (omega (arith, h, copied-room)) (copied-within h .0)
-        ∙ ap (paste line₀ len part) (sym (add-one i));
-  }
+  pub copied-within : i < n → (i < length part) × (first + i < length line)
+  copied-within h = (omega (arith, h, most), omega (arith, h, copied-room, same))
 
-pub copied-all : {line₀ part line : List ℕ} {len n i : ℕ} → Copied line₀ part line len n i → n ≤ i → Keeps line₀ line len part (len + n)
-copied-all {line₀ = line₀} {part = part} {len = len} {i = i} s h =
-    let e : i ≡ fitting line₀ len part = omega (arith, h, s .some, s .all) in
-    record { kept = rw (sym e) (s .is); long = ap (λ (k : ℕ). len + k) (s .all) }
+  pub copied-one : i < n → Copied line₀ part (set line (first + i) (getD part i 0)) len first n (i + 1)
+  copied-one h =
+      let few : i < length part = copied-within h .0 in
+      let long : length (take i part) ≡ i = length-take-le i part (omega (arith, few)) in
+      record {
+        from = s .from;
+        all = s .all;
+        some = omega (arith, h);
+        is =
+            ap (λ (l : List ℕ). set l (first + i) (getD part i 0)) (s .is)
+            ∙ ap (λ (k : ℕ). set (sets line₀ first (take i part)) (first + k) (getD part i 0)) (sym long)
+            ∙ sym (sets-one line₀ first (take i part) (getD part i 0))
+            ∙ ap (sets line₀ first) (sym (take-suc part i 0 few))
+            ∙ ap (λ (k : ℕ). sets line₀ first (take k part)) (sym (add-one i));
+      }
 
--- ---- what the code keeps is what the program keeps
+-- the buffer, from a place that is past its end or not
+clipped-start : (line : List ℕ) (len : ℕ) (part : List ℕ) → sets line (atMost len (length line)) part ≡ sets line len part
+unfolding atMost
+clipped-start line len part =
+    by-cases (leb len (length line))
+    (λ t. rw t)
+    (λ f.
+    let h : length line ≤ len = omega (arith, leb-false len (length line) f) in
+    rw f (sets-past line (length line) part (le-refl (length line)) ∙ sym (sets-past line len part h)))
 
-module _ {line line' : List ℕ} {len r : ℕ} {part : List ℕ} (k : Keeps line line' len part r) where
-  pub keeps-length : length line' ≡ length line
-  keeps-length = ap length (k .kept) ∙ kept-length line len part
+-- a number of bytes that is clipped twice
+clipped-sum : (len n room : ℕ) → atMost len room + atMost (room - atMost len room) n ≡ atMost (len + n) room
+clipped-sum len n room =
+    by-cases (leb (len + n) room)
+    (λ t.
+    let h : len + n ≤ room = leb-true (len + n) room t in
+    let first : atMost len room ≡ len = most-of len room (omega (arith, h)) in
+    rw (most-of (len + n) room h, first, most-full (room - len) n (omega (arith, h))))
+    (λ f.
+    let h : room < len + n = leb-false (len + n) room f in
+    rw (most-full (len + n) room (omega (arith, h)))
+    (by-cases (leb len room)
+    (λ t.
+    let g : len ≤ room = leb-true len room t in
+    rw (most-of len room g, most-of (room - len) n (omega (arith, h))) (omega (arith, g)))
+    (λ w.
+    let none : room - room ≡ 0 = omega arith in
+    rw (most-full len room (omega (arith, leb-false len room w)), none, most-of 0 n (omega arith)) (omega arith))))
 
-  pub keeps-partly : take r line' ≡ partly (length line) (take len line) part
-  keeps-partly = rw (k .kept, k .long) (kept-partly line len part)
+pub copied-all : {line₀ part line : List ℕ} {len first n i : ℕ} → Copied line₀ part line len first n i → n ≤ i → Keeps line₀ line len part (first + n)
+copied-all {line₀ = line₀} {part = part} {len = len} {first = first} {n = n} {i = i} s h =
+    let e : i ≡ n = omega (arith, h, s .some) in
+    record {
+      kept =
+          s .is
+          ∙ ap (λ (k : ℕ). sets line₀ first (take k part)) e
+          ∙ ap (sets line₀ first) (sym (taken-most (length line₀ - first) part refl (s .all)))
+          ∙ sets-fitting line₀ first (length line₀ - first) part (omega arith)
+          ∙ ap (λ (k : ℕ). sets line₀ k part) (s .from)
+          ∙ clipped-start line₀ len part;
+      long = rw (s .all, s .from) (clipped-sum len (length part) (length line₀));
+    }
+
+pub keeps-length : {line line' part : List ℕ} {len r : ℕ} → Keeps line line' len part r → length line' ≡ length line
+keeps-length {line = line} {part = part} {len = len} k = ap length (k .kept) ∙ length-sets line len part
 
 -- where all lines beyond so many bytes have one answer, any more bytes of a line are the same
 pub kept-beyond : (answer : List ℕ → List ℕ) (most : ℕ) (same : List ℕ) → ((s : List ℕ) → most < length s → answer s ≡ same)

@@ -4,7 +4,9 @@ pub mod Parts
 pub mod Keeping
 pub mod Taking
 pub mod States
+pub mod Taken
 pub mod Loop
+pub mod Feeds
 pub mod Finish
 pub mod Output
 pub mod Running

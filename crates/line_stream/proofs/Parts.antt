@@ -7,8 +7,8 @@ use native.Mathlib.Omega.{arith}
 use native.Mathlib.Nat.{not-suc-le-zero}
 use native.Mathlib.Numerals.{add-one}
 use lib.Dec.{eqb}
-use lib.ListN.{length, getD, take, drop, length-drop, drop-of-length-le}
-use lib.Seq.{drop-cons, getD-drop, take-add}
+use lib.ListN.{length, getD, take, drop, length-drop, take-append-drop, drop-of-length-le}
+use lib.Seq.{length-take-le, drop-cons, drop-drop, getD-drop, take-add}
 use borrow.Author.Tests.{eq-eqb, ne-eqb, eqb-true}
 use Rattle.forms.specs.Bytes.{run}
 use Rattle.forms.proofs.Bools.{by-cases}
@@ -62,6 +62,13 @@ module _ (s : List ℕ) (i : ℕ) where
 
   pub line-after : take (lfFrom s i) s ≡ take i s ++ lineFrom s i
   line-after = take-add i (run inLine (drop i s)) s
+
+  pub line-length : length (lineFrom s i) ≡ run inLine (drop i s)
+  line-length = length-take-le (run inLine (drop i s)) (drop i s) (run-le inLine (drop i s))
+
+  pub line-rest : drop i s ≡ lineFrom s i ++ drop (lfFrom s i) s
+  line-rest =
+      sym (take-append-drop (run inLine (drop i s)) (drop i s)) ∙ ap (λ (l : List ℕ). lineFrom s i ++ l) (drop-drop (run inLine (drop i s)) i s)
 
   -- as a slice has it
   pub line-slice : {e : ℕ} → e ≡ lfFrom s i → take (e - i) (drop i s) ≡ lineFrom s i

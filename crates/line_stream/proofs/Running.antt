@@ -1,13 +1,13 @@
 -- A RUN WRITES THE PROGRAM'S OUTPUT, in whatever parts the input comes; and no turn of it takes nothing, where every answer has room.
 use mathlib.Core.Path.{_≡_, refl, sym, ap, subst, _∙_}
-use mathlib.Core.Bool.{true, false, true≢false}
+use mathlib.Core.Bool.{true}
 use mathlib.Core.List.{List, [], _∷_, _++_, append-assoc, append-nil}
 use Prim.Native.Nat.{ℕ, _+_, _≤_, _<_, _^_}
 use native.Mathlib.Omega.{arith}
-use lib.Dec.{eqb, ltb}
+use native.Mathlib.Nat.{not-suc-le-zero}
+use lib.Dec.{eqb}
 use lib.ListN.{length, take, drop, take-append-drop}
-use lib.Seq.{length-take-le}
-use borrow.Author.Tests.{lt-ltb, le-leb, ltb-true, ltb-false}
+use borrow.Author.Tests.{lt-ltb, le-leb}
 use Rattle.forms.proofs.Bools.{by-cases}
 use Rattle.definitions.specs.Lines.{outputOver}
 use Rattle.write_bytes.specs.Puts.{maxCounted, Puts}
@@ -15,10 +15,11 @@ use Rattle.write_bytes.proofs.Putting.{same-length}
 use Rattle.write_bytes.proofs.Whole.{placed-whole}
 use Rattle.line_stream.specs.declared.Begun.{Begun}
 use Rattle.line_stream.specs.declared.Fed.{Fed}
-use Rattle.line_stream.specs.Stream.{maxLineNumber, lineAnswer, State, lineState, byteRead, after, lastLine, outputOf, hasRoom, answerFits, Feeds}
+use Rattle.line_stream.specs.Stream.{maxLineNumber, State, lineState, hasRoom, lineAnswer, byteRead, after, lastLine, outputOf, answerFits, takenOf, Feeds}
 use Rattle.line_stream.specs.Runs.{Runs, last, part}
 use Rattle.line_stream.proofs.Room.{room-counted, room-within}
 use Rattle.line_stream.proofs.States.{after-append}
+use Rattle.line_stream.proofs.Feeds.{taken-is, same-line, stands}
 use Rattle.line_stream.proofs.Output.{whole-output}
 
 module _ (answer : List ℕ → List ℕ) where
@@ -54,7 +55,7 @@ module _ (answer : List ℕ → List ℕ) where
   last-comes line b {out = out} {out' = out'} {n = n} p t =
       placed-whole out 0 p (room-counted n (length out') t) (subst (λ (k : ℕ). n ≤ k) (same-length p) (room-within n (length out') t))
 
-  part-comes : (block rest : List ℕ) {line out line' out' : List ℕ} {b : Begun} {r : Fed} → Feeds answer block line out line' out' b r
+  part-comes : (block rest : List ℕ) {line out line' out' : List ℕ} {b : Begun} {r : Fed} → Feeds answer block line out b line' out' r
       → take (r .put) out' ++ comes (drop (r .taken) block ++ rest) line' (r .begun) ≡ comes (block ++ rest) line b
   part-comes block rest {line = line} {line' = line'} {out' = out'} {b = b} {r = r} f =
       let w = take (r .put) out' in
@@ -65,8 +66,8 @@ module _ (answer : List ℕ → List ℕ) where
       sym (output-prepend w (after answer (length line') (lineState (r .begun) line' []) back))
       ∙ ap (outputOf answer) (sym (after-prepend (length line') w (lineState (r .begun) line' []) back)
       ∙ ap (λ (l : List ℕ). after answer (length line') (lineState (r .begun) line' l) back) (append-nil w)
-      ∙ ap (λ (n : ℕ). after answer n (lineState (r .begun) line' w) back) (f .same-line)
-      ∙ ap (λ (x : State). after answer (length line) x back) (f .stands)
+      ∙ ap (λ (n : ℕ). after answer n (lineState (r .begun) line' w) back) (same-line answer f)
+      ∙ ap (λ (x : State). after answer (length line) x back) (stands answer f)
       ∙ sym (after-append answer (length line) (lineState b line []) front back)
       ∙ ap (after answer (length line) (lineState b line [])) whole)
 
@@ -83,29 +84,20 @@ module _ (answer : List ℕ → List ℕ) where
 
   -- ---- each turn takes some of its input, where every answer has room
 
-  none-taken : (n : ℕ) (l : List ℕ) → n ≤ length l → take n l ≡ [] → n ≡ 0
-  none-taken n l h e = sym (length-take-le n l h) ∙ ap length e
-
   has-room : (n len : ℕ) → n < maxCounted → n ≤ len → hasRoom n len ≡ true
   has-room n len few fits = rw (lt-ltb n maxCounted few, le-leb n len fits)
 
+  some-taken : (room len : ℕ) (st : State) (l : List ℕ) → answerFits answer st len ≡ true → 0 < length l → 0 < takenOf answer room len st l
+  unfolding takenOf
+  some-taken room len st [] y h = absurd (not-suc-le-zero h)
+  some-taken room len st (b ∷ l) y h = by-cases (eqb b 10) (λ t. rw (t, y) (omega arith)) (λ f. rw f (omega arith))
+
   pub goes-on : (k : ℕ) → ((n : ℕ) (s : List ℕ) → n ≤ maxLineNumber → length (lineAnswer answer n s) ≤ k)
       → {input line out line' out' : List ℕ} {b : Begun} {r : Fed} → k ≤ length out → k < maxCounted → b .number ≤ maxLineNumber → 0 < length input
-      → Feeds answer input line out line' out' b r → 0 < r .taken
-  unfolding after
-  goes-on k short {input = input} {line = line} {out = out} {out' = out'} {b = b} {r = r} fits few counts some f =
-      by-cases (ltb 0 (r .taken)) (λ t. ltb-true 0 (r .taken) t) (λ e. absurd (stuck (z e)))
-    where
-      z : ltb 0 (r .taken) ≡ false → r .taken ≡ 0
-      z e = let h : r .taken ≤ 0 = ltb-false 0 (r .taken) e in omega (arith, h)
-
-      stuck : r .taken ≡ 0 → ⊥
-      stuck e =
-          let first = lineState b line [] in
-          let st : after answer (length line) first (take (r .taken) input) ≡ first = ap (λ (n : ℕ). after answer (length line) first (take n input)) e in
-          let none : r .put ≡ 0 = none-taken (r .put) out' (f .put) (ap (λ (x : State). x .written) (f .stands ∙ st)) in
-          let crowded : answerFits answer first (r .put) out' ≡ false =
-          subst (λ (x : State). answerFits answer x (r .put) out' ≡ false) st (f .stops (omega (arith, e, some)) .1) in
-          let len : length (lineAnswer answer (b .number) (take (b .len) line)) ≤ k = short (b .number) (take (b .len) line) counts in
-          let n = r .put + length (lineAnswer answer (b .number) (take (b .len) line)) in
-          true≢false (sym (has-room n (length out') (omega (arith, none, len, few)) (omega (arith, none, len, fits, f .same-out))) ∙ crowded)
+      → Feeds answer input line out b line' out' r → 0 < r .taken
+  goes-on k short {input = input} {line = line} {out = out} {b = b} fits few counts some f =
+      let first = lineState b line [] in
+      let n = length (lineAnswer answer (b .number) (take (b .len) line)) in
+      let most : n ≤ k = short (b .number) (take (b .len) line) counts in
+      let room : answerFits answer first (length out) ≡ true = has-room (0 + n) (length out) (omega (arith, most, few)) (omega (arith, most, fits)) in
+      omega (arith, taken-is answer f, some-taken (length line) (length out) first input room some)

@@ -2,17 +2,24 @@
 use mathlib.Core.Path.{_≡_, refl, sym, ap, _∙_}
 use mathlib.Core.Bool.{true, false}
 use mathlib.Core.List.{List, [], _∷_, _++_}
-use Prim.Native.Nat.{ℕ, _+_, _<_}
+use Prim.Native.Nat.{ℕ, suc, _+_, _<_}
+use native.Mathlib.Omega.{arith}
 use native.Mathlib.Numerals.{add-one}
 use lib.Dec.{eqb}
-use lib.ListN.{length, getD, take}
-use lib.Seq.{take-suc}
+use lib.ListN.{length, getD, take, set, length-set}
+use lib.Seq.{take-suc, sets}
 use borrow.Author.Tests.{not-true}
 use Rattle.forms.proofs.Bools.{both-left, both-right}
 use Rattle.definitions.specs.Lists.{all?}
-use Rattle.line_stream.specs.Stream.{State, longer, ended, byteRead, after}
+use Rattle.write_bytes.specs.Clipped.{atMost}
+use Rattle.write_bytes.proofs.Clipping.{taken-most}
+use Rattle.line_stream.specs.Stream.{State, ended, byteRead, after}
 use Rattle.line_stream.specs.Steps.{inLine}
-use Rattle.line_stream.proofs.Keeping.{partly-none, partly-on, further}
+use Rattle.line_stream.proofs.Keeping.{kept-one}
+
+-- a line of a number is begun, and so much was written
+abbrev pub begunLine : ℕ → List ℕ → List ℕ → State
+begunLine n w s = record { number = n; begun = s; written = w }
 
 module _ (answer : List ℕ → List ℕ) where
   -- one part after the other
@@ -21,15 +28,19 @@ module _ (answer : List ℕ → List ℕ) where
   after-append room st [] l = refl
   after-append room st (b ∷ k) l = after-append room (byteRead answer room st b) k l
 
-  -- a part without LF is kept
-  pub after-line : (room : ℕ) (st : State) (part : List ℕ) → all? inLine part ≡ true → after answer room st part ≡ further room st part
-  unfolding after all?
-  after-line room st [] t = ap (λ (s : List ℕ). record { number = st .number; begun = s; written = st .written }) (sym (partly-none room (st .begun)))
-  after-line room st (b ∷ part) t =
-      let isnt : eqb b 10 ≡ false = not-true (eqb b 10) (both-left (inLine b) (all? inLine part) t) in
-      rw isnt
-      (after-line room (longer room st b) part (both-right (inLine b) (all? inLine part) t)
-      ∙ ap (λ (s : List ℕ). record { number = st .number; begun = s; written = st .written }) (partly-on room (st .begun) b part))
+  -- a part without LF is kept, as far as the buffer has room
+  module _ (n : ℕ) (w : List ℕ) {room : ℕ} where
+    pub after-line : (line : List ℕ) (len : ℕ) (part : List ℕ) → length line ≡ room → all? inLine part ≡ true
+        → after answer room (begunLine n w (take len line)) part ≡ begunLine n w (take (atMost (len + length part) room) (sets line len part))
+    unfolding after all?
+    after-line line len [] e t = let k : len + 0 ≡ len = omega arith in ap (begunLine n w) (taken-most len line e (ap (λ (m : ℕ). atMost m room) k))
+    after-line line len (b ∷ part) e t =
+        let isnt : eqb b 10 ≡ false = not-true (eqb b 10) (both-left (inLine b) (all? inLine part) t) in
+        let k : suc len + length part ≡ len + suc (length part) = omega arith in
+        rw isnt
+        (ap (λ (s : List ℕ). after answer room (begunLine n w s) part) (kept-one line len b e)
+        ∙ after-line (set line len b) (suc len) part (length-set line len b ∙ e) (both-right (inLine b) (all? inLine part) t)
+        ∙ ap (λ (m : ℕ). begunLine n w (take (atMost m room) (sets (set line len b) (suc len) part))) k)
 
   -- LF ends the line
   pub after-lf : (room : ℕ) (st : State) (input : List ℕ) (i : ℕ) → i < length input → getD input i 0 ≡ 10

@@ -17,5 +17,5 @@ pub data Runs (answer : List ℕ → List ℕ) : List ℕ → List ℕ → Begun
       → Runs answer [] line b (take n out')
   -- some of the input is fed: what was not taken of it comes again, before the rest
   part : (block rest : List ℕ) {line out line' out' w : List ℕ} {b : Begun} {r : Fed}
-      → Feeds answer block line out line' out' b r → Runs answer (drop (r .taken) block ++ rest) line' (r .begun) w
+      → Feeds answer block line out b line' out' r → Runs answer (drop (r .taken) block ++ rest) line' (r .begun) w
       → Runs answer (block ++ rest) line b (take (r .put) out' ++ w)

@@ -5,7 +5,7 @@ use Prim.Native.Nat.{ℕ, suc, _+_, _-_}
 use mathlib.Core.List.{List, [], _++_}
 use lib.Dec.{eqb, ltb}
 use lib.ListN.{length, take, drop}
-use lib.Seq.{paste}
+use lib.Seq.{sets}
 use Rattle.forms.specs.Bytes.{if_then_else_, text, run}
 use Rattle.definitions.specs.Canonical.{decimal}
 use Rattle.write_bytes.specs.Puts.{Puts}
@@ -27,14 +27,10 @@ lfFrom s from = from + run inLine (drop from s)
 abbrev pub lineFrom : List ℕ → ℕ → List ℕ
 lineFrom s from = take (run inLine (drop from s)) (drop from s)
 
--- so many bytes of a part have room after the first `len` of a buffer
-abbrev pub fitting : List ℕ → ℕ → List ℕ → ℕ
-fitting line len part = atMost (length line - len) (length part)
-
 -- a part more after the first `len` bytes of a buffer; past its end none is kept
 pub record Keeps (line line' : List ℕ) (len : ℕ) (part : List ℕ) (r : ℕ) : Type 0 where
-  pub kept : line' ≡ paste line len part (fitting line len part)
-  pub long : r ≡ len + fitting line len part
+  pub kept : line' ≡ sets line len part
+  pub long : r ≡ atMost (len + length part) (length line)
 
 -- what is put before an answer: the line's number and a tab, if a line waits
 abbrev pub lineOpening : Bool → ℕ → List ℕ

@@ -1,13 +1,13 @@
 -- A program's output as its input comes, part by part, for a program that answers each line. Section "The line program".
 use mathlib.Core.Path.{_≡_}
-use Prim.Native.Nat.{ℕ, _+_, _≤_, _<_}
-use mathlib.Core.Bool.{Bool, false, _&&_}
+use Prim.Native.Nat.{ℕ, suc, _+_}
+use mathlib.Core.Bool.{Bool, not, _&&_}
 use mathlib.Core.List.{List, [], _∷_, _++_}
 use lib.Dec.{eqb, ltb, leb}
-use lib.ListN.{length, getD, take}
+use lib.ListN.{length, take, set}
 use Rattle.forms.specs.Bytes.{if_then_else_, text}
 use Rattle.definitions.specs.Canonical.{decimal}
-use Rattle.write_bytes.specs.Puts.{maxCounted}
+use Rattle.write_bytes.specs.Puts.{maxCounted, puts}
 use Rattle.line_stream.specs.declared.Begun.{Begun}
 use Rattle.line_stream.specs.declared.Fed.{Fed}
 
@@ -44,6 +44,11 @@ longer room st b = record {
 abbrev pub hasRoom : ℕ → ℕ → Bool
 hasRoom n len = ltb n maxCounted && leb n len
 
+-- THE LINE BUFFER after some bytes, where n are kept: each stands after the one before it, and after an LF from the front on; past the end none is kept
+unfoldable pub lineAfter : List ℕ → ℕ → List ℕ → List ℕ
+lineAfter line n [] = line
+lineAfter line n (b ∷ l) = if eqb b 10 then lineAfter line 0 l else lineAfter (set line n b) (suc n) l
+
 module _ (answer : List ℕ → List ℕ) where
   -- what is written for the line of a number: the number, tab, answer, LF
   abbrev pub lineAnswer : ℕ → List ℕ → List ℕ
@@ -70,19 +75,35 @@ module _ (answer : List ℕ → List ℕ) where
   abbrev pub outputOf : State → List ℕ
   outputOf st = st .written ++ lastLine (st .number) (st .begun)
 
-  -- the answer to the line begun has room after the first bytes of a buffer
-  abbrev pub answerFits : State → ℕ → List ℕ → Bool
-  answerFits st put out = hasRoom (put + length (lineAnswer (st .number) (st .begun))) (length out)
+  -- the answer to the line begun has room in a buffer of len bytes, after what was written
+  abbrev pub answerFits : State → ℕ → Bool
+  answerFits st len = hasRoom (length (st .written) + length (lineAnswer (st .number) (st .begun))) len
 
-  -- FEEDING, whatever is given: the code is in the program's state after what was taken of the input, the output's first bytes being what was written.
-  -- All is taken, unless an LF comes and the answer to its line has no room. Left free are the bytes of both buffers after those: of the output after what
-  -- was put, of the line after what is kept of it
-  pub record Feeds (input line out line' out' : List ℕ) (b : Begun) (r : Fed) : Type 0 where
-    pub taken : r .taken ≤ length input
-    pub put : r .put ≤ length out'
-    pub same-line : length line' ≡ length line
-    pub same-out : length out' ≡ length out
-    pub stands : lineState (r .begun) line' (take (r .put) out') ≡ after (length line) (lineState b line []) (take (r .taken) input)
-    pub stops : r .taken < length input
-        → (getD input (r .taken) 0 ≡ 10)
-        × (answerFits (after (length line) (lineState b line []) (take (r .taken) input)) (r .put) out' ≡ false)
+  -- how many bytes are taken from a state on: all, or those before the first LF whose line's answer has no room
+  unfoldable pub takenOf : ℕ → ℕ → State → List ℕ → ℕ
+  takenOf room len st [] = 0
+  takenOf room len st (b ∷ l) = if eqb b 10 && not (answerFits st len) then 0 else suc (takenOf room len (byteRead room st b) l)
+
+  module _ (input line out : List ℕ) (b : Begun) where
+    -- as many bytes of the input are taken as the output has room for their answers
+    abbrev pub bytesTaken : ℕ
+    bytesTaken = takenOf (length line) (length out) (lineState b line []) input
+
+    -- the state after those
+    abbrev pub fedState : State
+    fedState = after (length line) (lineState b line []) (take bytesTaken input)
+
+    -- the answer that had no room, if not all is taken
+    abbrev pub answerLeft : List ℕ
+    answerLeft = if ltb bytesTaken (length input) then lineAnswer (fedState .number) (fedState .begun) else []
+
+    -- FEEDING, whatever is given: how much is taken and put, and the line begun then; and both buffers, to the last byte. In the output stand the answers, and
+    -- after them the front of the one that had no room, which is not counted
+    pub record Feeds (line' out' : List ℕ) (r : Fed) : Type 0 where
+      pub fed : r ≡ record {
+        taken = bytesTaken;
+        put = length (fedState .written);
+        begun = record { number = fedState .number; len = length (fedState .begun) };
+      }
+      pub kept : line' ≡ lineAfter line (b .len) (take bytesTaken input)
+      pub put : out' ≡ puts out 0 (fedState .written ++ answerLeft) .0

@@ -2,7 +2,7 @@
 // turn, and between two steps it puts the one thing that they do not know, the answer to the line that waits.
 ghost use mathlib.Core.Path.{_≡_};
 ghost use mathlib.Core.List.{_++_};
-ghost use Prim.Native.Nat.{_-_, _≤_, _<_};
+ghost use Prim.Native.Nat.{_≤_, _<_};
 ghost use lib.ListN.{length, take};
 ghost use Rattle.forms.specs.Bytes.{text};
 ghost use Rattle.definitions.specs.Canonical.{decimal};
@@ -80,24 +80,18 @@ fn lf_from(input: &[u8], from: usize) -> usize
     i
 }
 
-// How many bytes have room after the first ones; none where those are past the end.
-fn room_after(room: usize, len: usize) -> usize
-    ensures { λ r. ⌜ r ≡ room - len ⌝ }
-{
-    if len < room { room - len } else { 0 }
-}
-
 // The bytes of a part after the first ones of a line; what the buffer has no room for is not kept. The answer is how many are kept then.
 fn keep_part(line: &mut [u8], len: usize, part: &[u8]) -> usize
     ensures { λ r. ⌜ Keeps (now (line .entry)) (now (line .exit)) len (now (part .entry)) r ⌝ }
 {
-    let n = at_most(room_after(line.len(), len), part.len());
+    let first = at_most(len, line.len());
+    let n = at_most(line.len() - first, part.len());
     let mut i = 0;
     while i < n {
-        line[len + i] = part[i];
+        line[first + i] = part[i];
         i += 1;
     }
-    len + n
+    first + n
 }
 
 // The bytes that are kept of the line begun.

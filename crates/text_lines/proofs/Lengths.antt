@@ -96,5 +96,5 @@ answer-most n s h =
     omega (arith, length-append (decimal n) (9 ∷ tail), length-append (lineOf documentLimits s) (text "\n"), decimal-most n (omega (arith, h)), line-most s)
 
 pub always-takes : {input line out line' out' : List ℕ} {b : Begun} {r : Fed} → 1049 ≤ length out → b .number ≤ maxLineNumber → 0 < length input
-    → Feeds (lineOf documentLimits) input line out line' out' b r → 0 < r .taken
+    → Feeds (lineOf documentLimits) input line out b line' out' r → 0 < r .taken
 always-takes room counts some f = goes-on (lineOf documentLimits) 1049 answer-most room (omega arith) counts some f

@@ -21,7 +21,7 @@ pub const LINE_BYTES: usize = TEXT_BYTES + 1;
 
 // Takes bytes of the input until all are taken, or an answer has no room in the output.
 pub fn feed(input: &[u8], line: &mut [u8; LINE_BYTES], out: &mut [u8], begun: Begun) -> Fed
-    ensures { λ r. ⌜ Feeds (lineOf documentLimits) (now (input .entry)) (now (line .entry)) (now (out .entry)) (now (line .exit)) (now (out .exit)) begun r ⌝ }
+    ensures { λ r. ⌜ Feeds (lineOf documentLimits) (now (input .entry)) (now (line .entry)) (now (out .entry)) begun (now (line .exit)) (now (out .exit)) r ⌝ }
 {
     let mut t = first_line(input, line, out, begun);
     while t.waits {

@@ -2,6 +2,7 @@
 use Rattle.case_lines.specs.CaseAnswers.{caseAnswer}
 use Rattle.line_stream.specs.Steps.{linesLeft}
 use Rattle.line_stream.proofs.Loop as loop
+use Rattle.line_stream.proofs.Feeds.{same-out}
 use Rattle.case_lines.proofs.feed.Statement.{statement}
 use Rattle.case_lines.proofs.feed.Tie as tie
 
@@ -51,7 +52,7 @@ returns c =
     loop.loop-ends _ (test .before .loop .inv) (first .first-line .ensures) (test .loop-test .left)
 
 same-length : tie.Need-same-length Inv-loop μ-loop
-same-length c = returns c .same-out
+same-length c = same-out _ (returns c)
 
 pub feed-spec : {M : Type 1} → statement M
 feed-spec =

@@ -1,24 +1,31 @@
 -- Byte by byte: so many bytes of the part stand after those that were kept.
 use Prim.Native.Nat.{_-_}
 use native.Mathlib.Omega.{arith}
+use lib.ListN.{length}
+use Rattle.write_bytes.proofs.Clipping.{at-most-le}
 use Rattle.line_stream.proofs.Keeping.{Copied, copied-none, copied-within, copied-room, copied-one, copied-all, keeps-length}
 use Rattle.line_stream.proofs.keep_part.Statement.{statement}
 use Rattle.line_stream.proofs.keep_part.Tie as tie
 
 abbrev Inv-loop : tie.InvT-loop
-Inv-loop line₀ len part n i₀ line i = Copied line₀ part line len n i
+Inv-loop line₀ len part first n i₀ line i = Copied line₀ part line len first n i
 
 abbrev μ-loop : tie.MeasureT-loop
-μ-loop line₀ len part n i₀ line i = n - i
-
-room-after-requires : tie.Need-room-after-requires Inv-loop μ-loop
-room-after-requires c κs = tt
+μ-loop line₀ len part first n i₀ line i = n - i
 
 at-most-requires : tie.Need-at-most-requires Inv-loop μ-loop
 at-most-requires c κs = tt
 
+sub-at-most : tie.Need-sub-at-most Inv-loop μ-loop
+sub-at-most c =
+    let args = c .before .before .before .args in
+    omega (arith, c .at-most .ensures, at-most-le (args .len) (length (args .line .now)))
+
+at-most-requires-2 : tie.Need-at-most-requires-2 Inv-loop μ-loop
+at-most-requires-2 c κs = tt
+
 loop-holds : tie.Need-loop-holds Inv-loop μ-loop
-loop-holds c = copied-none (c .before .room-after .ensures) (c .at-most .ensures)
+loop-holds c = copied-none (c .before .at-most .ensures) (c .at-most2 .ensures)
 
 shared-slice-read-line : tie.Need-shared-slice-read-line Inv-loop μ-loop
 shared-slice-read-line c = copied-within (c .before .before .loop .inv) (c .before .loop-test .taken) .0
@@ -53,8 +60,9 @@ keep-part-spec =
     (tie.spec
     Inv-loop
     μ-loop
-    room-after-requires
     at-most-requires
+    sub-at-most
+    at-most-requires-2
     loop-holds
     shared-slice-read-line
     add-line

@@ -3,6 +3,7 @@ use Rattle.definitions.specs.Limits.{documentLimits}
 use Rattle.definitions.specs.Lines.{lineOf}
 use Rattle.line_stream.specs.Steps.{linesLeft}
 use Rattle.line_stream.proofs.Loop as loop
+use Rattle.line_stream.proofs.Feeds.{same-out}
 use Rattle.text_lines.proofs.feed.Statement.{statement}
 use Rattle.text_lines.proofs.feed.Tie as tie
 
@@ -52,7 +53,7 @@ returns c =
     loop.loop-ends _ (test .before .loop .inv) (first .first-line .ensures) (test .loop-test .left)
 
 same-length : tie.Need-same-length Inv-loop μ-loop
-same-length c = returns c .same-out
+same-length c = same-out _ (returns c)
 
 pub feed-spec : {M : Type 1} → statement M
 feed-spec =
