@@ -8,9 +8,22 @@ use lib.ListN.{length}
 use Rattle.definitions.specs.Lines.{outputOver}
 use Rattle.case_lines.specs.CaseLines.{maxLine}
 use Rattle.case_lines.specs.CaseAnswers.{caseAnswer}
+use Rattle.line_stream.specs.declared.Begun.{Begun}
+use Rattle.line_stream.specs.declared.Fed.{Fed}
+use Rattle.line_stream.specs.Stream.{Feeds}
+use Rattle.line_stream.specs.Whole.{WholeLines}
 use Rattle.line_stream.specs.Runs.{Runs}
+use Rattle.line_stream.proofs.Whole.{feeds-whole}
 use Rattle.line_stream.proofs.Running.{runs-output}
 use Rattle.case_lines.proofs.Kept.{kept-case}
+
+-- ---- a feed answers whole lines
+
+pub feed-whole : {input line out line' out' : List ℕ} {b : Begun} {r : Fed} → length line ≡ maxLine + 1
+    → Feeds caseAnswer input line out b line' out' r → WholeLines caseAnswer input line b line' out' r
+feed-whole long f = feeds-whole caseAnswer maxLine kept-case (omega (arith, long)) f
+
+-- ---- a run
 
 pub run-writes : {input line w : List ℕ} → length line ≡ maxLine + 1 → length input + 1 < 2 ^ 64
     → Runs caseAnswer input line (record { number = 1; len = 0 }) w → w ≡ outputOver caseAnswer input

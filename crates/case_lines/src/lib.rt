@@ -5,6 +5,7 @@ ghost use lib.ListN.{take};
 ghost use Rattle.case_lines.specs.CaseAnswers.{caseAnswer};
 ghost use Rattle.write_bytes.specs.Puts.{Puts};
 ghost use Rattle.line_stream.specs.Stream.{lastLine, Feeds};
+ghost use Rattle.line_stream.specs.Whole.{WholeLines};
 use crate::answers::CASE_BYTES;
 use crate::answers::PAIRS;
 use crate::answers::answer_case;
@@ -22,6 +23,7 @@ pub const LINE_BYTES: usize = CASE_BYTES + 1;
 // Takes bytes of the input until all are taken, or an answer has no room in the output.
 pub fn feed(input: &[u8], line: &mut [u8; LINE_BYTES], out: &mut [u8], begun: Begun) -> Fed
     ensures { λ r. ⌜ Feeds caseAnswer (now (input .entry)) (now (line .entry)) (now (out .entry)) begun (now (line .exit)) (now (out .exit)) r ⌝ }
+    ensures whole { λ r. ⌜ WholeLines caseAnswer (now (input .entry)) (now (line .entry)) begun (now (line .exit)) (now (out .exit)) r ⌝ }
 {
     // For the bytes of a case: cleared once a feed, not once a line.
     let mut room = [0u8; PAIRS];

@@ -8,5 +8,6 @@ pub mod Taken
 pub mod Loop
 pub mod Feeds
 pub mod Finish
+pub mod Whole
 pub mod Output
 pub mod Running

@@ -2,7 +2,7 @@
 use mathlib.Core.Path.{_≡_, refl, sym, ap, _∙_}
 use mathlib.Core.Bool.{true, false}
 use mathlib.Core.List.{List, [], _∷_, _++_, append-assoc}
-use Prim.Native.Nat.{ℕ, zero, suc, _+_, _-_, _<_, _^_}
+use Prim.Native.Nat.{ℕ, suc, _+_, _<_, _^_}
 use native.Mathlib.Omega.{arith}
 use native.Mathlib.Numerals.{add-one}
 use lib.Dec.{eqb}
@@ -13,8 +13,10 @@ use Rattle.forms.specs.Bytes.{if_then_else_, text}
 use Rattle.forms.proofs.Bools.{by-cases}
 use Rattle.definitions.specs.Canonical.{decimal}
 use Rattle.definitions.specs.Lines.{lineTexts, linesFrom, outputOver}
-use Rattle.line_stream.specs.Stream.{maxLineNumber, nextNumber, lineAnswer, State, byteRead, after, lastLine, start, outputOf}
-use Rattle.line_stream.proofs.Keeping.{first-more}
+use Rattle.line_stream.specs.Stream.{maxLineNumber, nextNumber, State, start, lineAnswer, after, lastLine, outputOf}
+use Rattle.line_stream.specs.Whole.{wholeRead, wholeAfter}
+use Rattle.line_stream.proofs.States.{begunLine}
+use Rattle.line_stream.proofs.Whole.{after-clipped, last-clipped}
 
 texts-on : (line : List ℕ) (b : ℕ) (l : List ℕ) → lineTexts line (b ∷ l) ≡ (if eqb b 10 then line ∷ lineTexts [] l else lineTexts (line ++ (b ∷ [])) l)
 unfolding lineTexts
@@ -39,61 +41,47 @@ module _ (answer : List ℕ → List ℕ) where
   texts-end n [] = refl
   texts-end n (b ∷ line) = refl
 
-  -- ---- where more than `most` bytes of a line change no answer, and more are kept
-  module _ (most room : ℕ) (kept : (m : ℕ) (s : List ℕ) → most < m → answer (take m s) ≡ answer s) (roomy : most < room) where
-    clipped : (n m : ℕ) (s : List ℕ) → most < m → lastLine answer n (take m s) ≡ lastLine answer n s
-    clipped n m [] g = ap (lastLine answer n) (take-nil m)
-    clipped n zero (x ∷ s) g = absurd (let z : ⊥ = omega (arith, g) in z)
-    clipped n (suc m) (x ∷ s) g = ap (λ (l : List ℕ). decimal n ++ (9 ∷ (l ++ (10 ∷ [])))) (kept (suc m) (x ∷ s) g)
+  abbrev Comes : ℕ → List ℕ → List ℕ → List ℕ → Type 0
+  Comes n s w input = w ++ linesFrom answer n (lineTexts s input) ≡ outputOf answer (wholeAfter answer (begunLine n w s) input)
 
-    abbrev at : ℕ → List ℕ → List ℕ → State
-    at n s w = record { number = n; begun = s; written = w }
+  module _ (n : ℕ) (s w : List ℕ) (b : ℕ) (l : List ℕ) where
+    read-end : n + suc (length l) < 2 ^ 64 → eqb b 10 ≡ true
+        → wholeRead answer (begunLine n w s) b ≡ begunLine (suc n) (w ++ lineAnswer answer n s) []
+    read-end few t = rw t (ap (λ (m : ℕ). begunLine m (w ++ lineAnswer answer n s) []) (next-is n (length l) few))
 
-    -- the state of a program that has read so much of the line begun
-    abbrev reading : ℕ → List ℕ → List ℕ → State
-    reading n s w = at n (take room s) w
+    comes-end : n + suc (length l) < 2 ^ 64 → eqb b 10 ≡ true → Comes (suc n) [] (w ++ lineAnswer answer n s) l → Comes n s w (b ∷ l)
+    unfolding wholeAfter
+    comes-end few t next =
+        ap (λ (x : List (List ℕ)). w ++ linesFrom answer n x) (texts-on s b l ∙ rw t)
+        ∙ ap (λ (x : List ℕ). w ++ x) (lines-on n s (lineTexts [] l))
+        ∙ sym (append-assoc w (lineAnswer answer n s) (linesFrom answer (suc n) (lineTexts [] l)))
+        ∙ next
+        ∙ ap (λ (x : State). outputOf answer (wholeAfter answer x l)) (sym (read-end few t))
 
-    read-end : (n : ℕ) (s w : List ℕ) (b k : ℕ) → n + suc k < 2 ^ 64 → eqb b 10 ≡ true
-        → byteRead answer room (reading n s w) b ≡ reading (suc n) [] (w ++ lineAnswer answer n s)
-    read-end n s w b k few t =
-        rw t
-        (ap (λ (m : ℕ). at m [] (w ++ lineAnswer answer n (take room s))) (next-is n k few)
-        ∙ ap (λ (l : List ℕ). at (suc n) l (w ++ lineAnswer answer n (take room s))) (sym (take-nil room))
-        ∙ ap (λ (l : List ℕ). reading (suc n) [] (w ++ (decimal n ++ (9 ∷ (l ++ (10 ∷ [])))))) (kept room s roomy))
+    comes-on : eqb b 10 ≡ false → Comes n (s ++ (b ∷ [])) w l → Comes n s w (b ∷ l)
+    unfolding wholeAfter
+    comes-on f next =
+        let on : wholeRead answer (begunLine n w s) b ≡ begunLine n w (s ++ (b ∷ [])) = rw f in
+        ap (λ (x : List (List ℕ)). w ++ linesFrom answer n x) (texts-on s b l ∙ rw f)
+        ∙ next
+        ∙ ap (λ (x : State). outputOf answer (wholeAfter answer x l)) (sym on)
 
-    read-on : (n : ℕ) (s w : List ℕ) (b : ℕ) → eqb b 10 ≡ false → byteRead answer room (reading n s w) b ≡ reading n (s ++ (b ∷ [])) w
-    read-on n s w b f = rw f (ap (λ (l : List ℕ). at n l w) (first-more room s b))
+  to-come : (n : ℕ) (s w input : List ℕ) → n + length input < 2 ^ 64 → Comes n s w input
+  unfolding wholeAfter
+  to-come n s w [] few = ap (λ (l : List ℕ). w ++ l) (texts-end n s)
+  to-come n s w (b ∷ l) few =
+      by-cases (eqb b 10)
+      (λ t. comes-end n s w b l few t (to-come (suc n) [] (w ++ lineAnswer answer n s) l (omega (arith, few))))
+      (λ f. comes-on n s w b l f (to-come n (s ++ (b ∷ [])) w l (omega (arith, few))))
 
-    abbrev Comes : ℕ → List ℕ → List ℕ → List ℕ → Type 0
-    Comes n s w input = w ++ linesFrom answer n (lineTexts s input) ≡ outputOf answer (after answer room (reading n s w) input)
+  -- ---- and where more than `most` bytes of a line change no answer, and more are kept
 
-    module _ (n : ℕ) (s w : List ℕ) (b : ℕ) (l : List ℕ) where
-      comes-end : n + suc (length l) < 2 ^ 64 → eqb b 10 ≡ true → Comes (suc n) [] (w ++ lineAnswer answer n s) l → Comes n s w (b ∷ l)
-      unfolding after
-      comes-end few t next =
-          ap (λ (x : List (List ℕ)). w ++ linesFrom answer n x) (texts-on s b l ∙ rw t)
-          ∙ ap (λ (x : List ℕ). w ++ x) (lines-on n s (lineTexts [] l))
-          ∙ sym (append-assoc w (lineAnswer answer n s) (linesFrom answer (suc n) (lineTexts [] l)))
-          ∙ next
-          ∙ ap (λ (x : State). outputOf answer (after answer room x l)) (sym (read-end n s w b (length l) few t))
-
-      comes-on : eqb b 10 ≡ false → Comes n (s ++ (b ∷ [])) w l → Comes n s w (b ∷ l)
-      unfolding after
-      comes-on f next =
-          ap (λ (x : List (List ℕ)). w ++ linesFrom answer n x) (texts-on s b l ∙ rw f)
-          ∙ next
-          ∙ ap (λ (x : State). outputOf answer (after answer room x l)) (sym (read-on n s w b f))
-
-    to-come : (n : ℕ) (s w input : List ℕ) → n + length input < 2 ^ 64 → Comes n s w input
-    unfolding after
-    to-come n s w [] few = ap (λ (l : List ℕ). w ++ l) (texts-end n s ∙ sym (clipped n room s roomy))
-    to-come n s w (b ∷ l) few =
-        by-cases (eqb b 10)
-        (λ t. comes-end n s w b l few t (to-come (suc n) [] (w ++ lineAnswer answer n s) l (omega (arith, few))))
-        (λ f. comes-on n s w b l f (to-come n (s ++ (b ∷ [])) w l (omega (arith, few))))
-
-    pub whole-output : (input : List ℕ) → length input + 1 < 2 ^ 64 → outputOver answer input ≡ outputOf answer (after answer room start input)
-    unfolding outputOver
-    whole-output input few =
-        to-come 1 [] [] input (omega (arith, few))
-        ∙ ap (λ (s : List ℕ). outputOf answer (after answer room (at 1 s []) input)) (take-nil room)
+  pub whole-output : (most room : ℕ) → ((m : ℕ) (s : List ℕ) → most < m → answer (take m s) ≡ answer s) → most < room → (input : List ℕ)
+      → length input + 1 < 2 ^ 64 → outputOver answer input ≡ outputOf answer (after answer room start input)
+  unfolding outputOver
+  whole-output most room kept roomy input few =
+      let st = wholeAfter answer start input in
+      to-come 1 [] [] input (omega (arith, few))
+      ∙ ap (λ (l : List ℕ). st .written ++ l) (sym (last-clipped answer most kept room roomy (st .number) (st .begun)))
+      ∙ ap (outputOf answer) (sym (after-clipped answer most kept room roomy start input))
+      ∙ ap (λ (s : List ℕ). outputOf answer (after answer room (begunLine 1 [] s) input)) (take-nil room)

@@ -6,6 +6,7 @@ ghost use Rattle.definitions.specs.Limits.{documentLimits};
 ghost use Rattle.definitions.specs.Lines.{lineOf};
 ghost use Rattle.write_bytes.specs.Puts.{Puts};
 ghost use Rattle.line_stream.specs.Stream.{lastLine, Feeds};
+ghost use Rattle.line_stream.specs.Whole.{WholeLines};
 use crate::answers::answer_text;
 use definitions::limits::TEXT_BYTES;
 use line_stream::Begun;
@@ -22,6 +23,7 @@ pub const LINE_BYTES: usize = TEXT_BYTES + 1;
 // Takes bytes of the input until all are taken, or an answer has no room in the output.
 pub fn feed(input: &[u8], line: &mut [u8; LINE_BYTES], out: &mut [u8], begun: Begun) -> Fed
     ensures { λ r. ⌜ Feeds (lineOf documentLimits) (now (input .entry)) (now (line .entry)) (now (out .entry)) begun (now (line .exit)) (now (out .exit)) r ⌝ }
+    ensures whole { λ r. ⌜ WholeLines (lineOf documentLimits) (now (input .entry)) (now (line .entry)) begun (now (line .exit)) (now (out .exit)) r ⌝ }
 {
     let mut t = first_line(input, line, out, begun);
     while t.waits {

@@ -4,6 +4,7 @@ use Rattle.definitions.specs.Lines.{lineOf}
 use Rattle.line_stream.specs.Steps.{linesLeft}
 use Rattle.line_stream.proofs.Loop as loop
 use Rattle.line_stream.proofs.Feeds.{same-out}
+use Rattle.text_lines.proofs.Whole.{feed-whole}
 use Rattle.text_lines.proofs.feed.Statement.{statement}
 use Rattle.text_lines.proofs.feed.Tie as tie
 
@@ -50,10 +51,11 @@ returns : tie.Need-returns Inv-loop μ-loop
 returns c =
     let test = c .before in
     let first = test .before .before .before .before in
-    loop.loop-ends _ (test .before .loop .inv) (first .first-line .ensures) (test .loop-test .left)
+    let feeds = loop.loop-ends _ (test .before .loop .inv) (first .first-line .ensures) (test .loop-test .left) in
+    (feeds, feed-whole (first .before .before .first-line-arg .given .0 .1) feeds)
 
 same-length : tie.Need-same-length Inv-loop μ-loop
-same-length c = same-out _ (returns c)
+same-length c = same-out _ (returns c .0)
 
 pub feed-spec : {M : Type 1} → statement M
 feed-spec =
