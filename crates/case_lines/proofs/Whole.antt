@@ -1,5 +1,5 @@
--- THE OUTPUT FOR LINES OF CASES is what any run of `feed` and `finish` writes, in whatever parts the input comes, as long as 64 bits hold the numbers of the
--- lines: the line buffer that they take is one byte longer than a case may be.
+-- The line buffer of `feed` and `finish` is one byte longer than a case may be: so they answer whole lines, and any run of them writes THE OUTPUT FOR LINES OF
+-- CASES, in whatever parts the input comes, as long as 64 bits hold the numbers of the lines.
 use mathlib.Core.Path.{_≡_}
 use mathlib.Core.List.{List}
 use Prim.Native.Nat.{ℕ, _+_, _<_, _^_}
@@ -19,9 +19,9 @@ use Rattle.case_lines.proofs.Kept.{kept-case}
 
 -- ---- a feed answers whole lines
 
-pub feed-whole : {input line out line' out' : List ℕ} {b : Begun} {r : Fed} → length line ≡ maxLine + 1
-    → Feeds caseAnswer input line out b line' out' r → WholeLines caseAnswer input line b line' out' r
-feed-whole long f = feeds-whole caseAnswer maxLine kept-case (omega (arith, long)) f
+pub feed-whole : {input line out line' out' : List ℕ} {b : Begun} {r : Fed} → Feeds caseAnswer input line out b line' out' r
+    → length line ≡ maxLine + 1 → WholeLines caseAnswer input line b line' out' r
+feed-whole f long = feeds-whole caseAnswer maxLine kept-case (omega (arith, long)) f
 
 -- ---- a run
 

@@ -1,9 +1,9 @@
--- WHAT A FEED LEAVES, from its equations: the buffers are as long as before, the output's first bytes are what was written, and line buffer and line begun stand
--- for the program's state after what was taken. Byte by byte: an LF is taken only where its line's answer has room.
+-- WHAT A FEED LEAVES, from its equations: the buffers are as long as before, the output's first bytes are what was written, and line buffer and line begun
+-- stand for the program's state after what was taken. Byte by byte: an LF is taken only where its line's answer has room.
 use mathlib.Core.Path.{_≡_, refl, sym, ap, subst, _∙_}
-use mathlib.Core.Bool.{true, false, not, _&&_}
+use mathlib.Core.Bool.{true, false}
 use mathlib.Core.List.{List, [], _∷_, _++_}
-use Prim.Native.Nat.{ℕ, suc, _+_, _≤_, _<_}
+use Prim.Native.Nat.{ℕ, suc, _≤_, _<_}
 use native.Mathlib.Omega.{arith}
 use native.Mathlib.Nat.{not-suc-le-zero, le-of-suc-le-suc}
 use lib.Dec.{eqb}

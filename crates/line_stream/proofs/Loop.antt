@@ -1,16 +1,15 @@
 -- THE LOOP of a feed, whatever is answered: after each line the code is in the program's state after the bytes taken so far, and what is still to come is what
 -- comes from there on. A program's proof of `feed` cites `Loop`, its invariant, and the five laws on it.
 use mathlib.Core.Path.{_≡_, refl, sym, ap, subst, _∙_}
-use mathlib.Core.Bool.{true, false, true≢false, false≢true}
+use mathlib.Core.Bool.{true, false, false≢true}
 use mathlib.Core.List.{List, [], _∷_, _++_, append-assoc, append-nil}
 use Prim.Native.Nat.{ℕ, suc, _+_, _≤_, _<_}
 use native.Mathlib.Omega.{arith}
-use native.Mathlib.Nat.{le-refl}
 use native.Mathlib.Numerals.{add-one}
 use lib.Dec.{ltb}
 use lib.ListN.{length, getD, take, drop, length-append}
 use lib.Seq.{length-take-le, sets, length-sets, take-suc}
-use borrow.Author.Tests.{lt-ltb, le-ltb, ltb-true, ltb-false}
+use borrow.Author.Tests.{lt-ltb, ltb-true, ltb-false}
 use Rattle.forms.specs.Bytes.{if_then_else_, text}
 use Rattle.forms.proofs.Bools.{by-cases}
 use Rattle.definitions.specs.Canonical.{decimal}
@@ -22,7 +21,7 @@ use Rattle.line_stream.specs.declared.Begun.{Begun}
 use Rattle.line_stream.specs.declared.Fed.{Fed}
 use Rattle.line_stream.specs.declared.Feeding.{Feeding}
 use Rattle.line_stream.specs.Stream.{State, lineState, ended, after, hasRoom, lineAnswer, lineAfter, answerFits, takenOf, Feeds}
-use Rattle.line_stream.specs.Steps.{lfFrom, lineFrom, lineOpening, Takes, Nexts, linesLeft}
+use Rattle.line_stream.specs.Steps.{lfFrom, lineFrom, Takes, Nexts, linesLeft}
 use Rattle.line_stream.proofs.Room.{line-put, all-counted, room-same, room-counted}
 use Rattle.line_stream.proofs.Parts.{line-within, line-lf, line-inside, line-after, line-length, line-rest}
 use Rattle.line_stream.proofs.Keeping.{keeps-length}

@@ -15,7 +15,8 @@ use Rattle.write_bytes.proofs.Putting.{same-length}
 use Rattle.write_bytes.proofs.Whole.{placed-whole}
 use Rattle.line_stream.specs.declared.Begun.{Begun}
 use Rattle.line_stream.specs.declared.Fed.{Fed}
-use Rattle.line_stream.specs.Stream.{maxLineNumber, State, lineState, hasRoom, lineAnswer, byteRead, after, lastLine, outputOf, answerFits, takenOf, Feeds}
+use Rattle.line_stream.specs.Stream.{maxLineNumber, State, lineState, hasRoom, lineAnswer, byteRead, after, lastLine, outputOf}
+use Rattle.line_stream.specs.Stream.{answerFits, takenOf, Feeds}
 use Rattle.line_stream.specs.Runs.{Runs, last, part}
 use Rattle.line_stream.proofs.Room.{room-counted, room-within}
 use Rattle.line_stream.proofs.States.{after-append}

@@ -6,7 +6,7 @@ use Prim.Native.Nat.{ℕ, suc, _+_, _≤_, _<_}
 use native.Mathlib.Omega.{arith}
 use native.Mathlib.Nat.{le-refl, suc-add}
 use lib.Dec.{eqb, leb}
-use lib.ListN.{length, getD, take, drop, set, length-set}
+use lib.ListN.{length, getD, drop, set}
 use lib.Seq.{drop-cons, drop-length, sets, set-out}
 use borrow.Author.Tests.{not-true, eq-eqb, leb-false}
 use Rattle.forms.proofs.Bools.{by-cases, both-left, both-right}
@@ -18,7 +18,8 @@ use Rattle.line_stream.specs.Steps.{inLine}
 -- ---- the line buffer
 
 -- a part without LF
-pub line-on : (line : List ℕ) (n : ℕ) (part l : List ℕ) → all? inLine part ≡ true → lineAfter line n (part ++ l) ≡ lineAfter (sets line n part) (n + length part) l
+pub line-on : (line : List ℕ) (n : ℕ) (part l : List ℕ) → all? inLine part ≡ true
+    → lineAfter line n (part ++ l) ≡ lineAfter (sets line n part) (n + length part) l
 unfolding lineAfter all?
 line-on line n [] l t = let e : n + 0 ≡ n = omega arith in ap (λ (k : ℕ). lineAfter line k l) (sym e)
 line-on line n (b ∷ part) l t =

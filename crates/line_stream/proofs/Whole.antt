@@ -1,7 +1,6 @@
--- WHOLE LINES, where more than `most` bytes of a line change no answer and more are kept: what the program keeps is the first bytes of the line it has read, and
--- it answers them as it would the whole.
+-- WHOLE LINES, where more than `most` bytes of a line change no answer and more are kept: what the program keeps is the first bytes of the line it has read,
+-- and it answers them as it would the whole.
 use mathlib.Core.Path.{_≡_, refl, sym, ap, _∙_}
-use mathlib.Core.Bool.{true, false}
 use mathlib.Core.List.{List, [], _∷_, _++_}
 use Prim.Native.Nat.{ℕ, zero, suc, _<_}
 use native.Mathlib.Omega.{arith}

@@ -79,13 +79,14 @@ module _ (answer : List ℕ → List ℕ) where
   abbrev pub answerFits : State → ℕ → Bool
   answerFits st len = hasRoom (length (st .written) + length (lineAnswer (st .number) (st .begun))) len
 
-  -- how many bytes are taken from a state on: all, or those before the first LF whose line's answer has no room
+  -- how many bytes are taken from a state on, where `room` bytes of a line are kept and the output has len: all, or those before the first LF whose line's
+  -- answer has no room
   unfoldable pub takenOf : ℕ → ℕ → State → List ℕ → ℕ
   takenOf room len st [] = 0
   takenOf room len st (b ∷ l) = if eqb b 10 && not (answerFits st len) then 0 else suc (takenOf room len (byteRead room st b) l)
 
   module _ (input line out : List ℕ) (b : Begun) where
-    -- as many bytes of the input are taken as the output has room for their answers
+    -- so many bytes of the input are taken
     abbrev pub bytesTaken : ℕ
     bytesTaken = takenOf (length line) (length out) (lineState b line []) input
 
@@ -97,8 +98,8 @@ module _ (answer : List ℕ → List ℕ) where
     abbrev pub answerLeft : List ℕ
     answerLeft = if ltb bytesTaken (length input) then lineAnswer (fedState .number) (fedState .begun) else []
 
-    -- FEEDING, whatever is given: how much is taken and put, and the line begun then; and both buffers, to the last byte. In the output stand the answers, and
-    -- after them the front of the one that had no room, which is not counted
+    -- FEEDING, whatever is given: how much is taken and put, and the line begun then; and both buffers, to their last byte. In the output the answers come
+    -- first, and after them the front of the one that had no room, which is not counted
     pub record Feeds (line' out' : List ℕ) (r : Fed) : Type 0 where
       pub fed : r ≡ record {
         taken = bytesTaken;

@@ -27,8 +27,8 @@ module _ (answer : List ℕ → List ℕ) where
   abbrev pub wholeFrom : Begun → List ℕ → List ℕ → State
   wholeFrom b s l = wholeAfter (record { number = b .number; begun = s; written = [] }) l
 
-  -- WHOLE LINES: whatever line the buffer stands for, the bytes put are the answers to the whole lines of it and of what is taken, and the buffer then stands for
-  -- the whole line begun
+  -- WHOLE LINES: whatever line the buffer stands for, the bytes put are the answers to the whole lines of it and of what is taken, and the buffer then stands
+  -- for the whole line begun
   pub record WholeLines (input line : List ℕ) (b : Begun) (line' out' : List ℕ) (r : Fed) : Type 0 where
     pub whole : (s : List ℕ) → StandsFor line (b .len) s
         → (take (r .put) out' ≡ wholeFrom b s (take (r .taken) input) .written)

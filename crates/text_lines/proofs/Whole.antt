@@ -1,5 +1,5 @@
--- THE LINE PROGRAM'S OUTPUT, section "The line program", is what any run of `feed` and `finish` writes, in whatever parts the input comes, as long as 64 bits
--- hold the numbers of the lines: the line buffer that they take is one byte longer than a text may be.
+-- The line buffer of `feed` and `finish` is one byte longer than a text may be: so they answer whole lines, and any run of them writes THE LINE PROGRAM'S OUTPUT,
+-- section "The line program", in whatever parts the input comes, as long as 64 bits hold the numbers of the lines.
 use mathlib.Core.Path.{_≡_}
 use mathlib.Core.List.{List}
 use Prim.Native.Nat.{ℕ, _+_, _<_, _^_}
@@ -18,9 +18,9 @@ use Rattle.text_lines.proofs.Kept.{kept-line}
 
 -- ---- a feed answers whole lines
 
-pub feed-whole : {input line out line' out' : List ℕ} {b : Begun} {r : Fed} → length line ≡ documentLimits .text + 1
-    → Feeds (lineOf documentLimits) input line out b line' out' r → WholeLines (lineOf documentLimits) input line b line' out' r
-feed-whole long f = feeds-whole (lineOf documentLimits) (documentLimits .text) kept-line (omega (arith, long)) f
+pub feed-whole : {input line out line' out' : List ℕ} {b : Begun} {r : Fed} → Feeds (lineOf documentLimits) input line out b line' out' r
+    → length line ≡ documentLimits .text + 1 → WholeLines (lineOf documentLimits) input line b line' out' r
+feed-whole f long = feeds-whole (lineOf documentLimits) (documentLimits .text) kept-line (omega (arith, long)) f
 
 -- ---- a run
 

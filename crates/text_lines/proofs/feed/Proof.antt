@@ -52,7 +52,7 @@ returns c =
     let test = c .before in
     let first = test .before .before .before .before in
     let feeds = loop.loop-ends _ (test .before .loop .inv) (first .first-line .ensures) (test .loop-test .left) in
-    (feeds, feed-whole (first .before .before .first-line-arg .given .0 .1) feeds)
+    (feeds, feed-whole feeds (first .before .before .first-line-arg .given .0 .1))
 
 same-length : tie.Need-same-length Inv-loop μ-loop
 same-length c = same-out _ (returns c .0)
