@@ -4,24 +4,29 @@ use mathlib.Core.Path.{_≡_}
 use mathlib.Core.List.{List}
 use Prim.Native.Nat.{ℕ, _+_, _<_, _^_}
 use native.Mathlib.Omega.{arith}
-use lib.ListN.{length}
+use lib.ListN.{length, take}
 use Rattle.definitions.specs.Lines.{outputOver}
 use Rattle.case_lines.specs.CaseLines.{maxLine}
 use Rattle.case_lines.specs.CaseAnswers.{caseAnswer}
+use Rattle.write_bytes.specs.Puts.{Puts}
 use Rattle.line_stream.specs.declared.Begun.{Begun}
 use Rattle.line_stream.specs.declared.Fed.{Fed}
-use Rattle.line_stream.specs.Stream.{Feeds}
-use Rattle.line_stream.specs.Whole.{WholeLines}
+use Rattle.line_stream.specs.Stream.{lastLine, Feeds}
+use Rattle.line_stream.specs.Whole.{WholeLines, WholeLast}
 use Rattle.line_stream.specs.Runs.{Runs}
-use Rattle.line_stream.proofs.Whole.{feeds-whole}
+use Rattle.line_stream.proofs.Whole.{feeds-whole, last-whole}
 use Rattle.line_stream.proofs.Running.{runs-output}
 use Rattle.case_lines.proofs.Kept.{kept-case}
 
--- ---- a feed answers whole lines
+-- ---- whole lines are answered
 
 pub feed-whole : {input line out line' out' : List ℕ} {b : Begun} {r : Fed} → Feeds caseAnswer input line out b line' out' r
     → length line ≡ maxLine + 1 → WholeLines caseAnswer input line b line' out' r
 feed-whole f long = feeds-whole caseAnswer maxLine kept-case (omega (arith, long)) f
+
+pub finish-whole : {line out out' : List ℕ} {r : ℕ} (b : Begun) → Puts out 0 (lastLine caseAnswer (b .number) (take (b .len) line)) out' r
+    → length line ≡ maxLine + 1 → WholeLast caseAnswer line out b out' r
+finish-whole b p long = last-whole caseAnswer maxLine kept-case b (omega (arith, long)) p
 
 -- ---- a run
 

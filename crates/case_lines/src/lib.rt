@@ -5,7 +5,7 @@ ghost use lib.ListN.{take};
 ghost use Rattle.case_lines.specs.CaseAnswers.{caseAnswer};
 ghost use Rattle.write_bytes.specs.Puts.{Puts};
 ghost use Rattle.line_stream.specs.Stream.{lastLine, Feeds};
-ghost use Rattle.line_stream.specs.Whole.{WholeLines};
+ghost use Rattle.line_stream.specs.Whole.{WholeLines, WholeLast};
 use crate::answers::CASE_BYTES;
 use crate::answers::PAIRS;
 use crate::answers::answer_case;
@@ -40,6 +40,7 @@ pub fn feed(input: &[u8], line: &mut [u8; LINE_BYTES], out: &mut [u8], begun: Be
 // After the last byte: the answer to a line that lacks its LF. The answer is how many bytes it has, more than the buffer's if it has no room.
 pub fn finish(line: &[u8; LINE_BYTES], out: &mut [u8], begun: Begun) -> usize
     ensures { λ r. ⌜ Puts (now (out .entry)) 0 (lastLine caseAnswer (begun .number) (take (begun .len) (now (line .entry)))) (now (out .exit)) r ⌝ }
+    ensures whole { λ r. ⌜ WholeLast caseAnswer (now (line .entry)) (now (out .entry)) begun (now (out .exit)) r ⌝ }
 {
     let t = last_line(line, out, begun);
     if t.waits {

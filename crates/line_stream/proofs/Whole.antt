@@ -10,10 +10,12 @@ use lib.Seq.{take-nil}
 use Rattle.forms.specs.Bytes.{text}
 use Rattle.forms.proofs.Bools.{by-cases}
 use Rattle.definitions.specs.Canonical.{decimal}
+use Rattle.write_bytes.specs.Puts.{Puts}
+use Rattle.write_bytes.proofs.Putting.{told}
 use Rattle.line_stream.specs.declared.Begun.{Begun}
 use Rattle.line_stream.specs.declared.Fed.{Fed}
 use Rattle.line_stream.specs.Stream.{nextNumber, State, lineAnswer, byteRead, after, lastLine, Feeds}
-use Rattle.line_stream.specs.Whole.{wholeRead, wholeAfter, wholeFrom, WholeLines}
+use Rattle.line_stream.specs.Whole.{wholeRead, wholeAfter, wholeFrom, WholeLines, WholeLast}
 use Rattle.line_stream.proofs.Keeping.{first-more}
 use Rattle.line_stream.proofs.States.{begunLine}
 use Rattle.line_stream.proofs.Feeds.{same-line, stands}
@@ -63,4 +65,10 @@ module _ (answer : List ℕ → List ℕ) (most : ℕ) (kept : (m : ℕ) (s : Li
           ap (λ (x : State). x .number) is,
           ap (λ (x : State). x .begun) is ∙ ap (λ (n : ℕ). take n (st .begun)) (sym (same-line answer f)),
         );
+  }
+
+  pub last-whole : {line out out' : List ℕ} {r : ℕ} (b : Begun) → most < length line → Puts out 0 (lastLine answer (b .number) (take (b .len) line)) out' r
+      → WholeLast answer line out b out' r
+  last-whole {line = line} b roomy p = record {
+    whole = λ s h. told (sym (ap (lastLine answer (b .number)) h ∙ last-clipped (length line) roomy (b .number) s)) p;
   }

@@ -6,7 +6,7 @@ ghost use Rattle.definitions.specs.Limits.{documentLimits};
 ghost use Rattle.definitions.specs.Lines.{lineOf};
 ghost use Rattle.write_bytes.specs.Puts.{Puts};
 ghost use Rattle.line_stream.specs.Stream.{lastLine, Feeds};
-ghost use Rattle.line_stream.specs.Whole.{WholeLines};
+ghost use Rattle.line_stream.specs.Whole.{WholeLines, WholeLast};
 use crate::answers::answer_text;
 use definitions::limits::TEXT_BYTES;
 use line_stream::Begun;
@@ -37,6 +37,7 @@ pub fn feed(input: &[u8], line: &mut [u8; LINE_BYTES], out: &mut [u8], begun: Be
 // After the last byte: the answer to a line that lacks its LF. The answer is how many bytes it has, more than the buffer's if it has no room.
 pub fn finish(line: &[u8; LINE_BYTES], out: &mut [u8], begun: Begun) -> usize
     ensures { λ r. ⌜ Puts (now (out .entry)) 0 (lastLine (lineOf documentLimits) (begun .number) (take (begun .len) (now (line .entry)))) (now (out .exit)) r ⌝ }
+    ensures whole { λ r. ⌜ WholeLast (lineOf documentLimits) (now (line .entry)) (now (out .entry)) begun (now (out .exit)) r ⌝ }
 {
     let t = last_line(line, out, begun);
     if t.waits {

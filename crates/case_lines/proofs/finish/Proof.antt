@@ -2,6 +2,7 @@
 use borrow.Author.Needs.{needs}
 use Rattle.case_lines.specs.CaseAnswers.{caseAnswer}
 use Rattle.line_stream.proofs.Finish.{one-waits, none-waits}
+use Rattle.case_lines.proofs.Whole.{finish-whole}
 use Rattle.case_lines.proofs.finish.Statement.{statement}
 use Rattle.case_lines.proofs.finish.Tie as tie
 
@@ -26,14 +27,19 @@ returns c =
     let answered = ended .before .before .before .before in
     let kept = answered .before .before .before in
     let test = kept .before .before .before in
+    let last = test .before .before .before in
     let answer = answered .answer-case .ensures in
-    one-waits caseAnswer (test .before .before .before .last-line .ensures) (test .if1 .taken) (kept .kept .ensures) answer (ended .end-line .ensures)
+    let put = one-waits caseAnswer (last .last-line .ensures) (test .if1 .taken) (kept .kept .ensures) answer (ended .end-line .ensures) in
+    (put, finish-whole _ put (last .before .before .last-line-arg .given .0))
 
 same-length-2 : tie.Need-same-length-2
 same-length-2 c = search needs
 
 returns-2 : tie.Need-returns-2
-returns-2 c = none-waits caseAnswer (c .before .before .before .last-line .ensures) (c .if1 .left)
+returns-2 c =
+    let last = c .before .before .before in
+    let put = none-waits caseAnswer (last .last-line .ensures) (c .if1 .left) in
+    (put, finish-whole _ put (last .before .before .last-line-arg .given .0))
 
 pub finish-spec : {M : Type 1} → statement M
 finish-spec =

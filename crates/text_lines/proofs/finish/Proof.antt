@@ -3,6 +3,7 @@ use borrow.Author.Needs.{needs}
 use Rattle.definitions.specs.Limits.{documentLimits}
 use Rattle.definitions.specs.Lines.{lineOf}
 use Rattle.line_stream.proofs.Finish.{one-waits, none-waits}
+use Rattle.text_lines.proofs.Whole.{finish-whole}
 use Rattle.text_lines.proofs.finish.Statement.{statement}
 use Rattle.text_lines.proofs.finish.Tie as tie
 
@@ -27,15 +28,19 @@ returns c =
     let answered = ended .before .before .before .before in
     let kept = answered .before in
     let test = kept .before .before .before in
+    let last = test .before .before .before in
     let answer = answered .answer-text .ensures in
-    one-waits (lineOf documentLimits) (test .before .before .before .last-line .ensures) (test .if1 .taken) (kept .kept .ensures) answer
-    (ended .end-line .ensures)
+    let put = one-waits (lineOf documentLimits) (last .last-line .ensures) (test .if1 .taken) (kept .kept .ensures) answer (ended .end-line .ensures) in
+    (put, finish-whole _ put (last .before .before .last-line-arg .given .0))
 
 same-length-2 : tie.Need-same-length-2
 same-length-2 c = search needs
 
 returns-2 : tie.Need-returns-2
-returns-2 c = none-waits (lineOf documentLimits) (c .before .before .before .last-line .ensures) (c .if1 .left)
+returns-2 c =
+    let last = c .before .before .before in
+    let put = none-waits (lineOf documentLimits) (last .last-line .ensures) (c .if1 .left) in
+    (put, finish-whole _ put (last .before .before .last-line-arg .given .0))
 
 pub finish-spec : {M : Type 1} → statement M
 finish-spec =
