@@ -47,7 +47,7 @@ kept-one line n b {room = room} e =
 
 -- ---- stored one after the other
 
-pub sets-past : (line : List ℕ) (n : ℕ) (part : List ℕ) → length line ≤ n → sets line n part ≡ line
+sets-past : (line : List ℕ) (n : ℕ) (part : List ℕ) → length line ≤ n → sets line n part ≡ line
 sets-past line n [] h = refl
 sets-past line n (b ∷ part) h = rw (set-out line n b h) (sets-past line (suc n) part (omega (arith, h)))
 
