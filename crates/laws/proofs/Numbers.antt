@@ -27,8 +27,9 @@ use Rattle.definitions.specs.Packet.{datagramOf, headerOf, packetCheck, packetB
 use Rattle.definitions.specs.Fields.{fieldsCheck}
 use Rattle.definitions.specs.Placements.{lexLess}
 use Rattle.definitions.specs.Answers.{startsOf, headOf, unless, verdictBy, inputCheck, placementsOf, verdictAnswer, firstAnswer, earlierCheck, nextAnswer}
-use Rattle.definitions.specs.AnswerNumbers.{readNumbers, writeNumbers, headerNumbers, packetNumbers, checkNumbers, verdictNumbers, answerNumbers, numbered, metNumber}
-use Rattle.definitions.specs.AnswerNumbers.{placedNumbers, noneNumbers, readInNumbers, writeInNumbers, packetInNumbers, fieldsInNumbers, verdictInNumbers, firstInNumbers, nextInNumbers}
+use Rattle.definitions.specs.AnswerNumbers.{readNumbers, writeNumbers, headerNumbers, packetNumbers, checkNumbers, verdictNumbers, answerNumbers, numbered}
+use Rattle.definitions.specs.AnswerNumbers.{metNumber, placedNumbers, noneNumbers, readInNumbers, writeInNumbers, packetInNumbers, fieldsInNumbers}
+use Rattle.definitions.specs.AnswerNumbers.{verdictInNumbers, firstInNumbers, nextInNumbers}
 
 -- ---- of anything due
 
@@ -94,7 +95,8 @@ module _ (t : Table) (p decoded : List ℕ) (dir : Direction) (m : FieldMap) whe
 
 -- ---- an answer with its numbers beside it, as a contract has them
 
-pub read-told : (s : List ℕ) {r : Reading} → r ≡ read documentLimits s → (r ≡ read documentLimits s) × (readNumbers (r .outcome) ≡ readInNumbers documentLimits s)
+pub read-told : (s : List ℕ) {r : Reading} → r ≡ read documentLimits s
+    → (r ≡ read documentLimits s) × (readNumbers (r .outcome) ≡ readInNumbers documentLimits s)
 read-told s e = (e, ap (λ (x : Reading). readNumbers (x .outcome)) e)
 
 pub write-told : (t : Table) (out : List ℕ) {r : Writing} → r ≡ writes documentLimits t out → writeNumbers r ≡ writeInNumbers documentLimits t (length out)

@@ -32,7 +32,8 @@ returns c =
     let c5 = c2 .before .before .before in
     let c8 = c5 .before .before .before in
     let c11 = c8 .before .before .before in
-    told (wrote-line (c11 .args .t) _ refl (c5 .w .given .0 .0) _ (sym (c5 .w .given .1) ∙ c8 .write .ensures .0) (c8 .write .ensures .1 .0)) (c2 .put-ok .ensures)
+    let w = c8 .write .ensures in
+    told (wrote-line (c11 .args .t) _ refl (c5 .w .given .0 .0) _ (sym (c5 .w .given .1) ∙ w .0) (w .1 .0)) (c2 .put-ok .ensures)
 
 same-length-2 : tie.Need-same-length-2
 same-length-2 c = search needs
