@@ -1,5 +1,6 @@
 // THE PUBLIC ENTRIES: the verdict on one packet, and "first" and "next" of its list of placements. They take any table, packet, buffer, direction, map
-// and earlier placement; refusals 20 and 30 to 36 come first, in this order.
+// and earlier placement; refusals 20 and 30 to 36 come first, in this order. Packet and decoded buffer have one lifetime, which ends with the call, since no
+// answer lends anything: it costs a caller nothing.
 ghost use mathlib.Core.Path.{_≡_};
 ghost use Rattle.definitions.specs.Answers.{verdictAnswer, firstAnswer, nextAnswer};
 ghost use Rattle.definitions.specs.AnswerNumbers.{verdictNumbers, answerNumbers, verdictInNumbers, firstInNumbers, nextInNumbers};

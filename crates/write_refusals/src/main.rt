@@ -3,9 +3,13 @@
 ghost use mathlib.Core.Path.{_≡_};
 ghost use Rattle.definitions.specs.Refusals.{writeNumber, writeLength};
 use definitions::answers::Writing;
+use definitions::limits::ITEMS;
+use definitions::limits::NAME_BYTES;
+use definitions::limits::PATTERN_BYTES;
+use definitions::table::Flow;
 use definitions::table::Table;
 use libc::STDOUT_FILENO;
-use reader::read;
+use read_state::no_slot;
 use refusal_numbers::number_of;
 use write_bytes::put;
 use write_bytes::put_decimal;
@@ -81,9 +85,25 @@ fn try_edited(t: Table) {
     try_in(stale, &mut buffer);
 }
 
+// The table that the rule with the name `n`, protocol 6 and no items reads as.
+fn small_rule() -> Table {
+    let none = no_slot();
+    let mut name = [0u8; NAME_BYTES];
+    name[0] = b'n';
+    Table {
+        name,
+        len: 1,
+        protocol: 6,
+        flow: Flow::Any,
+        bytes: [0u8; PATTERN_BYTES],
+        used: 0,
+        items: [none; ITEMS],
+        count: 0,
+    }
+}
+
 fn main() {
-    let reading = read(b"F-SBID( --name \"n\"; --protocol 6; )");
-    let table = reading.table;
+    let table = small_rule();
     try_whole(table);
     try_edited(table);
 }
