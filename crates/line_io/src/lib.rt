@@ -1,7 +1,7 @@
 // Standard input and output of a program that answers lines: reads blocks, writes answers, and says what failed.
 ghost use mathlib.Core.Path.{_≡_};
 ghost use Prim.Native.Nat.{_<_, _≤_};
-ghost use Rattle.line_io.specs.Blocks.{begins, isOver, oneLess, restOf, placeAfter, goesOn, Fills, Writes};
+ghost use Rattle.line_io.specs.Blocks.{begins, isOver, restOf, placeAfter, Fills, Writes};
 use libc::STDERR_FILENO;
 use libc::STDIN_FILENO;
 use libc::STDOUT_FILENO;
