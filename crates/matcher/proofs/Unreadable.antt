@@ -1,7 +1,6 @@
 -- OF THE ENTRIES THEMSELVES: `verdict`, `first` and `next` answer 20 exactly if no text reads as the table that they are given, whatever table that is. `good`
 -- is what the check knows of the arguments of a call, `post` the contract at its answer r.
-use mathlib.Core.Path.{_≡_, sym, ap, _∙_}
-use mathlib.Core.Bool.{Bool, false}
+use mathlib.Core.Path.{_≡_, ap}
 use mathlib.Core.List.{List}
 use mathlib.Core.Logic.{_↔_}
 use Prim.Native.Nat.{ℕ}
@@ -19,7 +18,7 @@ use Rattle.definitions.specs.Limits.{documentLimits}
 use Rattle.definitions.specs.Refusals.{verdictNumber, foundNumber}
 use Rattle.definitions.specs.WellFormed.{Readable}
 use Rattle.laws.proofs.IllFormed.{verdict-ill-formed, first-ill-formed, next-ill-formed}
-use Rattle.roundtrip.proofs.Typed.{typed-unreadable}
+use Rattle.roundtrip.proofs.Typed.{twenty-unreadable}
 use Rattle.matcher.proofs.verdict.Reads as verdict
 use Rattle.matcher.proofs.verdict.Kinds as verdict-kinds
 use Rattle.matcher.proofs.first.Reads as first
@@ -27,10 +26,7 @@ use Rattle.matcher.proofs.first.Kinds as first-kinds
 use Rattle.matcher.proofs.next.Reads as next
 use Rattle.matcher.proofs.next.Kinds as next-kinds
 
--- a number that is 20 exactly if the test fails, which fails exactly if no text reads as the table
-joined : {A : Type 0} {n k : ℕ} {b : Bool} → n ≡ k → (k ≡ 20) ↔ (b ≡ false) → A ↔ (b ≡ false) → (n ≡ 20) ↔ A
-joined is formed text = (λ e. text .1 (formed .0 (sym is ∙ e)), λ a. is ∙ formed .1 (text .0 a))
-
+-- no text reads as the table
 abbrev Unreadable : Table → Type 0
 Unreadable t = Readable (documentLimits .room) t → ⊥
 
@@ -39,16 +35,16 @@ module _ (κs : Lfts 1) (t : Table) (p d : RefT (List ℕ)) (dir : Direction) (m
       → GoodsP κs verdict-kinds.ps (t, (p, (d, (dir, (m, tt))))) → verdict.Post κs (t, (p, (d, (dir, (m, tt))))) r s
       → (verdictNumber r ≡ 20) ↔ Unreadable t
   verdict-unreadable r s good post =
-      joined (ap verdictNumber (post .0)) (verdict-ill-formed t (now p) (now d) dir m) (typed-unreadable t _ (good .0))
+      twenty-unreadable t _ (good .0) (ap verdictNumber (post .0)) (verdict-ill-formed t (now p) (now d) dir m)
 
   pub first-unreadable : (r : Answer) (s : AtExit (endedOf 1 first-kinds.ps first-kinds.r) κs)
       → GoodsP κs first-kinds.ps (t, (p, (d, (dir, (m, tt))))) → first.Post κs (t, (p, (d, (dir, (m, tt))))) r s
       → (foundNumber (r .found) ≡ 20) ↔ Unreadable t
   first-unreadable r s good post =
-      joined (ap (λ (a : Answer). foundNumber (a .found)) (post .0)) (first-ill-formed t (now p) (now d) dir m) (typed-unreadable t _ (good .0))
+      twenty-unreadable t _ (good .0) (ap (λ (a : Answer). foundNumber (a .found)) (post .0)) (first-ill-formed t (now p) (now d) dir m)
 
   pub next-unreadable : (h : Placement) (r : Answer) (s : AtExit (endedOf 1 next-kinds.ps next-kinds.r) κs)
       → GoodsP κs next-kinds.ps (t, (p, (d, (dir, (m, (h, tt)))))) → next.Post κs (t, (p, (d, (dir, (m, (h, tt)))))) r s
       → (foundNumber (r .found) ≡ 20) ↔ Unreadable t
   next-unreadable h r s good post =
-      joined (ap (λ (a : Answer). foundNumber (a .found)) (post .0)) (next-ill-formed t (now p) (now d) dir m h) (typed-unreadable t _ (good .0))
+      twenty-unreadable t _ (good .0) (ap (λ (a : Answer). foundNumber (a .found)) (post .0)) (next-ill-formed t (now p) (now d) dir m h)

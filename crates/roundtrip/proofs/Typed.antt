@@ -4,6 +4,7 @@ use mathlib.Core.Path.{_≡_, sym, _∙_}
 use mathlib.Core.Bool.{true, false}
 use mathlib.Core.List.{List, [], _∷_, map}
 use mathlib.Core.Logic.{_↔_}
+use Prim.Native.Nat.{ℕ}
 use lib.ListN.{length, length-map}
 use borrow.Author.Tests.{eq-eqb, eqb-true}
 use mir.Val.{Val}
@@ -47,3 +48,10 @@ typed-shaped t vs is =
 -- no text reads as a value of the type exactly if the test fails
 pub typed-unreadable : (t : Table) (vs : List Val) → Is table-type.the-row t vs → (Readable (documentLimits .room) t → ⊥) ↔ (wellFormed t ≡ false)
 typed-unreadable t vs is = unreadable-exactly (documentLimits .room) t (typed-shaped t vs is)
+
+-- an answer whose number is 20 exactly if the test fails: it is 20 exactly if no text reads as the value
+pub twenty-unreadable : (t : Table) (vs : List Val) → Is table-type.the-row t vs → {n k : ℕ} → n ≡ k → (k ≡ 20) ↔ (wellFormed t ≡ false)
+    → (n ≡ 20) ↔ (Readable (documentLimits .room) t → ⊥)
+twenty-unreadable t vs is number formed =
+    let text = typed-unreadable t vs is in
+    (λ e. text .1 (formed .0 (sym number ∙ e)), λ none. number ∙ formed .1 (text .0 none))

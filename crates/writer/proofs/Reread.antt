@@ -20,7 +20,7 @@ use Rattle.definitions.specs.Reading.{acceptedReading, read}
 use Rattle.definitions.specs.WellFormed.{Readable}
 use Rattle.laws.proofs.IllFormed.{write-ill-formed}
 use Rattle.roundtrip.proofs.Buffer.{written-reads}
-use Rattle.roundtrip.proofs.Typed.{typed-shaped, typed-unreadable}
+use Rattle.roundtrip.proofs.Typed.{typed-shaped, twenty-unreadable}
 use Rattle.writer.proofs.write.Reads as write
 use Rattle.writer.proofs.write.Kinds as write-kinds
 
@@ -31,8 +31,4 @@ module _ (κs : Lfts 1) (t : Table) (out : RefT (List ℕ)) (r : Writing) (s : A
   write-reads n e = rw (post .1 .0) (written-reads documentLimits t (now out) n (typed-shaped t _ (good .0)) (omega arith) (sym (post .0) ∙ e))
 
   pub write-unreadable : (writeNumber r ≡ 20) ↔ (Readable (documentLimits .room) t → ⊥)
-  write-unreadable =
-      let number = ap writeNumber (post .0) in
-      let formed = write-ill-formed documentLimits t (now out) in
-      let text = typed-unreadable t _ (good .0) in
-      (λ e. text .1 (formed .0 (sym number ∙ e)), λ n. number ∙ formed .1 (text .0 n))
+  write-unreadable = twenty-unreadable t _ (good .0) (ap writeNumber (post .0)) (write-ill-formed documentLimits t (now out))
