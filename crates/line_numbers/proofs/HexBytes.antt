@@ -1,8 +1,8 @@
 -- The bytes that pairs of hex digits write: the byte of each pair, and what a lent buffer holds of them.
 use mathlib.Core.Path.{_≡_, refl, sym, ap, _∙_}
-use mathlib.Core.Bool.{Bool, true, false, false≢true}
+use mathlib.Core.Bool.{true, false, false≢true}
 use mathlib.Core.List.{List, [], _∷_, _++_}
-use Prim.Native.Nat.{ℕ, zero, suc, _+_, _-_, _*_, _≤_, _<_}
+use Prim.Native.Nat.{ℕ, suc, _+_, _-_, _*_, _≤_, _<_}
 use native.Mathlib.Omega.{arith}
 use lib.ListN.{length, getD, take, drop, length-drop}
 use lib.Seq.{drop-cons, take-append-seam}
@@ -10,22 +10,16 @@ use lib.Dec.{leb}
 use borrow.Author.Tests.{leb-true, lt-ltb}
 use Rattle.forms.specs.Bytes.{between}
 use Rattle.forms.specs.Form.{has}
-use Rattle.forms.proofs.Bools.{by-cases, both-left, both-right}
+use Rattle.forms.proofs.Bools.{by-cases, both-right}
 use Rattle.scan_bytes.specs.Capped.{numberCap, capped}
-use Rattle.definitions.specs.Lists.{all?}
 use Rattle.definitions.specs.Numbers.{hexDigits, digitValue, valueOf}
 use Rattle.definitions.specs.Cases.{pairs}
+use Rattle.list_laws.proofs.Every.{all-at}
 use Rattle.write_bytes.specs.Puts.{maxCounted, puts, Puts}
 use Rattle.write_bytes.proofs.Putting.{same-length}
 use Rattle.write_bytes.proofs.Whole.{most-of, puts-count, puts-buffer}
 use Rattle.line_numbers.specs.HexPairs.{isHex}
 use Rattle.line_numbers.proofs.HexForm.{hex-all}
-
-all-at : (p : ℕ → Bool) (l : List ℕ) (i : ℕ) → all? p l ≡ true → i < length l → p (getD l i 0) ≡ true
-unfolding all?
-all-at p [] i e h = absurd (omega (arith, h))
-all-at p (b ∷ l) zero e h = both-left (p b) (all? p l) e
-all-at p (b ∷ l) (suc i) e h = all-at p l i (both-right (p b) (all? p l) e) (omega (arith, h))
 
 hex-high : (b : ℕ) → has hexDigits b ≡ true → b ≤ 102
 unfolding has
@@ -61,8 +55,8 @@ module _ (s : List ℕ) (i : ℕ) (good : isHex s ≡ true) (h : i + 1 < length 
   pair-small : pairAt s i ≤ 255
   pair-small =
       let all = hex-all s good (omega (arith, h)) in
-      let high = digit-small (getD s i 0) (hex-high (getD s i 0) (all-at (has hexDigits) s i all (omega (arith, h)))) in
-      let low = digit-small (getD s (suc i) 0) (hex-high (getD s (suc i) 0) (all-at (has hexDigits) s (suc i) all (omega (arith, h)))) in
+      let high = digit-small (getD s i 0) (hex-high (getD s i 0) (all-at (has hexDigits) 0 s i all (omega (arith, h)))) in
+      let low = digit-small (getD s (suc i) 0) (hex-high (getD s (suc i) 0) (all-at (has hexDigits) 0 s (suc i) all (omega (arith, h)))) in
       omega (arith, high, low)
 
   -- what the number of two digits is

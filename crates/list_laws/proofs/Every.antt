@@ -3,9 +3,11 @@ use mathlib.Core.Path.{_≡_, refl, _∙_}
 use mathlib.Core.Bool.{Bool, true, false}
 use mathlib.Core.List.{List, [], _∷_}
 use Prim.Native.Nat.{ℕ, zero, suc, _+_, _≤_, _<_}
+use native.Mathlib.Omega.{arith}
 use native.Mathlib.Numerals.{add-one}
 use lib.ListN.{length, getD, take, drop, drop-of-length-le}
 use lib.Seq.{drop-cons}
+use Rattle.forms.proofs.Bools.{both-left, both-right}
 use Rattle.definitions.specs.Lists.{all?}
 use Rattle.list_laws.proofs.Firsts.{first-here, first-out}
 
@@ -54,3 +56,10 @@ unfolding all?
 first-fit f d zero l h = refl
 first-fit f d (suc n) [] h = refl
 first-fit f d (suc n) (x ∷ l) h = rw (h 0) (first-fit f d n l (λ i. h (suc i)))
+
+-- what a test of every element says of the one at a place
+pub all-at : {A : Type 0} (f : A → Bool) (d : A) (l : List A) (i : ℕ) → all? f l ≡ true → i < length l → f (getD l i d) ≡ true
+unfolding all?
+all-at f d [] i e h = absurd (omega (arith, h))
+all-at f d (x ∷ l) zero e h = both-left (f x) (all? f l) e
+all-at f d (x ∷ l) (suc i) e h = all-at f d l i (both-right (f x) (all? f l) e) (omega (arith, h))

@@ -17,6 +17,7 @@ use Rattle.definitions.specs.Windows.{standsAt, lies}
 use Rattle.definitions.specs.Placements.{upFrom}
 use Rattle.match_windows.specs.declared.Window.{Window}
 use Rattle.match_windows.specs.Spans.{Spans, placesOf}
+use Rattle.match_patterns.specs.Starts.{standing}
 
 -- the starts from one on, up to but not including m
 abbrev pub from : ℕ → ℕ → List ℕ
@@ -76,10 +77,6 @@ module _ (p : Pattern) (b : List ℕ) (l : LastMatch) (f : List ℕ) (w : Window
   lies-after : w .to ≤ at → lies p b l f at ≡ false
   unfolding lies
   lies-after h = rw (s .exact at, le-ltb at (w .to) h, and-false (leb (w .from) at))
-
--- the bytes b stand in the field at a start
-abbrev pub standing : Bool → List ℕ → List ℕ → ℕ → Bool
-standing nocase b f at = standsAt nocase b (drop at f)
 
 -- the starts at which a pattern lies are those of its window at which its bytes stand
 module _ (p : Pattern) (b : List ℕ) (l : LastMatch) (f : List ℕ) (w : Window) (s : Spans p l (length f) w) where

@@ -4,15 +4,14 @@ ghost use mathlib.Core.Bool.{true, false};
 ghost use Prim.Native.Nat.{_+_, _≤_};
 ghost use lib.ListN.{length, drop};
 ghost use Rattle.definitions.specs.Windows as windows;
-use scan_case::lower_of;
+ghost use Rattle.match_folding.specs.Folding.{FoldTable};
 
-// Letters A to Z and a to z alike, any other byte equal. Every comparison under no_case goes through here.
-fn alike(x: u8, y: u8) -> bool
+// Letters A to Z and a to z alike, any other byte equal: their entries are. Every comparison under no_case goes through here.
+fn alike(folded: &[u8], x: u8, y: u8) -> bool
+    requires { ⌜ FoldTable (now folded) ⌝ }
     ensures { λ r. ⌜ r ≡ windows.alike true x y ⌝ }
 {
-    let a = lower_of(x);
-    let b = lower_of(y);
-    a == b
+    folded[x as usize] == folded[y as usize]
 }
 
 // The bytes `b` stand in the field at the place, each equal.
@@ -31,15 +30,15 @@ fn equal_at(b: &[u8], f: &[u8], at: usize) -> bool
 }
 
 // The bytes `b` stand in the field at the place, each alike under no_case.
-fn alike_at(b: &[u8], f: &[u8], at: usize) -> bool
-    requires { ⌜ at + length (now b) ≤ length (now f) ⌝ }
+fn alike_at(folded: &[u8], b: &[u8], f: &[u8], at: usize) -> bool
+    requires { ⌜ FoldTable (now folded) × (at + length (now b) ≤ length (now f)) ⌝ }
     ensures { λ r. ⌜ r ≡ windows.standsAt true (now (b .entry)) (drop at (now (f .entry))) ⌝ }
 {
     let mut i = 0;
     while i < b.len() {
         let x = b[i];
         let y = f[at + i];
-        if !alike(x, y) {
+        if !alike(folded, x, y) {
             return false;
         }
         i += 1;
@@ -48,12 +47,12 @@ fn alike_at(b: &[u8], f: &[u8], at: usize) -> bool
 }
 
 // The bytes `b` stand in the field at the place.
-pub fn stands_at(nocase: bool, b: &[u8], f: &[u8], at: usize) -> bool
-    requires { ⌜ at + length (now b) ≤ length (now f) ⌝ }
+pub fn stands_at(folded: &[u8], nocase: bool, b: &[u8], f: &[u8], at: usize) -> bool
+    requires { ⌜ FoldTable (now folded) × (at + length (now b) ≤ length (now f)) ⌝ }
     ensures { λ r. ⌜ r ≡ windows.standsAt nocase (now (b .entry)) (drop at (now (f .entry))) ⌝ }
 {
     if nocase {
-        return alike_at(b, f, at);
+        return alike_at(folded, b, f, at);
     }
     equal_at(b, f, at)
 }

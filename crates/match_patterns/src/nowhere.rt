@@ -3,7 +3,7 @@ ghost use mathlib.Core.Path.{_≡_};
 ghost use lib.ListN.{length};
 ghost use Rattle.definitions.specs.Lists.{none?};
 ghost use Rattle.match_windows.specs.Spans.{Measured, placesOf};
-use crate::bytes::stands_at;
+use crate::starts::next_start;
 use definitions::packets::LastMatch;
 use definitions::table::Pattern;
 use match_windows::starts::window;
@@ -14,14 +14,6 @@ pub fn lies_nowhere(p: Pattern, b: &[u8], last: LastMatch, f: &[u8]) -> bool
     ensures { λ r. ⌜ r ≡ none? (placesOf p (now (b .entry)) last (now (f .entry))) ⌝ }
 {
     let w = window(p, last, f.len());
-    let nocase = p.nocase;
     let to = w.to;
-    let mut at = w.from;
-    while at < to {
-        if stands_at(nocase, b, f, at) {
-            return false;
-        }
-        at += 1;
-    }
-    true
+    to <= next_start(p.nocase, b, f, w.from, to)
 }

@@ -11,11 +11,13 @@ use Rattle.forms.specs.Bytes.{if_then_else_, sameWord}
 use Rattle.forms.specs.Form.{Form}
 use Rattle.forms.specs.Place.{readAt}
 use Rattle.forms.proofs.Bools.{by-cases}
+use Rattle.definitions.specs.Lists.{all?}
 use Rattle.definitions.specs.OptionValues.{OptionValue}
 use Rattle.definitions.specs.Options.{Option, optionTable, namedOption, listed}
+use Rattle.list_laws.proofs.Every.{all-at}
 use Rattle.read_names.specs.declared.options.OptionName.{OptionName}
 use Rattle.read_names.specs.declared.options.Lookup.the-variants.{Found, Unlisted}
-use Rattle.read_names.specs.Names.{optionOrder, formOf, optionNames, optionCount, optionNamed, parsedAs}
+use Rattle.read_names.specs.Names.{optionOrder, formOf, optionNames, optionCount, noCapitals, optionNamed, parsedAs}
 
 pub rows-in-order : map formOf optionOrder ≡ map (λ row. row .form) optionTable
 unfolding optionOrder formOf optionTable
@@ -24,6 +26,11 @@ rows-in-order = refl
 pub names-count : length optionNames ≡ optionCount
 unfolding optionNames optionTable
 names-count = refl
+
+-- the names are written in small letters
+pub names-small : (k : ℕ) → k < optionCount → noCapitals (getD optionNames k []) ≡ true
+unfolding optionNames optionTable all?
+names-small k h = all-at noCapitals [] optionNames k refl h
 
 pub order-count : length optionOrder ≡ optionCount
 unfolding optionOrder

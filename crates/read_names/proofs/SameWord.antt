@@ -1,6 +1,6 @@
 -- Comparing bytes with a word, letter by letter.
 use mathlib.Core.Path.{_≡_, refl, ap, _∙_}
-use mathlib.Core.Bool.{true, false, _&&_}
+use mathlib.Core.Bool.{true, false, not, _&&_}
 use mathlib.Core.List.{List, [], _∷_}
 use Prim.Native.Nat.{ℕ, suc, _+_, _≤_, _<_}
 use native.Mathlib.Omega.{arith}
@@ -8,9 +8,14 @@ use native.Mathlib.Numerals.{add-one}
 use lib.ListN.{length, getD, drop, drop-of-length-le}
 use lib.Seq.{drop-cons}
 use lib.Dec.{eqb}
-use borrow.Author.Tests.{eq-eqb, ne-eqb}
-use Rattle.forms.specs.Bytes.{lower, sameWord}
+use borrow.Author.Tests.{not-true}
+use Rattle.forms.specs.Bytes.{between, lower, sameWord}
+use Rattle.forms.specs.Form.{has}
 use Rattle.forms.proofs.Bools.{by-cases}
+use Rattle.forms.proofs.Words.{any-case}
+use Rattle.list_laws.proofs.Every.{all-at}
+use Rattle.scan_bytes.specs.Classes.{caseClass}
+use Rattle.read_names.specs.Names.{noCapitals}
 
 -- words of other lengths are not the same
 pub other-length : (x w : List ℕ) → (length x ≡ length w → ⊥) → sameWord x w ≡ false
@@ -29,11 +34,15 @@ module _ (x w : List ℕ) (i : ℕ) (same : length x ≡ length w) (h : i < leng
   unfolding sameWord
   heads = rw (add-one, drop-cons x i 0 (omega arith), drop-cons w i 0 h)
 
-  pub letters-on : lower (getD x i 0) ≡ getD w i 0 → Still x w (i + 1)
-  letters-on e = u ∙ heads ∙ rw (eq-eqb (lower (getD x i 0)) (getD w i 0) e)
+  -- the byte is the letter in either case exactly if it is folded
+  pub letter : noCapitals w ≡ true → has (caseClass (getD w i 0)) (getD x i 0) ≡ eqb (lower (getD x i 0)) (getD w i 0)
+  letter n = any-case (getD w i 0) (getD x i 0) (not-true _ (all-at (λ b. not (between 65 90 b)) 0 w i n h))
 
-  pub letters-off : (lower (getD x i 0) ≡ getD w i 0 → ⊥) → sameWord x w ≡ false
-  letters-off n = u ∙ heads ∙ rw (ne-eqb (lower (getD x i 0)) (getD w i 0) n)
+  pub letters-on : eqb (lower (getD x i 0)) (getD w i 0) ≡ true → Still x w (i + 1)
+  letters-on e = u ∙ heads ∙ rw e
+
+  pub letters-off : eqb (lower (getD x i 0)) (getD w i 0) ≡ false → sameWord x w ≡ false
+  letters-off e = u ∙ heads ∙ rw e
 
 pub letters-out : (x w : List ℕ) (i : ℕ) → length x ≡ length w → length w ≤ i → Still x w i → sameWord x w ≡ true
 unfolding sameWord

@@ -1,12 +1,14 @@
 -- The options of the table by name: their order and forms are those of its rows (`rows-in-order`).
 use Prim.Native.Nat.{ℕ}
+use mathlib.Core.Bool.{Bool, not}
 use mathlib.Core.List.{List, [], _∷_, map}
-use Rattle.forms.specs.Bytes.{if_then_else_, sameWord}
+use Rattle.forms.specs.Bytes.{if_then_else_, between, sameWord}
 use Rattle.forms.specs.Form.{Form}
 use Rattle.forms.specs.Place.{readAt}
 use Rattle.definitions.specs.declared.table.Side.the-variants.{Source, Destination}
 use Rattle.definitions.specs.declared.table.NumberField.the-variants as number
 use Rattle.definitions.specs.declared.table.HeaderField.the-variants as header
+use Rattle.definitions.specs.Lists.{all?}
 use Rattle.definitions.specs.OptionValues.{OptionValue}
 use Rattle.definitions.specs.Forms.{nameForm, protocolForm, flowForm, addressForm, sameIpForm, numberForm, ttlForm, fieldForm}
 use Rattle.definitions.specs.Forms.{sizeForm, atForm, patternForm, contextForm, noCaseForm, distanceForm, withinForm}
@@ -74,6 +76,10 @@ optionNames = map (λ row. row .name) optionTable
 
 abbrev pub optionCount : ℕ
 optionCount = 22
+
+-- no byte of a word is a capital, as in the names of the rows (`names-small`)
+abbrev pub noCapitals : List ℕ → Bool
+noCapitals w = all? (λ b. not (between 65 90 b)) w
 
 -- the option of the first row whose name is n, its letter case ignored
 unfoldable pub optionNamed : List OptionName → List (List ℕ) → List ℕ → Lookup

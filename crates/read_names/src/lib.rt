@@ -1,17 +1,18 @@
 // Option names: where a name ends, and the option of document 01's table that has it.
 ghost use mathlib.Core.Path.{_≡_};
+ghost use mathlib.Core.Bool.{true};
 ghost use Prim.Native.Nat.{_+_, _-_, _≤_, _<_};
 ghost use mathlib.Core.List.{[]};
 ghost use lib.ListN.{length, getD, take, drop};
 ghost use Rattle.forms.specs.Bytes.{sameWord, run};
 ghost use Rattle.definitions.specs.Options.{inName};
-ghost use Rattle.read_names.specs.Names.{optionCount, optionNames, optionOrder, optionNamed};
+ghost use Rattle.read_names.specs.Names.{optionCount, optionNames, noCapitals, optionOrder, optionNamed};
 use crate::options::Lookup;
 use crate::options::OptionName;
 use definitions::limits::OPTIONS;
 use scan_bytes::bytes::Class;
+use scan_bytes::bytes::in_case;
 use scan_bytes::runs::run_of;
-use scan_case::lower_of;
 
 pub mod options;
 
@@ -76,8 +77,9 @@ pub fn name_end(s: &[u8], at: usize) -> usize
     run_of(s, at, Class::NameByte)
 }
 
-// Whether the bytes are the word, their letter case ignored.
+// Whether the bytes are the word, which is written in small letters; the letter case of the bytes is ignored.
 fn same_word(x: &[u8], w: &[u8]) -> bool
+    requires { ⌜ noCapitals (now w) ≡ true ⌝ }
     ensures { λ r. ⌜ r ≡ sameWord (now (x .entry)) (now (w .entry)) ⌝ }
 {
     if x.len() != w.len() {
@@ -85,7 +87,7 @@ fn same_word(x: &[u8], w: &[u8]) -> bool
     }
     let mut i = 0;
     while i < w.len() {
-        if lower_of(x[i]) != w[i] {
+        if !in_case(w[i], x[i]) {
             return false;
         }
         i += 1;

@@ -2,7 +2,7 @@
 use mathlib.Core.Path.{_≡_, sym, ap, _∙_}
 use mathlib.Core.Bool.{Bool, true, false, not, _&&_}
 use mathlib.Core.List.{List, [], _∷_, map}
-use Prim.Native.Nat.{ℕ, _+_, _≤_, _<_, max}
+use Prim.Native.Nat.{ℕ, _+_, _-_, _≤_, _<_, max}
 use native.Mathlib.Omega.{arith}
 use lib.ListN.{length, drop, getD}
 use borrow.Author.Tests.{not-true, not-false}
@@ -22,7 +22,9 @@ use Rattle.laws.proofs.Keep.{keep-none}
 use Rattle.list_laws.proofs.Every.{drop-here}
 use Rattle.match_windows.specs.declared.Window.{Window}
 use Rattle.match_windows.specs.Spans.{sizeBound, Spans, placesOf}
-use Rattle.match_patterns.proofs.Listing.{standing, places-window}
+use Rattle.match_patterns.specs.Starts.{standing, Fits, firstStart}
+use Rattle.match_patterns.proofs.Listing.{places-window}
+use Rattle.match_patterns.proofs.FirstStart.{first-reached, first-passes}
 use Rattle.fields.specs.Seen.{seen}
 use Rattle.match_items.proofs.Placing.{starts-present}
 use Rattle.search_state.specs.declared.outcomes.Outcome.{Outcome}
@@ -165,9 +167,9 @@ module _ {q : SearchInput} {k : ℕ} {rest s d : List ℕ} {l : LastMatch} {chos
   abbrev passed-by : List Start
   passed-by = drop (chosen .count) (q .bound)
 
-  -- the bytes fit at each start that is tried, and their end is far below what a number holds
-  pub own-fits : at < to → at + length own ≤ length f
-  own-fits h = omega (arith, o .trying .own, o .inside at h)
+  -- the bytes fit at each start that may be tried, and their end is far below what a number holds
+  pub own-fits : Fits own f to
+  own-fits x h = omega (arith, o .trying .own, o .inside x h)
 
   pub end-small : at < to → at + p .len < sizeBound
   end-small h = omega (arith, o .inside at h, o .small)
@@ -189,7 +191,7 @@ module _ {q : SearchInput} {k : ℕ} {rest s d : List ℕ} {l : LastMatch} {chos
         same = e;
       }
 
-  pub tried-past : stands at ≡ false → Tried q k rest s d l chosen on-bound p own f to (at + 1)
+  tried-past : stands at ≡ false → Tried q k rest s d l chosen on-bound p own f to (at + 1)
   tried-past e = one-further (o .same ∙ try-no chosen on-bound (q .bound) (λ (x : Start). left-after (lastAfter l p x)) stands at to passed-by e)
 
   -- a start that lies is chosen
@@ -214,3 +216,20 @@ module _ {q : SearchInput} {k : ℕ} {rest s d : List ℕ} {l : LastMatch} {chos
 
         pub tried-vain : r .found ≡ false → Tried q k rest s d l chosen on-bound p own f to (at + 1)
         tried-vain e = one-further (or-missing r _ _ this-or e)
+
+-- what is known at each turn: where one is left to try, the bytes stand at `at`
+pub record Reached (q : SearchInput) (k : ℕ) (rest s d : List ℕ) (l : LastMatch) (chosen : Placement) (on-bound : Bool) (p : Pattern)
+    (own f : List ℕ) (to at : ℕ) : Type 0 where
+  pub tried : Tried q k rest s d l chosen on-bound p own f to at
+  pub lies : at < to → standing (p .nocase) own f at ≡ true
+
+-- starts at which the bytes do not stand are passed, up to the first at which they do
+pub reached : {q : SearchInput} {k : ℕ} {rest s d : List ℕ} {l : LastMatch} {chosen : Placement} {on-bound : Bool} {p : Pattern} {own f : List ℕ} {to at r : ℕ}
+    → Tried q k rest s d l chosen on-bound p own f to at → r ≡ firstStart (standing (p .nocase) own f) at (to - at)
+    → Reached q k rest s d l chosen on-bound p own f to r
+reached {q} {k} {rest} {s} {d} {l} {chosen} {on-bound} {p} {own} {f} {to} {at} o e =
+    let stands = standing (p .nocase) own f in
+    rw e (record {
+      tried = first-reached stands (λ x. Tried q k rest s d l chosen on-bound p own f to x) (λ x t u. tried-past u t) (to - at) at o;
+      lies = first-passes stands to at;
+    })

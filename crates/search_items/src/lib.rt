@@ -17,7 +17,7 @@ use fields::field_of;
 use fields::is_present;
 use match_items::negated::negated_holds;
 use match_items::test_holds;
-use match_patterns::bytes::stands_at;
+use match_patterns::starts::next_start;
 use match_starts::start_at;
 use match_windows::starts::window;
 use search_state::chosen::finish;
@@ -117,19 +117,18 @@ fn try_starts<'a>(
     let b = bound[j];
     let nocase = p.nocase;
     let to = w.to;
-    let mut at = start_from(on_bound, b, w.from);
+    let first = start_from(on_bound, b, w.from);
+    let mut at = next_start(nocase, own, f, first, to);
     while at < to {
-        if stands_at(nocase, own, f, at) {
-            let s = start_at(at);
-            let next = last_after(last, p, s);
-            let more = with_start(chosen, s);
-            let still = still_on_bound(on_bound, s, b);
-            let x = from_item(input, k + 1, rest, payload, decoded, next, more, still);
-            if x.found {
-                return x;
-            }
+        let s = start_at(at);
+        let next = last_after(last, p, s);
+        let more = with_start(chosen, s);
+        let still = still_on_bound(on_bound, s, b);
+        let x = from_item(input, k + 1, rest, payload, decoded, next, more, still);
+        if x.found {
+            return x;
         }
-        at += 1;
+        at = next_start(nocase, own, f, at + 1, to);
     }
     no_match()
 }

@@ -3,8 +3,9 @@ use mathlib.Core.Path.{ap, _∙_}
 use native.Mathlib.Omega.{arith}
 use Rattle.forms.specs.Bytes.{sameWord}
 use Rattle.definitions.specs.Options.{optionTable}
-use Rattle.read_names.specs.Names.{optionNames}
+use Rattle.read_names.specs.Names.{optionNames, noCapitals}
 use Rattle.read_names.proofs.Joined.{in-order, inside, word}
+use Rattle.read_names.proofs.Rows.{names-small}
 use borrow.Author.Needs.{needs}
 use Rattle.read_names.proofs.row_named.Statement.{statement}
 use Rattle.read_names.proofs.row_named.Tie as tie
@@ -45,7 +46,10 @@ unfolding optionNames optionTable
 part-same-word-end c = inside optionNames (c .before .before .args .k) (c .before .before .pre)
 
 same-word-requires : tie.Need-same-word-requires
-same-word-requires c κs = search needs
+unfolding optionNames optionTable
+same-word-requires c κs =
+    let start = c .before .before .before in
+    ap noCapitals (word optionNames (start .args .k) (start .pre)) ∙ names-small (start .args .k) (start .pre)
 
 returns : tie.Need-returns
 unfolding optionNames optionTable

@@ -3,7 +3,8 @@ use mathlib.Core.Path.{_≡_, refl, sym, _∙_}
 use native.Mathlib.Omega.{arith}
 use Prim.Native.Nat.{_-_}
 use lib.ListN.{length}
-use Rattle.read_names.proofs.SameWord.{other-length, Still, letters-on, letters-off, letters-out}
+use borrow.Author.Tests.{not-true, not-false}
+use Rattle.read_names.proofs.SameWord.{other-length, Still, letter, letters-on, letters-off, letters-out}
 use Rattle.read_names.proofs.same_word.Statement.{statement}
 use Rattle.read_names.proofs.same_word.Tie as tie
 
@@ -19,20 +20,23 @@ returns c = sym (other-length _ _ (c .if1 .taken))
 loop-holds : tie.Need-loop-holds Inv-loop μ-loop
 loop-holds c = (c .if1 .left, refl)
 
-shared-slice-read-lower-of : tie.Need-shared-slice-read-lower-of Inv-loop μ-loop
-shared-slice-read-lower-of c = omega arith
+shared-slice-read-in-case : tie.Need-shared-slice-read-in-case Inv-loop μ-loop
+shared-slice-read-in-case c = omega arith
 
-lower-of-requires : tie.Need-lower-of-requires Inv-loop μ-loop
-lower-of-requires c κs = tt
+shared-slice-read-in-case-2 : tie.Need-shared-slice-read-in-case-2 Inv-loop μ-loop
+shared-slice-read-in-case-2 c = omega arith
 
-shared-slice-read-if2 : tie.Need-shared-slice-read-if2 Inv-loop μ-loop
-shared-slice-read-if2 c = omega arith
+in-case-requires : tie.Need-in-case-requires Inv-loop μ-loop
+in-case-requires c κs = tt
 
 returns-2 : tie.Need-returns-2 Inv-loop μ-loop
 returns-2 c =
-    let more = c .before .before .before .before .loop-test .taken in
-    let turn = c .before .before .before .before .before .loop in
-    sym (letters-off _ _ _ (turn .inv .0) more (turn .inv .1) (λ e. c .if2 .taken (c .before .before .lower-of .ensures ∙ e)))
+    let turn = c .before .before .before .before in
+    let l = turn .before .loop in
+    let word = turn .before .before .before .before .before .pre in
+    let more = turn .loop-test .taken in
+    let other = sym (letter _ _ _ (l .inv .0) more (l .inv .1) word) ∙ sym (c .before .in-case .ensures) ∙ not-true _ (c .if2 .taken) in
+    sym (letters-off _ _ _ (l .inv .0) more (l .inv .1) other)
 
 add-i : tie.Need-add-i Inv-loop μ-loop
 add-i c = omega arith
@@ -42,9 +46,12 @@ loop-less c = omega arith
 
 loop-again : tie.Need-loop-again Inv-loop μ-loop
 loop-again c =
-    let more = c .before .before .before .before .loop-test .taken in
-    let turn = c .before .before .before .before .before .loop in
-    (turn .inv .0, letters-on _ _ _ (turn .inv .0) more (turn .inv .1) (sym (c .before .before .lower-of .ensures) ∙ c .if2 .left))
+    let turn = c .before .before .before .before in
+    let l = turn .before .loop in
+    let word = turn .before .before .before .before .before .pre in
+    let more = turn .loop-test .taken in
+    let same = sym (letter _ _ _ (l .inv .0) more (l .inv .1) word) ∙ sym (c .before .in-case .ensures) ∙ not-false _ (c .if2 .left) in
+    (l .inv .0, letters-on _ _ _ (l .inv .0) more (l .inv .1) same)
 
 returns-3 : tie.Need-returns-3 Inv-loop μ-loop
 returns-3 c = sym (letters-out _ _ _ (c .before .loop .inv .0) (c .loop-test .left) (c .before .loop .inv .1))
@@ -57,9 +64,9 @@ same-word-spec =
     μ-loop
     returns
     loop-holds
-    shared-slice-read-lower-of
-    lower-of-requires
-    shared-slice-read-if2
+    shared-slice-read-in-case
+    shared-slice-read-in-case-2
+    in-case-requires
     returns-2
     add-i
     loop-less

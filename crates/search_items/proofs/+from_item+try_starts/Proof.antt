@@ -1,20 +1,20 @@
 -- The proof of the cycle of calls {from_item, try_starts}. Twice the number of items left, and one more for from_item, falls at each call. The loop
 -- of from_item keeps the answer over the items left, that of try_starts the answer over the starts still to try.
-use mathlib.Core.Path.{_≡_, sym, _∙_}
-use mathlib.Core.Logic.{⊎-elim}
+use mathlib.Core.Path.{_≡_}
 use native.Mathlib.Omega.{arith}
 use lib.ListN.{length}
 use borrow.Author.Tests.{not-true, not-false}
 use Rattle.definitions.specs.Limits.{maxItems, maxPatterns}
 use Rattle.definitions.specs.Placements.{constraints}
 use Rattle.match_windows.specs.Spans.{Measured}
+use Rattle.match_patterns.proofs.FirstStart.{walk-shorter}
 use Rattle.match_items.proofs.Placing.{measured}
 use Rattle.search_state.specs.Inputs.{itemsLeft}
 use Rattle.search_items.proofs.Stepping.{length-mapped, trying-bounded}
 use Rattle.search_items.proofs.PassedItems.{Gone, gone-none, gone-out, gone-test, stop-test, gone-nowhere, stop-nowhere, placed-first}
 use Rattle.search_items.proofs.PassedItems.{pattern-inside, pattern-bounded, pattern-trying}
-use Rattle.search_items.proofs.Trials.{try-absent, Tried, tried-none, own-fits, chosen-small, chosen-ready, tried-out, tried-past}
-use Rattle.search_items.proofs.Trials.{tried-found, tried-vain}
+use Rattle.search_items.proofs.Trials.{try-absent, tried-none, own-fits, end-small, chosen-small, chosen-ready, tried-out}
+use Rattle.search_items.proofs.Trials.{tried-found, tried-vain, Reached, reached}
 use Prim.Native.Nat.{ℕ, _+_, _-_, _<_}
 use borrow.Fn.Kinds.{In}
 use borrow.Fn.PlainCycle.{Measures, is, falls, and}
@@ -35,7 +35,7 @@ use Rattle.search_state.proofs.chosen.start_from.Reads as start-from-reads
 use Rattle.search_state.proofs.chosen.still_on_bound.Reads as still-on-bound-reads
 use Rattle.search_state.proofs.chosen.with_start.Reads as with-start-reads
 use Rattle.match_starts.proofs.start_at.Reads as start-at-reads
-use Rattle.match_patterns.proofs.bytes.stands_at.Reads as stands-at-reads
+use Rattle.match_patterns.proofs.starts.next_start.Reads as next-start-reads
 use Rattle.match_windows.proofs.starts.window.Reads as window-reads
 use Rattle.search_items.proofs.+from_item+try_starts.{statement}
 use Rattle.search_items.proofs.+from_item+try_starts.Tie.{close}
@@ -88,8 +88,8 @@ try-starts-claims t = (
   window-reads.Learnt,
   start-from-reads.Asked,
   start-from-reads.Learnt,
-  stands-at-reads.Asked,
-  stands-at-reads.Learnt,
+  next-start-reads.Asked,
+  next-start-reads.Learnt,
   start-at-reads.Asked,
   start-at-reads.Learnt,
   last-after-reads.Asked,
@@ -252,11 +252,11 @@ from-item-returns-4 : (t : ℕ) → from-item-lts.Need-returns-4 (from-item-clai
 from-item-returns-4 t c = gone-out (c .before .before .loop .inv) (c .before .loop-test .left) (c .finish .result) (c .finish .ensures _)
 
 abbrev try-starts-Inv-loop : try-starts-lts.InvT-loop
-try-starts-Inv-loop q k p own rest payload decoded last chosen on-bound f j b nocase to at₀ at =
-    Tried q k rest payload decoded last chosen on-bound p own f to at
+try-starts-Inv-loop q k p own rest payload decoded last chosen on-bound f j b nocase to first at₀ at =
+    Reached q k rest payload decoded last chosen on-bound p own f to at
 
 abbrev try-starts-μ-loop : try-starts-lts.MeasureT-loop
-try-starts-μ-loop q k p own rest payload decoded last chosen on-bound f j b nocase to at₀ at = to - at
+try-starts-μ-loop q k p own rest payload decoded last chosen on-bound f j b nocase to first at₀ at = to - at
 
 -- the field is no longer than its buffer
 field-sizes : (t : ℕ) (c : try-starts-lts.After-field-of (try-starts-claims t) (try-starts-at t) try-starts.Post try-starts-Inv-loop try-starts-μ-loop)
@@ -304,21 +304,26 @@ try-starts-start-from-requires : (t : ℕ)
     → try-starts-lts.Need-start-from-requires (try-starts-claims t) (try-starts-at t) try-starts.Post try-starts-Inv-loop try-starts-μ-loop
 try-starts-start-from-requires t c κs = tt
 
-try-starts-loop-holds : (t : ℕ) → try-starts-lts.Need-loop-holds (try-starts-claims t) (try-starts-at t) try-starts.Post try-starts-Inv-loop try-starts-μ-loop
-try-starts-loop-holds t c =
+try-starts-next-start-requires : (t : ℕ)
+    → try-starts-lts.Need-next-start-requires (try-starts-claims t) (try-starts-at t) try-starts.Post try-starts-Inv-loop try-starts-μ-loop
+try-starts-next-start-requires t c κs =
     let w = c .before .before .before in
+    λ x h. omega (arith, w .before .before .before .before .before .before .before .before .before .pre .1 .2 .own, w .window .ensures .inside x h)
+
+try-starts-loop-holds : (t : ℕ)
+    → try-starts-lts.Need-loop-holds (try-starts-claims t) (try-starts-at t) try-starts.Post try-starts-Inv-loop try-starts-μ-loop
+try-starts-loop-holds t c =
+    let g = c .before in
+    let w = g .before .before .before in
     let p = w .before .before in
     let a = p .before .before .before .before .before .before .before in
     let bound = a .args .input .bound in
     let long : length bound ≡ maxPatterns = length-mapped _ bound maxPatterns (a .good .0 .1 .1 .1 .1 .1 .1 .0 .1 .0 .1) in
     let small = field-sizes t (w .before) .field in
-    tried-none (a .pre .1 .0, a .pre .1 .1) (a .pre .1 .2) small (omega (arith, a .pre .1 .2 .room, long)) (w .window .ensures)
-    (w .before .field-of .ensures .0) (p .before .is-present .ensures) (p .if1 .left)
-    (c .start-from .ensures)
-
-try-starts-stands-at-requires : (t : ℕ)
-    → try-starts-lts.Need-stands-at-requires (try-starts-claims t) (try-starts-at t) try-starts.Post try-starts-Inv-loop try-starts-μ-loop
-try-starts-stands-at-requires t c κs = own-fits (c .before .loop .inv) (c .loop-test .taken)
+    reached
+    (tried-none (a .pre .1 .0, a .pre .1 .1) (a .pre .1 .2) small (omega (arith, a .pre .1 .2 .room, long)) (w .window .ensures)
+    (w .before .field-of .ensures .0) (p .before .is-present .ensures) (p .if1 .left) (g .start-from .ensures))
+    (c .next-start .ensures)
 
 try-starts-start-at-requires : (t : ℕ)
     → try-starts-lts.Need-start-at-requires (try-starts-claims t) (try-starts-at t) try-starts.Post try-starts-Inv-loop try-starts-μ-loop
@@ -326,13 +331,11 @@ try-starts-start-at-requires t c κs = tt
 
 try-starts-last-after-requires : (t : ℕ)
     → try-starts-lts.Need-last-after-requires (try-starts-claims t) (try-starts-at t) try-starts.Post try-starts-Inv-loop try-starts-μ-loop
-try-starts-last-after-requires t c κs =
-    let s = c .before .before .before in
-    chosen-small (s .before .loop .inv) (s .loop-test .taken) (c .start-at .ensures)
+try-starts-last-after-requires t c κs = let s = c .before in chosen-small (s .before .loop .inv .tried) (s .loop-test .taken) (c .start-at .ensures)
 
 try-starts-with-start-requires : (t : ℕ)
     → try-starts-lts.Need-with-start-requires (try-starts-claims t) (try-starts-at t) try-starts.Post try-starts-Inv-loop try-starts-μ-loop
-try-starts-with-start-requires t c κs = omega (arith, c .before .before .before .before .before .loop .inv .trying .room)
+try-starts-with-start-requires t c κs = omega (arith, c .before .before .before .loop .inv .tried .trying .room)
 
 try-starts-still-on-bound-requires : (t : ℕ)
     → try-starts-lts.Need-still-on-bound-requires (try-starts-claims t) (try-starts-at t) try-starts.Post try-starts-Inv-loop try-starts-μ-loop
@@ -341,53 +344,65 @@ try-starts-still-on-bound-requires t c κs = tt
 try-starts-add-from-item : (t : ℕ)
     → try-starts-lts.Need-add-from-item (try-starts-claims t) (try-starts-at t) try-starts.Post try-starts-Inv-loop try-starts-μ-loop
 try-starts-add-from-item t c =
-    let o = c .before .before .before .before .before .before .before .loop .inv in
+    let o = c .before .before .before .before .before .loop .inv .tried in
     omega (arith, o .few .0, o .few .1)
 
 try-starts-from-item-requires : (t : ℕ)
     → try-starts-lts.Need-from-item-requires (try-starts-claims t) (try-starts-at t) try-starts.Post try-starts-Inv-loop try-starts-μ-loop
 try-starts-from-item-requires t c κs =
-    let s = c .before .before .before .before .before .before in
-    let o = s .before .loop .inv in
-    let f = s .before .before .before .before .before .before in
-    let a = f .before .before .before .before .before .before .before .before in
+    let s = c .before .before .before .before in
+    let o = s .before .loop .inv .tried in
+    let a = s .before .before .before .before .before .before .before .before .before .before .before .before .before .before .before in
     let start = c .before .before .before .start-at .ensures in
     let ready = chosen-ready o (s .loop-test .taken) start (c .before .before .last-after .ensures) (c .before .with-start .ensures) in
     (omega (arith, a .pre .0, o .few .0), (o .few .1, ready))
 
-try-starts-returns-2 : (t : ℕ) → try-starts-lts.Need-returns-2 (try-starts-claims t) (try-starts-at t) try-starts.Post try-starts-Inv-loop try-starts-μ-loop
+try-starts-returns-2 : (t : ℕ)
+    → try-starts-lts.Need-returns-2 (try-starts-claims t) (try-starts-at t) try-starts.Post try-starts-Inv-loop try-starts-μ-loop
 try-starts-returns-2 t c =
-    let w = c .before .before .before .before .before .before in
-    let s = w .before .before in
-    let lies = sym (w .before .stands-at .ensures) ∙ w .if2 .taken in
+    let s = c .before .before .before .before .before .before in
+    let l = s .before .loop .inv in
+    let more = s .loop-test .taken in
     let start = c .before .before .before .before .before .start-at .ensures in
     let last = c .before .before .before .before .last-after .ensures in
-    tried-found (s .before .loop .inv) (s .loop-test .taken) start last (c .before .before .before .with-start .ensures) lies
-    (c .before .before .still-on-bound .ensures) (c .before .from-item .ensures) (c .if3 .taken)
+    tried-found (l .tried) more start last (c .before .before .before .with-start .ensures) (l .lies more)
+    (c .before .before .still-on-bound .ensures) (c .before .from-item .ensures) (c .if2 .taken)
 
-try-starts-add-at : (t : ℕ) → try-starts-lts.Need-add-at (try-starts-claims t) (try-starts-at t) try-starts.Post try-starts-Inv-loop try-starts-μ-loop
-try-starts-add-at t c = omega arith
+try-starts-add-next-start : (t : ℕ)
+    → try-starts-lts.Need-add-next-start (try-starts-claims t) (try-starts-at t) try-starts.Post try-starts-Inv-loop try-starts-μ-loop
+try-starts-add-next-start t c =
+    let s = c .before .before .before .before .before .before in
+    omega (arith, end-small (s .before .loop .inv .tried) (s .loop-test .taken))
 
-try-starts-loop-less : (t : ℕ) → try-starts-lts.Need-loop-less (try-starts-claims t) (try-starts-at t) try-starts.Post try-starts-Inv-loop try-starts-μ-loop
-try-starts-loop-less t c = omega arith
+try-starts-next-start-requires-2 : (t : ℕ)
+    → try-starts-lts.Need-next-start-requires-2 (try-starts-claims t) (try-starts-at t) try-starts.Post try-starts-Inv-loop try-starts-μ-loop
+try-starts-next-start-requires-2 t c κs = own-fits (c .before .before .before .before .before .before .before .loop .inv .tried)
 
-try-starts-loop-again : (t : ℕ) → try-starts-lts.Need-loop-again (try-starts-claims t) (try-starts-at t) try-starts.Post try-starts-Inv-loop try-starts-μ-loop
+try-starts-loop-less : (t : ℕ)
+    → try-starts-lts.Need-loop-less (try-starts-claims t) (try-starts-at t) try-starts.Post try-starts-Inv-loop try-starts-μ-loop
+try-starts-loop-less t c = walk-shorter _ (c .next-start2 .ensures) (c .before .before .before .before .before .before .before .loop-test .taken)
+
+try-starts-loop-again : (t : ℕ)
+    → try-starts-lts.Need-loop-again (try-starts-claims t) (try-starts-at t) try-starts.Post try-starts-Inv-loop try-starts-μ-loop
 try-starts-loop-again t c =
-    let s = c .before .before in
-    let o = s .before .loop .inv in
-    let stands = sym (c .before .stands-at .ensures) in
-    ⊎-elim
-    (λ w.
-    tried-vain o (s .loop-test .taken) (w .1 .ensures) (w .2 .ensures) (w .3 .ensures) (stands ∙ w .0 .taken) (w .4 .ensures) (w .5 .ensures) (w .6 .left))
-    (λ w. tried-past o (stands ∙ w .left))
-    (c .if2 .came)
+    let e = c .before in
+    let s = e .before .before .before .before .before .before in
+    let l = s .before .loop .inv in
+    let more = s .loop-test .taken in
+    let start = e .before .before .before .before .before .start-at .ensures in
+    let last = e .before .before .before .before .last-after .ensures in
+    reached
+    (tried-vain (l .tried) more start last (e .before .before .before .with-start .ensures) (l .lies more)
+    (e .before .before .still-on-bound .ensures) (e .before .from-item .ensures) (e .if2 .left))
+    (c .next-start2 .ensures)
 
 try-starts-no-match-requires-2 : (t : ℕ)
     → try-starts-lts.Need-no-match-requires-2 (try-starts-claims t) (try-starts-at t) try-starts.Post try-starts-Inv-loop try-starts-μ-loop
 try-starts-no-match-requires-2 t c κs = tt
 
-try-starts-returns-3 : (t : ℕ) → try-starts-lts.Need-returns-3 (try-starts-claims t) (try-starts-at t) try-starts.Post try-starts-Inv-loop try-starts-μ-loop
-try-starts-returns-3 t c = tried-out (c .before .before .loop .inv) (c .before .loop-test .left) (c .no-match2 .result) (c .no-match2 .ensures)
+try-starts-returns-3 : (t : ℕ)
+    → try-starts-lts.Need-returns-3 (try-starts-claims t) (try-starts-at t) try-starts.Post try-starts-Inv-loop try-starts-μ-loop
+try-starts-returns-3 t c = tried-out (c .before .before .loop .inv .tried) (c .before .loop-test .left) (c .no-match2 .result) (c .no-match2 .ensures)
 
 pub +from-item+try-starts-spec : {M : Type 1} → statement M
 +from-item+try-starts-spec = close μ-from-item μ-try-starts (λ t. from-item-lts.spec (from-item-claims t)
@@ -435,8 +450,8 @@ pub +from-item+try-starts-spec : {M : Type 1} → statement M
     (try-starts-mul-b t)
     (try-starts-array-copy-out-b t)
     (try-starts-start-from-requires t)
+    (try-starts-next-start-requires t)
     (try-starts-loop-holds t)
-    (try-starts-stands-at-requires t)
     (try-starts-start-at-requires t)
     (try-starts-last-after-requires t)
     (try-starts-with-start-requires t)
@@ -444,7 +459,8 @@ pub +from-item+try-starts-spec : {M : Type 1} → statement M
     (try-starts-add-from-item t)
     (try-starts-from-item-requires t)
     (try-starts-returns-2 t)
-    (try-starts-add-at t)
+    (try-starts-add-next-start t)
+    (try-starts-next-start-requires-2 t)
     (try-starts-loop-less t)
     (try-starts-loop-again t)
     (try-starts-no-match-requires-2 t)

@@ -11,14 +11,14 @@ use Rattle.match_patterns.proofs.bytes.alike_at.Statement.{statement}
 use Rattle.match_patterns.proofs.bytes.alike_at.Tie as tie
 
 abbrev Inv-loop : tie.InvT-loop
-Inv-loop b f at i₀ i = (i ≤ length b) × (standsAt true b (drop at f) ≡ left true b f at i)
+Inv-loop folded b f at i₀ i = (i ≤ length b) × (standsAt true b (drop at f) ≡ left true b f at i)
 
 abbrev μ-loop : tie.MeasureT-loop
-μ-loop b f at i₀ i = length b - i
+μ-loop folded b f at i₀ i = length b - i
 
 loop-holds : tie.Need-loop-holds Inv-loop μ-loop
 loop-holds c =
-    let a = c .before .before .args in
+    let a = c .before .before .before .args in
     (omega arith, stands-all true (a .b .now) (a .f .now) (a .at))
 
 shared-slice-read-x : tie.Need-shared-slice-read-x Inv-loop μ-loop
@@ -31,15 +31,15 @@ shared-slice-read-y : tie.Need-shared-slice-read-y Inv-loop μ-loop
 shared-slice-read-y c = omega arith
 
 alike-requires : tie.Need-alike-requires Inv-loop μ-loop
-alike-requires c κs = tt
+alike-requires c κs = c .before .before .before .before .before .before .before .pre .0
 
 returns : tie.Need-returns Inv-loop μ-loop
 returns c =
-    let s = c .before .before .before .before .before .before .before .before in
+    let s = c .before .before .before .before .before .before .before .before .before in
     let l = c .before .before .before .before .before .loop in
     let a = s .args in
     let differ = sym (c .before .alike .ensures) ∙ not-true _ (c .if1 .taken) in
-    sym (l .inv .1 ∙ stands-not true (a .b .now) (a .f .now) (a .at) (s .pre) (l .i) (omega arith) differ)
+    sym (l .inv .1 ∙ stands-not true (a .b .now) (a .f .now) (a .at) (s .pre .1) (l .i) (omega arith) differ)
 
 add-i : tie.Need-add-i Inv-loop μ-loop
 add-i c = omega arith
@@ -49,15 +49,15 @@ loop-less c = omega arith
 
 loop-again : tie.Need-loop-again Inv-loop μ-loop
 loop-again c =
-    let s = c .before .before .before .before .before .before .before .before in
+    let s = c .before .before .before .before .before .before .before .before .before in
     let l = c .before .before .before .before .before .loop in
     let a = s .args in
     let agree = sym (c .before .alike .ensures) ∙ not-false _ (c .if1 .left) in
-    (omega arith, l .inv .1 ∙ stands-more true (a .b .now) (a .f .now) (a .at) (s .pre) (l .i) (omega arith) agree)
+    (omega arith, l .inv .1 ∙ stands-more true (a .b .now) (a .f .now) (a .at) (s .pre .1) (l .i) (omega arith) agree)
 
 returns-2 : tie.Need-returns-2 Inv-loop μ-loop
 returns-2 c =
-    let a = c .before .before .before .before .args in
+    let a = c .before .before .before .before .before .args in
     let l = c .before .loop in
     sym (l .inv .1 ∙ stands-done true (a .b .now) (a .f .now) (a .at) (l .i) (omega arith))
 

@@ -1,0 +1,2 @@
+-- What a table that folds letters is.
+pub mod Folding

@@ -1,0 +1,2 @@
+-- What a walk over the starts of a field finds.
+pub mod Starts

@@ -1,0 +1,22 @@
+// The starts of a field at which a pattern's bytes stand, one after the other.
+ghost use mathlib.Core.Path.{_≡_};
+ghost use Prim.Native.Nat.{_-_};
+ghost use Rattle.match_patterns.specs.Starts.{Fits, standing, firstStart};
+use crate::bytes::stands_at;
+use match_folding::fold_table;
+
+// The first start from `from` on, before `to`, at which the bytes `b` stand in the field; none if it is `to` or more.
+pub fn next_start(nocase: bool, b: &[u8], f: &[u8], from: usize, to: usize) -> usize
+    requires { ⌜ Fits (now b) (now f) to ⌝ }
+    ensures { λ r. ⌜ r ≡ firstStart (standing nocase (now (b .entry)) (now (f .entry))) from (to - from) ⌝ }
+{
+    let folded = fold_table();
+    let mut at = from;
+    while at < to {
+        if stands_at(&folded, nocase, b, f, at) {
+            return at;
+        }
+        at += 1;
+    }
+    at
+}
