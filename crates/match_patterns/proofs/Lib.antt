@@ -1,4 +1,4 @@
--- Bytes at a place, and the places of a list of starts.
+-- Bytes at a place, the places of a list of starts, and the first of them.
 pub mod BytesAtPlace
 pub mod Listing
 pub mod FirstStart

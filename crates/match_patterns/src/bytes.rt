@@ -15,7 +15,7 @@ fn alike(folded: &[u8], x: u8, y: u8) -> bool
 }
 
 // The bytes `b` stand in the field at the place, each equal.
-fn equal_at(b: &[u8], f: &[u8], at: usize) -> bool
+pub fn equal_at(b: &[u8], f: &[u8], at: usize) -> bool
     requires { ⌜ at + length (now b) ≤ length (now f) ⌝ }
     ensures { λ r. ⌜ r ≡ windows.standsAt false (now (b .entry)) (drop at (now (f .entry))) ⌝ }
 {
@@ -30,7 +30,7 @@ fn equal_at(b: &[u8], f: &[u8], at: usize) -> bool
 }
 
 // The bytes `b` stand in the field at the place, each alike under no_case.
-fn alike_at(folded: &[u8], b: &[u8], f: &[u8], at: usize) -> bool
+pub fn alike_at(folded: &[u8], b: &[u8], f: &[u8], at: usize) -> bool
     requires { ⌜ FoldTable (now folded) × (at + length (now b) ≤ length (now f)) ⌝ }
     ensures { λ r. ⌜ r ≡ windows.standsAt true (now (b .entry)) (drop at (now (f .entry))) ⌝ }
 {
@@ -44,15 +44,4 @@ fn alike_at(folded: &[u8], b: &[u8], f: &[u8], at: usize) -> bool
         i += 1;
     }
     true
-}
-
-// The bytes `b` stand in the field at the place.
-pub fn stands_at(folded: &[u8], nocase: bool, b: &[u8], f: &[u8], at: usize) -> bool
-    requires { ⌜ FoldTable (now folded) × (at + length (now b) ≤ length (now f)) ⌝ }
-    ensures { λ r. ⌜ r ≡ windows.standsAt nocase (now (b .entry)) (drop at (now (f .entry))) ⌝ }
-{
-    if nocase {
-        return alike_at(folded, b, f, at);
-    }
-    equal_at(b, f, at)
 }
