@@ -34,7 +34,7 @@ module _ (x w : List ℕ) (i : ℕ) (same : length x ≡ length w) (h : i < leng
   unfolding sameWord
   heads = rw (add-one, drop-cons x i 0 (omega arith), drop-cons w i 0 h)
 
-  -- the byte is the letter in either case exactly if it is folded
+  -- a byte is the letter of a word in either case exactly if the byte, folded, is that letter
   pub letter : noCapitals w ≡ true → has (caseClass (getD w i 0)) (getD x i 0) ≡ eqb (lower (getD x i 0)) (getD w i 0)
   letter n = any-case (getD w i 0) (getD x i 0) (not-true _ (all-at (λ b. not (between 65 90 b)) 0 w i n h))
 

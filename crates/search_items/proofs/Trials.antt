@@ -124,8 +124,8 @@ over q s d l chosen on-bound ws p h to at =
 abbrev later : SearchInput → ℕ → List ℕ → List Constraint
 later q k rest = constraints (itemsLeft q (k + 1)) rest
 
--- what is known at each turn: no start before `at` leads to a placement, and those from `at` up to `to` decide, in the field f for the k-th item, the pattern p
--- with the bytes own
+-- what is known once the starts before `at` are done: none of them leads to a placement, and those from `at` up to `to` decide, in the field f, for the
+-- k-th item, the pattern p with the bytes own
 pub record Tried (q : SearchInput) (k : ℕ) (rest s d : List ℕ) (l : LastMatch) (chosen : Placement) (on-bound : Bool) (p : Pattern)
     (own f : List ℕ) (to at : ℕ) : Type 0 where
   pub few : (k < q .count) × (q .count ≤ maxItems)
@@ -217,7 +217,7 @@ module _ {q : SearchInput} {k : ℕ} {rest s d : List ℕ} {l : LastMatch} {chos
         pub tried-vain : r .found ≡ false → Tried q k rest s d l chosen on-bound p own f to (at + 1)
         tried-vain e = one-further (or-missing r _ _ this-or e)
 
--- what is known at each turn: where one is left to try, the bytes stand at `at`
+-- what is known at each turn: besides, where a start is left to try, the bytes stand at `at`
 pub record Reached (q : SearchInput) (k : ℕ) (rest s d : List ℕ) (l : LastMatch) (chosen : Placement) (on-bound : Bool) (p : Pattern)
     (own f : List ℕ) (to at : ℕ) : Type 0 where
   pub tried : Tried q k rest s d l chosen on-bound p own f to at
