@@ -7,6 +7,7 @@ use crate::bytes::alike_at;
 use crate::bytes::equal_at;
 use match_folding::fold_table;
 
+// The first start at which the bytes stand, each equal.
 fn next_equal(b: &[u8], f: &[u8], from: usize, to: usize) -> usize
     requires { ⌜ Fits (now b) (now f) to ⌝ }
     ensures { λ r. ⌜ r ≡ firstStart (standing false (now (b .entry)) (now (f .entry))) from (to - from) ⌝ }
@@ -21,7 +22,7 @@ fn next_equal(b: &[u8], f: &[u8], from: usize, to: usize) -> usize
     at
 }
 
-// The table is laid out once for the walk.
+// The first start at which the bytes stand, each alike under no_case. The table is laid out once for the walk.
 fn next_alike(b: &[u8], f: &[u8], from: usize, to: usize) -> usize
     requires { ⌜ Fits (now b) (now f) to ⌝ }
     ensures { λ r. ⌜ r ≡ firstStart (standing true (now (b .entry)) (now (f .entry))) from (to - from) ⌝ }
