@@ -2,7 +2,7 @@
 use mathlib.Core.Path.{_≡_, refl}
 use mathlib.Core.Bool.{true}
 use Rattle.definitions.specs.Lists.{all?}
-use Rattle.definitions.specs.Cases.{cases, knownMistakes, right}
+use Rattle.definitions.specs.Cases.{cases, knownMistakes, dataAtCases, right}
 use Rattle.definitions.specs.Computing.{computing}
 
 pub starred : all? right cases ≡ true
@@ -13,3 +13,8 @@ starred = refl
 pub known-mistakes-avoided : all? right knownMistakes ≡ true
 unfolding computing
 known-mistakes-avoided = refl
+
+-- and those of data_at from both starting points
+pub data-at-cases : all? right dataAtCases ≡ true
+unfolding computing
+data-at-cases = refl

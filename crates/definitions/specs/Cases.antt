@@ -104,9 +104,9 @@ cases =
     onPayload "aaXbbX" "--pattern \"X\"; --pattern !\"a\"; --distance -200; --within 200;" [] (First ∷ []) (none ∷ []) ∷
     -- b distance 2,packet,reverse, within 1,packet: (4)
     onPayload "aaXbbX" "--pattern \"b\"; --distance 2,packet,reverse; --within 1,packet;" [] (First ∷ Next ∷ []) (found (4 ∷ []) ∷ none ∷ []) ∷
-    -- data_at 5 holds, data_at 6 does not
-    onPayload "aaXbbX" "--data_at 5;" [] (First ∷ Next ∷ []) (found [] ∷ none ∷ []) ∷
-    onPayload "aaXbbX" "--data_at 6;" [] (First ∷ []) (none ∷ []) ∷
+    -- data_at 6 holds, data_at 7 does not (document 02, T-04; document 01 had 5 and 6)
+    onPayload "aaXbbX" "--data_at 6;" [] (First ∷ Next ∷ []) (found [] ∷ none ∷ []) ∷
+    onPayload "aaXbbX" "--data_at 7;" [] (First ∷ []) (none ∷ []) ∷
     -- `!"q"`, context uri absent: none. Present with length 0: one empty placement
     onUri Absent "--pattern !\"q\"; --context uri;" (First ∷ []) (none ∷ []) ∷
     onUri (At (record { start = 0; len = 0 })) "--pattern !\"q\"; --context uri;" (First ∷ Next ∷ []) (found [] ∷ none ∷ []) ∷
@@ -128,4 +128,14 @@ knownMistakes =
     onPayload "aaXbbX" "--pattern \"a\"; --pattern \"X\"; --distance 0; --within 1;" [] (First ∷ Next ∷ []) (found (1 ∷ 2 ∷ []) ∷ none ∷ []) ∷
     onPayload "aaXbbX" "--pattern \"a\"; --distance -1,packet; --within 2,packet;" [] (First ∷ Next ∷ []) (found (0 ∷ []) ∷ none ∷ []) ∷
     onUri Absent "--pattern \"X\"; --pattern !\"q\"; --context uri;" (First ∷ []) (none ∷ []) ∷
+    []
+
+-- Document 02, T-04, from both starting points: after the first X of `aaXbbX` three bytes follow, after the second none; an empty payload has 0 bytes
+unfoldable pub dataAtCases : List Case
+dataAtCases =
+    onPayload "aaXbbX" "--pattern \"X\"; --data_at 3,relative;" [] (First ∷ Next ∷ []) (found (2 ∷ []) ∷ none ∷ []) ∷
+    onPayload "aaXbbX" "--pattern \"X\"; --data_at 0,relative;" [] (First ∷ Next ∷ Next ∷ []) (found (2 ∷ []) ∷ found (5 ∷ []) ∷ none ∷ []) ∷
+    onPayload "aaXbbX" "--pattern \"X\"; --data_at 4,relative;" [] (First ∷ []) (none ∷ []) ∷
+    onPayload "" "--data_at 0;" [] (First ∷ []) (found [] ∷ []) ∷
+    onPayload "" "--data_at 1;" [] (First ∷ []) (none ∷ []) ∷
     []

@@ -105,9 +105,9 @@ atStart false l = 0
 atStart true last.None = 0
 atStart true (last.Some m) = m .end
 
--- the byte at N after a start exists in a field of so many bytes
-abbrev pub atExists : ℕ → ℕ → ℕ → Bool
-atExists n start len = ltb (start + n) len
+-- data_at N (document 02, T-04): at least N bytes follow a start, in a field of so many bytes
+abbrev pub dataFollows : ℕ → ℕ → ℕ → Bool
+dataFollows n start len = leb (start + n) len
 
 -- ---- every test; one on an absent field doesn't hold
 
@@ -118,7 +118,7 @@ module _ (v : View) where
   unfoldable pub atHolds : AtTest → LastMatch → Bool
   atHolds t l =
       v .present (atContext (t .relative) l)
-      && atExists (t .number) (atStart (t .relative) l) (length (v .field (atContext (t .relative) l)))
+      && dataFollows (t .number) (atStart (t .relative) l) (length (v .field (atContext (t .relative) l)))
 
   -- a test, after the last positive pattern; a slot that is not in use, and a pattern, are no tests
   unfoldable pub testHolds : Item → List Address → LastMatch → Bool

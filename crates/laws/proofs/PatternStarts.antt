@@ -54,18 +54,17 @@ before-le : (s : ℤ) (w : Within) (len e : ℕ) → beforeEnd s w len e ≡ tru
 before-le s within.Unset len e h = leb-true e len h
 before-le s (within.Given w) len e h = leb-true e len (both-left (leb e len) (leZ (pos e) (s +ℤ pos (w .number))) h)
 
-lies-within : (p : Pattern) (b : List ℕ) (l : LastMatch) (f : List ℕ) (x : ℕ) → lies p b l f x ≡ true → x ≤ length f
+lies-within : (p : Pattern) (b : List ℕ) (l : LastMatch) (f : List ℕ) (x : ℕ) → lies p b l f x ≡ true → x + p .len ≤ length f
 unfolding lies inWindow
 lies-within p b l f x e =
     let s = windowStart l (length f) (p .distance) (p .within) in
     let w = both-right (leZ s (pos x)) (beforeEnd s (p .within) (length f) (x + p .len)) (both-left _ (standsAt (p .nocase) b (drop x f)) e) in
-    let h = before-le s (p .within) (length f) (x + p .len) w in
-    omega arith
+    before-le s (p .within) (length f) (x + p .len) w
 
 -- ---- the starts of a pattern
 
 module _ (v : View) (p : Pattern) (b : List ℕ) (l : LastMatch) where
-  lies-inside : (s : Start) → liesIn v p b l s ≡ true → s .at ≤ length (v .field (p .context))
+  pub lies-inside : (s : Start) → liesIn v p b l s ≡ true → s .at + p .len ≤ length (v .field (p .context))
   unfolding liesIn
   lies-inside s e = lies-within p b l (v .field (p .context)) (s .at) (both-right (v .present (p .context)) (lies p b l (v .field (p .context)) (s .at)) e)
 

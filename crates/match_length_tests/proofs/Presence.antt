@@ -11,7 +11,7 @@ use Rattle.definitions.specs.declared.packets.PacketHeader.{PacketHeader}
 use Rattle.definitions.specs.declared.packets.FieldMap.{FieldMap}
 use Rattle.definitions.specs.declared.packets.LastMatch.{LastMatch}
 use Rattle.definitions.specs.Fields.{present, fieldOf, sizeContext}
-use Rattle.definitions.specs.Tests.{orderHolds, atContext, atStart, atExists, sizeHolds, atHolds}
+use Rattle.definitions.specs.Tests.{orderHolds, atContext, atStart, dataFollows, sizeHolds, atHolds}
 use Rattle.fields.specs.Seen.{seen}
 
 module _ (f : PacketHeader) (s d : List ℕ) (m : FieldMap) (c : Context) where
@@ -31,6 +31,6 @@ module _ (f : PacketHeader) (s d : List ℕ) (m : FieldMap) (c : Context) where
     at-absent p = rw (← e, p)
 
     pub at-present : present m c ≡ true → (len n start : ℕ) (r : Bool) → len ≡ length (fieldOf s d m c) → n ≡ t .number
-        → start ≡ atStart (t .relative) last → r ≡ atExists n start len → r ≡ atHolds (seen f s d m) t last
+        → start ≡ atStart (t .relative) last → r ≡ dataFollows n start len → r ≡ atHolds (seen f s d m) t last
     unfolding atHolds
     at-present p len n start r l q k h = rw (← e, p, ← l, ← q, ← k) h

@@ -2,7 +2,7 @@
 ghost use mathlib.Core.Path.{_≡_};
 ghost use lib.ListN.{length};
 ghost use Rattle.definitions.specs.Fields.{fieldOf, sizeContext};
-ghost use Rattle.definitions.specs.Tests.{atContext, atStart, atExists, sizeHolds, atHolds};
+ghost use Rattle.definitions.specs.Tests.{atContext, atStart, dataFollows, sizeHolds, atHolds};
 ghost use Rattle.fields.specs.Seen.{seen};
 ghost use Rattle.definitions.specs.declared.packets.PacketHeader.{PacketHeader};
 use definitions::packets::FieldMap;
@@ -75,14 +75,14 @@ fn at_start(relative: bool, last: LastMatch) -> usize
     }
 }
 
-// The byte at n after a start exists in a field of so many bytes; no sum of the two can wrap here.
-fn at_exists(n: usize, start: usize, len: usize) -> bool
-    ensures { λ r. ⌜ r ≡ atExists n start len ⌝ }
+// At least n bytes follow a start in a field of so many bytes; no sum of the two can wrap here.
+fn data_follows(n: usize, start: usize, len: usize) -> bool
+    ensures { λ r. ⌜ r ≡ dataFollows n start len ⌝ }
 {
-    if len <= start {
+    if len < start {
         return false;
     }
-    n < len - start
+    n <= len - start
 }
 
 // data_at.
@@ -102,5 +102,5 @@ pub fn at_holds<'a>(
     let start = at_start(t.relative, last);
     let len = field_length(payload, decoded, m, context);
     let n = of_word(t.number);
-    at_exists(n, start, len)
+    data_follows(n, start, len)
 }

@@ -36,20 +36,22 @@ pub fn table(random: &mut Random, message: &Message, alphabet: &[u8], patterns: 
     Table { name: b"n".to_vec(), protocol, flow, items }
 }
 
-/// Nine in ten hold, if the last positive pattern lies where it was aimed at.
+/// Most hold, if the last positive pattern lies where it was aimed at.
 fn aimed_test(random: &mut Random, message: &Message, last: Option<&Placed>) -> Test {
-    let mut test = near_test(random, message);
+    let mut test = near_test(random, message, last);
     for _ in 0..8 {
-        if tests::holds(&test, message, last) || random.chance(8) {
+        // Half of the data_at that do not hold stay: they show the other side of the number.
+        let percent = if matches!(test, Test::DataAt { .. }) { 50 } else { 8 };
+        if tests::holds(&test, message, last) || random.chance(percent) {
             break;
         }
-        test = near_test(random, message);
+        test = near_test(random, message, last);
     }
     test
 }
 
 /// A test whose number lies at or near the message's own.
-fn near_test(random: &mut Random, message: &Message) -> Test {
+fn near_test(random: &mut Random, message: &Message, last: Option<&Placed>) -> Test {
     let datagram = message.datagram;
     match random.below(12) {
         0 | 1 => {
@@ -93,8 +95,13 @@ fn near_test(random: &mut Random, message: &Message) -> Test {
             Test::DataSize { compare: sign(random), value: near(random, length), field }
         }
         _ => {
-            let at = random.below(message.payload.len() as u64 + 2);
-            Test::DataAt { at: random.pick(&[at, at / 2, at / 4]), relative: random.chance(60) }
+            let relative = random.chance(60);
+            let start = last.filter(|_| relative);
+            let field = start.map_or(Field::Packet, |last| last.field);
+            let length = message.field(field).map_or(0, <[u8]>::len) as u64;
+            let following = length.saturating_sub(start.map_or(0, |last| last.end));
+            let at = random.below(following + 2);
+            Test::DataAt { at: random.pick(&[following, following + 1, at, at / 2]), relative }
         }
     }
 }

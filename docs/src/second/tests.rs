@@ -60,12 +60,13 @@ fn header(message: &Message, field: HeaderField) -> u64 {
     }
 }
 
-/// Relative: at N after the end of the last positive pattern before, in its field;
-/// in the payload if there is none.
+/// At least N bytes follow the starting point (document 02, T-04): the payload's start, or
+/// with relative the end of the last positive pattern before, in its field, if there is one.
 fn data_at(at: u64, relative: bool, message: &Message, last: Option<&Placed>) -> bool {
     let (field, from) = match last {
         Some(placed) if relative => (placed.field, placed.end),
         _ => (Field::Packet, 0),
     };
-    message.field(field).is_some_and(|bytes| from + at < bytes.len() as u64)
+    let following = message.field(field).and_then(|bytes| bytes.get(from as usize..));
+    following.is_some_and(|bytes| bytes.len() as u64 >= at)
 }

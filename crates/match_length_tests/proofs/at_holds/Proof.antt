@@ -27,8 +27,8 @@ field-length-requires c κs = tt
 of-word-requires : tie.Need-of-word-requires
 of-word-requires c κs = tt
 
-at-exists-requires : tie.Need-at-exists-requires
-at-exists-requires c κs = tt
+data-follows-requires : tie.Need-data-follows-requires
+data-follows-requires c κs = tt
 
 returns-2 : tie.Need-returns-2
 returns-2 c = λ f.
@@ -36,8 +36,8 @@ returns-2 c = λ f.
     let k = c .before .before .before .before .before .before .at-context in
     at-present f (a .payload .now) (a .decoded .now) (a .m) (k .result) (a .t) (a .last) (k .ensures)
     (sym (c .before .before .before .before .before .is-present .ensures) ∙ not-false _ (c .before .before .before .before .if1 .left))
-    (c .before .before .field-length .result) (c .before .of-word .result) (c .before .before .before .at-start .result) (c .at-exists .result)
-    (c .before .before .field-length .ensures) (c .before .of-word .ensures) (c .before .before .before .at-start .ensures) (c .at-exists .ensures)
+    (c .before .before .field-length .result) (c .before .of-word .result) (c .before .before .before .at-start .result) (c .data-follows .result)
+    (c .before .before .field-length .ensures) (c .before .of-word .ensures) (c .before .before .before .at-start .ensures) (c .data-follows .ensures)
 
 pub at-holds-spec : {M : Type 1} → statement M
 at-holds-spec =
@@ -49,5 +49,5 @@ at-holds-spec =
     at-start-requires
     field-length-requires
     of-word-requires
-    at-exists-requires
+    data-follows-requires
     returns-2)
