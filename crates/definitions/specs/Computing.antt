@@ -4,6 +4,7 @@ use Rattle.forms.specs.Bytes.{lower, sameWord, run}
 use Rattle.forms.specs.Form.{has, Means}
 use Rattle.forms.specs.Scan.{loop, scan, overs, over}
 use Rattle.forms.specs.Place.{readAt}
+use Rattle.forms.specs.Bounds.{bounds}
 use Rattle.definitions.specs.Lists.{all?, any?, keep, sameBytes}
 use Rattle.definitions.specs.Numbers.{digitValue, valueOf}
 use Rattle.definitions.specs.Options.{optionTable, inName, namedOption, optionAt, printable}
@@ -28,5 +29,5 @@ use Rattle.definitions.specs.Cases.{pairs, sameLists, signature, packetW
 use Rattle.definitions.specs.NumberCases.{agrees, shownIn, refusalNumbers, ruleWith, illFormed, longRule, header, good, noFields, longUri, reads, readsOption, writesTo, seen, judged, firstOf, nextOf, refusedWith, numberCases}
 
 unfoldable pub computing : ℕ
-unfolding lower sameWord run has Means loop scan overs over readAt all? any? keep sameBytes digitValue valueOf optionTable inName namedOption optionAt printable nameIn protocolIn flowIn modified slotsIn bytesIn tableOf patternsOf startBefore sameStart usable usableRun latest occurrenceCheck missing options checkedTable readUnbounded read nameFits itemFits itemsFit bytesOf bytesFit wellFormed slotOptions canonicalOptions digitsOf addressesText fieldText patternText testText modifierText optionText optionsText canonicalText writingCheck writes bufferAfter bigEndian headerOf packetCheck packetAnswer fieldOf present fieldsCheck inAddresses addressHolds numberHolds fieldHolds sizeHolds atHolds testHolds inWindow alike standsAt lies lexLess constraints itemsOf positives upFrom spread liesIn starts unmatchedHolds Meets placements MeetsTable listed inputCheck placementsOf verdictAnswer firstAnswer nextAnswer answers lineOf lineTexts linesFrom outputOver programOutput pairs sameLists signature packetWith uriOnly numbersOf rightBy right found none onPayload onUri onText cases knownMistakes dataAtCases agrees shownIn refusalNumbers ruleWith illFormed longRule header good noFields longUri reads readsOption writesTo seen judged firstOf nextOf refusedWith numberCases
+unfolding lower sameWord run has Means loop scan overs over readAt bounds all? any? keep sameBytes digitValue valueOf optionTable inName namedOption optionAt printable nameIn protocolIn flowIn modified slotsIn bytesIn tableOf patternsOf startBefore sameStart usable usableRun latest occurrenceCheck missing options checkedTable readUnbounded read nameFits itemFits itemsFit bytesOf bytesFit wellFormed slotOptions canonicalOptions digitsOf addressesText fieldText patternText testText modifierText optionText optionsText canonicalText writingCheck writes bufferAfter bigEndian headerOf packetCheck packetAnswer fieldOf present fieldsCheck inAddresses addressHolds numberHolds fieldHolds sizeHolds atHolds testHolds inWindow alike standsAt lies lexLess constraints itemsOf positives upFrom spread liesIn starts unmatchedHolds Meets placements MeetsTable listed inputCheck placementsOf verdictAnswer firstAnswer nextAnswer answers lineOf lineTexts linesFrom outputOver programOutput pairs sameLists signature packetWith uriOnly numbersOf rightBy right found none onPayload onUri onText cases knownMistakes dataAtCases agrees shownIn refusalNumbers ruleWith illFormed longRule header good noFields longUri reads readsOption writesTo seen judged firstOf nextOf refusedWith numberCases
 computing = 0

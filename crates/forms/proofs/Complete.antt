@@ -1,5 +1,5 @@
--- What is of a fair form is read, whatever follows that does not go on with it. Assumes nothing.
-use mathlib.Core.Path.{_≡_, refl, sym, subst}
+-- What is of a fair form is read, whatever follows that does not go on with it, and its broken bounds are found in their order. Assumes nothing.
+use mathlib.Core.Path.{_≡_, refl, sym, ap, subst, _∙_}
 use mathlib.Core.Bool.{Bool, true, false, not, _&&_, _||_}
 use mathlib.Core.List.{List, [], _∷_, _++_, append-assoc}
 use mathlib.Core.Logic.{_⊎_, inl, inr, ⊎-elim}
@@ -12,7 +12,10 @@ use borrow.Author.Tests.{leb-true, ltb-true}
 use Rattle.forms.specs.Bytes.{if_then_else_}
 use Rattle.forms.proofs.Bools.{by-cases, both-left, both-right}
 use Rattle.forms.specs.Form.{Class, has, Form, pure, byte, pair, alt, many, fmap, bound, Row, none, more, Means}
+use Rattle.forms.specs.Bounds.{Bounded, rowBounds, bounds}
 use Rattle.forms.specs.Scan.{Scan, Got, nullable, firstSet, followSet, begins, loop, scan, overs, over, clear, apart, isLL1}
+use Rattle.forms.proofs.Bounds.{leftAt, left-append, left-both, left-last, none-left}
+use Rattle.forms.proofs.Within.{within-bounds}
 use Rattle.forms.proofs.Sound.{never}
 
 -- ---- classes
@@ -129,26 +132,25 @@ pub some-byte : (y : List ℕ) → (y ≡ [] → _≡_ {A = ℕ} 0 1) → 0 < le
 some-byte [] h = never (h refl)
 some-byte (b ∷ y) h = omega arith
 
--- the scanner answers with v and leaves r, and with k true no bound is broken
-abbrev pub Reads : {A : Type 0} → Bool → Form A → List ℕ → A → List ℕ → Type 0
-Reads k f l v r = (scan f l ≡ Got v r) × (k ≡ true → over f l ≡ [])
-
-module _ {A : Type 0} (k : Bool) (P : List ℕ → A → Type 0) (c d : Class) (s : List ℕ → Scan A) (o : List ℕ → List (List ℕ))
-    (read : (x : List ℕ) (v : A) (r : List ℕ) → P x v → begins d r ≡ false → (s (x ++ r) ≡ Got v r) × (k ≡ true → o (x ++ r) ≡ []))
+module _ {A : Type 0} (P : List ℕ → A → Type 0) (h : (x : List ℕ) (v : A) → P x v → List Bounded) (c d : Class) (s : List ℕ → Scan A)
+    (o : List ℕ → List (List ℕ))
+    (read : (x : List ℕ) (v : A) (r : List ℕ) (m : P x v) → begins d r ≡ false → (s (x ++ r) ≡ Got v r) × (o (x ++ r) ≡ leftAt (x ++ r) (h x v m)))
     (starts : (b : ℕ) (l : List ℕ) (v : A) → P (b ∷ l) v → has c b ≡ true) (full : (v : A) → P [] v → _≡_ {A = ℕ} 0 1) (far : apart d c ≡ true) where
-  loop-complete : {x : List ℕ} {vs : List A} → Row P x vs → (n : ℕ) (r : List ℕ) → length (x ++ r) ≤ n → begins (d ++ c) r ≡ false
-      → (loop c s n (x ++ r) ≡ Got vs r) × (k ≡ true → overs c s o n (x ++ r) ≡ [])
+  loop-reads : {x : List ℕ} {vs : List A} (m : Row P x vs) (n : ℕ) (r : List ℕ) → length (x ++ r) ≤ n → begins (d ++ c) r ≡ false
+      → (loop c s n (x ++ r) ≡ Got vs r) × (overs c s o n (x ++ r) ≡ leftAt (x ++ r) (rowBounds P h m))
   unfolding loop overs
-  loop-complete none zero r h z = (refl, λ q. refl)
-  loop-complete none (suc n) r h z = let e = lacks-right d c r z in (rw e, λ q. rw e)
-  loop-complete (more {x} {y} {v} {vs} p q) zero r h z = absurd (omega (arith, some-byte x (λ e. full v (subst (λ u. P u v) e p)), simp length-append at h))
-  loop-complete (more {x} {y} {v} {vs} p q) (suc n) r h z =
+  loop-reads none zero r k z = (refl, refl)
+  loop-reads none (suc n) r k z = let e = lacks-right d c r z in (rw e, rw e)
+  loop-reads (more {x} {y} {v} {vs} p q) zero r k z = absurd (omega (arith, some-byte x (λ e. full v (subst (λ u. P u v) e p)), simp length-append at k))
+  loop-reads (more {x} {y} {v} {vs} p q) (suc n) r k z =
       let e1 : begins c (x ++ (y ++ r)) ≡ true = loud c x (y ++ r) (λ e. full v (subst (λ u. P u v) e p)) (λ b t e. starts b t v (subst (λ u. P u v) e p)) in
       let e2 : begins d (y ++ r) ≡ false = quiet d y r (λ e. lacks-left d c r z) (λ b t e. apart-lacks d c b far (row-first P c starts q b t e)) in
       let e3 = read x v (y ++ r) p e2 in
-      let e4 : length (y ++ r) ≤ n = omega (arith, some-byte x (λ e. full v (subst (λ u. P u v) e p)), simp length-append at h, length-append y r) in
-      let e5 = loop-complete q n r e4 z in
-      (rw (append-assoc, e1, e3 .0, e5 .0), λ t. rw (append-assoc, e1, e3 .0, e3 .1 t, e5 .1 t))
+      let e4 : length (y ++ r) ≤ n = omega (arith, some-byte x (λ e. full v (subst (λ u. P u v) e p)), simp length-append at k, length-append y r) in
+      let e5 = loop-reads q n r e4 z in (
+        rw (append-assoc, e1, e3 .0, e5 .0),
+        rw (append-assoc, e1, e3 .0, e3 .1, e5 .1) (sym (left-both (x ++ (y ++ r)) x (y ++ r) (h x v p) (rowBounds P h q) refl)),
+      )
 
 pub both3 : (a b c : Bool) → ((a && b) && c) ≡ true → (a ≡ true) × (b ≡ true) × (c ≡ true)
 both3 a b c e = let x = both-left (a && b) c e in (both-left a b x, both-right a b x, both-right (a && b) c e)
@@ -156,52 +158,75 @@ both3 a b c e = let x = both-left (a && b) c e in (both-left a b x, both-right a
 pub no-empty : {A : Type 0} (k : Bool) (f : Form A) → not (nullable f) ≡ true → (v : A) → Means k f [] v → _≡_ {A = ℕ} 0 1
 no-empty k f e v m = let t = empty-of k f v m in let q : false ≡ true = rw t at e in cc
 
--- COMPLETE, with the bounds or without
-pub complete : {A : Type 0} (k : Bool) (f : Form A) → isLL1 f ≡ true → (x : List ℕ) (v : A) (r : List ℕ) → Means k f x v → begins (followSet f) r ≡ false
-    → Reads k f (x ++ r) v r
-unfolding scan Means over
-complete k (pure a) w x v r m z = let e = m .0 in let g = m .1 in (rw (e, g), λ q. refl)
-complete k (byte c) w x v r m z = let e = m .0 in let t = m .1 in (rw (e, t), λ q. refl)
-complete k (pair f g) w x v r m z =
+-- COMPLETE: what is of the form is read, and its broken bounds are found
+pub reads : {A : Type 0} (f : Form A) → isLL1 f ≡ true → (x : List ℕ) (v : A) (r : List ℕ) (m : Means false f x v) → begins (followSet f) r ≡ false
+    → (scan f (x ++ r) ≡ Got v r) × (over f (x ++ r) ≡ leftAt (x ++ r) (bounds f x v m))
+unfolding scan Means over bounds
+reads (pure a) w x v r m z = let e = m .0 in let g = m .1 in (rw (e, g), refl)
+reads (byte c) w x v r m z = let e = m .0 in let t = m .1 in (rw (e, t), refl)
+reads (pair f g) w x v r m z =
     let b = both3 (isLL1 f) (isLL1 g) (apart (followSet f) (firstSet g)) w in
     let i = m .0 in
     let j = m .1 in
     let e1 : begins (followSet f) (j ++ r) ≡ false =
     quiet (followSet f) j r
-    (λ e. let t = empty-of k g (v .1) (subst (λ y. Means k g y (v .1)) e (m .4)) in lacks-right (followSet g) (followSet f) r (rw t at z))
-    (λ a t e. apart-lacks (followSet f) (firstSet g) a (b .2) (first-of k g a t (v .1) (subst (λ y. Means k g y (v .1)) e (m .4)))) in
-    let e2 = complete k f (b .0) i (v .0) (j ++ r) (m .3) e1 in
-    let e3 = complete k g (b .1) j (v .1) r (m .4) (lacks-left (followSet g) (if nullable g then (followSet f) else []) r z) in
-    let e4 = m .2 in
-    (rw (e4, append-assoc, e2 .0, e3 .0), λ q. rw (e4, append-assoc, e2 .0, e2 .1 q, e3 .1 q))
-complete k (alt f g) w x v r (inl m) z =
+    (λ e. let t = empty-of false g (v .1) (subst (λ y. Means false g y (v .1)) e (m .4)) in lacks-right (followSet g) (followSet f) r (rw t at z))
+    (λ a t e. apart-lacks (followSet f) (firstSet g) a (b .2) (first-of false g a t (v .1) (subst (λ y. Means false g y (v .1)) e (m .4)))) in
+    let e2 = reads f (b .0) i (v .0) (j ++ r) (m .3) e1 in
+    let e3 = reads g (b .1) j (v .1) r (m .4) (lacks-left (followSet g) (if nullable g then (followSet f) else []) r z) in
+    let e4 = m .2 in (
+      rw (e4, append-assoc, e2 .0, e3 .0),
+      rw (e4, append-assoc, e2 .0, e2 .1, e3 .1)
+          (sym (left-both (i ++ (j ++ r)) i (j ++ r) (bounds f i (v .0) (m .3)) (bounds g j (v .1) (m .4)) refl)),
+    )
+reads (alt f g) w x v r (inl m) z =
     let b = both3 (isLL1 f) (isLL1 g) ((not (nullable f)) && (apart (firstSet f) (firstSet g))) w in
     let n = both-left (not (nullable f)) (apart (firstSet f) (firstSet g)) (b .2) in
     let e1 : begins (firstSet f) (x ++ r) ≡ true =
-    loud (firstSet f) x r (λ e. no-empty k f n v (subst (λ y. Means k f y v) e m)) (λ a t e. first-of k f a t v (subst (λ y. Means k f y v) e m)) in
-    let e2 = complete k f (b .0) x v r m (lacks-left (followSet f) (followSet g ++ (if nullable g then (firstSet f) else [])) r z) in
-    (rw e1 (e2 .0), λ q. rw e1 (e2 .1 q))
-complete k (alt f g) w x v r (inr m) z =
+    loud (firstSet f) x r (λ e. no-empty false f n v (subst (λ y. Means false f y v) e m))
+    (λ a t e. first-of false f a t v (subst (λ y. Means false f y v) e m)) in
+    let e2 = reads f (b .0) x v r m (lacks-left (followSet f) (followSet g ++ (if nullable g then (firstSet f) else [])) r z) in
+    (rw e1 (e2 .0), rw e1 (e2 .1))
+reads (alt f g) w x v r (inr m) z =
     let b = both3 (isLL1 f) (isLL1 g) ((not (nullable f)) && (apart (firstSet f) (firstSet g))) w in
     let n = both-right (not (nullable f)) (apart (firstSet f) (firstSet g)) (b .2) in
     let z1 = lacks-right (followSet f) (followSet g ++ (if nullable g then (firstSet f) else [])) r z in
     let e1 : begins (firstSet f) (x ++ r) ≡ false =
     quiet (firstSet f) x r
-    (λ e. let t = empty-of k g v (subst (λ y. Means k g y v) e m) in lacks-right (followSet g) (firstSet f) r (rw t at z1))
-    (λ a t e. apart-lacks (firstSet f) (firstSet g) a n (first-of k g a t v (subst (λ y. Means k g y v) e m))) in
-    let e2 = complete k g (b .1) x v r m (lacks-left (followSet g) (if nullable g then (firstSet f) else []) r z1) in
-    (rw e1 (e2 .0), λ q. rw e1 (e2 .1 q))
-complete k (many f) w x v r m z =
+    (λ e. let t = empty-of false g v (subst (λ y. Means false g y v) e m) in lacks-right (followSet g) (firstSet f) r (rw t at z1))
+    (λ a t e. apart-lacks (firstSet f) (firstSet g) a n (first-of false g a t v (subst (λ y. Means false g y v) e m))) in
+    let e2 = reads g (b .1) x v r m (lacks-left (followSet g) (if nullable g then (firstSet f) else []) r z1) in
+    (rw e1 (e2 .0), rw e1 (e2 .1))
+reads (many f) w x v r m z =
     let b = both-left (isLL1 f) ((not (nullable f)) && (apart (followSet f) (firstSet f))) w in
     let b2 = both-right (isLL1 f) ((not (nullable f)) && (apart (followSet f) (firstSet f))) w in
     let n = both-left (not (nullable f)) (apart (followSet f) (firstSet f)) b2 in
     let n2 = both-right (not (nullable f)) (apart (followSet f) (firstSet f)) b2 in
-    loop-complete k (λ y u. Means k f y u) (firstSet f) (followSet f) (λ t. scan f t) (λ t. over f t) (λ y u t p q. complete k f b y u t p q)
-    (λ a t u p. first-of k f a t u p) (λ u p. no-empty k f n u p) n2 m (length (x ++ r)) r (le-refl _) z
-complete k (fmap h f) w x v r m z =
-    let e1 = complete k f w x (m .0) r (m .2) z in
+    loop-reads (λ y u. Means false f y u) (λ y u p. bounds f y u p) (firstSet f) (followSet f) (λ t. scan f t) (λ t. over f t)
+    (λ y u t p q. reads f b y u t p q)
+    (λ a t u p. first-of false f a t u p) (λ u p. no-empty false f n u p) n2 m (length (x ++ r)) r (le-refl _) z
+reads (fmap h f) w x v r m z =
+    let e1 = reads f w x (m .0) r (m .2) z in
     let e2 = m .1 in
     (rw (e1 .0, e2), e1 .1)
-complete k (bound p j f) w x v r m z =
-    let e1 = complete k f w x v r (m .0) z in
-    (e1 .0, λ q. rw (e1 .1 q, e1 .0, m .1 q))
+reads (bound p j f) w x v r m z =
+    let e1 = reads f w x v r (m .0) z in
+    let bs = bounds f x v (m .0) in (
+      e1 .0,
+      rw (e1 .1, e1 .0)
+          (ap (λ l. leftAt (x ++ r) bs ++ l) (left-last (x ++ r) x (j v) (p v))
+          ∙ sym (left-append (x ++ r) bs (record { before = 0; part = x; skip = j v; kept = p v } ∷ []))),
+    )
+
+-- the scanner answers with v and leaves r, and with k true no bound is broken
+abbrev pub Reads : {A : Type 0} → Bool → Form A → List ℕ → A → List ℕ → Type 0
+Reads k f l v r = (scan f l ≡ Got v r) × (k ≡ true → over f l ≡ [])
+
+-- with the bounds or without
+pub complete : {A : Type 0} (k : Bool) (f : Form A) → isLL1 f ≡ true → (x : List ℕ) (v : A) (r : List ℕ) → Means k f x v → begins (followSet f) r ≡ false
+    → Reads k f (x ++ r) v r
+complete false f w x v r m z = (reads f w x v r m z .0, λ q. never (cc))
+complete true f w x v r m z =
+    let n = within-bounds f x v .0 m in
+    let i = reads f w x v r (n .0) z in
+    (i .0, λ q. i .1 ∙ none-left (x ++ r) (bounds f x v (n .0)) (n .1))

@@ -12,7 +12,7 @@ use Rattle.forms.specs.Bytes.{if_then_else_}
 use Rattle.forms.proofs.Bools.{by-cases, both-left, both-right}
 use Rattle.forms.specs.Form.{Class, has, Form, pure, byte, pair, alt, many, fmap, bound, Row, none, more, Means}
 use Rattle.forms.specs.Scan.{Scan, Got, Stop, onGot, nullable, firstSet, followSet, begins, one, loop, scan, onward, overs, over, apart, filled, isLL1}
-use Rattle.forms.proofs.Sound.{never, sound, sound-loose, stop-split, Read}
+use Rattle.forms.proofs.Sound.{never, sound, sound-loose, stop-split, Read, after}
 use Rattle.forms.proofs.Complete.{complete, Reads, both3, no-empty, some-byte}
 
 -- ---- what was passed over begins a text of the form
@@ -50,10 +50,6 @@ one-begun c w (b ∷ l) r e =
     by-cases (has c b)
     (λ t. let q : Got b l ≡ Stop r = rw t at e in never (cc))
     (λ t. let q : _≡_ {A = Scan ℕ} (Stop (b ∷ l)) (Stop r) = rw t at e in let y : b ∷ l ≡ r = cc in ([], h .0 ∷ [], h .0, y, (refl, h .1)))
-
--- after a text of P
-after : (x p l m r : List ℕ) → l ≡ x ++ m → m ≡ p ++ r → l ≡ (x ++ p) ++ r
-after x p l m r e g = rw (e, g) (sym (append-assoc x p r))
 
 loop-begun : {A : Type 0} (P : List ℕ → A → Type 0) (c : Class) (s : List ℕ → Scan A) → ((l : List ℕ) (v : A) (r : List ℕ) → s l ≡ Got v r → Read P l v r)
     → ((l r : List ℕ) → s l ≡ Stop r → Begun P l r) → (k : ℕ) (l r : List ℕ) → loop c s k l ≡ Stop r → Begun (Row P) l r

@@ -3,8 +3,9 @@ use mathlib.Core.Path.{_≡_, refl, sym, ap, _∙_}
 use mathlib.Core.Bool.{Bool, true, false, not, _&&_}
 use mathlib.Core.List.{List, [], _∷_, _++_}
 use mathlib.Core.Logic.{_↔_}
-use Prim.Native.Nat.{ℕ, _+_, _-_, _≤_}
+use Prim.Native.Nat.{ℕ, suc, _+_, _-_, _≤_}
 use native.Mathlib.Omega.{arith}
+use lib.ListN.{length}
 use lib.Dec.{eqb, leb}
 use borrow.Author.Tests.{eqb-true, eqb-false, eq-eqb, ne-eqb, le-leb, lt-leb, leb-true, not-true}
 use Rattle.forms.specs.Bytes.{if_then_else_, between, lower, sameWord}
@@ -12,6 +13,14 @@ use Rattle.forms.specs.Form.{Class, has, Means}
 use Rattle.forms.specs.Pieces.{keyword}
 use Rattle.forms.proofs.Bools.{by-cases, both-left, both-right}
 use Rattle.forms.proofs.Sound.{never}
+
+-- bytes that are a word are as many as its letters
+pub word-length : (x w : List ℕ) → sameWord x w ≡ true → length x ≡ length w
+unfolding sameWord
+word-length [] [] e = refl
+word-length [] (y ∷ w) e = never (cc)
+word-length (b ∷ x) [] e = never (cc)
+word-length (b ∷ x) (y ∷ w) e = ap suc (word-length x w (both-right (eqb (lower b) y) (sameWord x w) e))
 
 pub span-one : (b d : ℕ) → between d d b ≡ eqb b d
 span-one b d =

@@ -4,3 +4,4 @@ pub mod Form
 pub mod Scan
 pub mod Place
 pub mod Pieces
+pub mod Bounds

@@ -1,8 +1,8 @@
 -- Comparing bytes with a word, letter by letter.
-use mathlib.Core.Path.{_≡_, refl, ap, _∙_}
+use mathlib.Core.Path.{_≡_, _∙_}
 use mathlib.Core.Bool.{true, false, not, _&&_}
-use mathlib.Core.List.{List, [], _∷_}
-use Prim.Native.Nat.{ℕ, suc, _+_, _≤_, _<_}
+use mathlib.Core.List.{List}
+use Prim.Native.Nat.{ℕ, _+_, _≤_, _<_}
 use native.Mathlib.Omega.{arith}
 use native.Mathlib.Numerals.{add-one}
 use lib.ListN.{length, getD, drop, drop-of-length-le}
@@ -12,18 +12,14 @@ use borrow.Author.Tests.{not-true}
 use Rattle.forms.specs.Bytes.{between, lower, sameWord}
 use Rattle.forms.specs.Form.{has}
 use Rattle.forms.proofs.Bools.{by-cases}
-use Rattle.forms.proofs.Words.{any-case}
+use Rattle.forms.proofs.Words.{word-length, any-case}
 use Rattle.list_laws.proofs.Every.{all-at}
 use Rattle.scan_bytes.specs.Classes.{caseClass}
 use Rattle.read_names.specs.Names.{noCapitals}
 
 -- words of other lengths are not the same
 pub other-length : (x w : List ℕ) → (length x ≡ length w → ⊥) → sameWord x w ≡ false
-unfolding sameWord
-other-length [] [] n = absurd (n refl)
-other-length [] (y ∷ w) n = refl
-other-length (b ∷ x) [] n = refl
-other-length (b ∷ x) (y ∷ w) n = by-cases (eqb (lower b) y) (λ t. rw t (other-length x w (λ e. n (ap suc e)))) (λ t. rw t)
+other-length x w n = by-cases (sameWord x w) (λ t. absurd (n (word-length x w t))) (λ t. t)
 
 -- what is still to come of two words of one length
 abbrev pub Still : List ℕ → List ℕ → ℕ → Type 0
