@@ -14,6 +14,7 @@ pub mod Refusals
 pub mod Occurrences
 pub mod Reading
 pub mod Grammar
+pub mod WrongPlaces
 pub mod WellFormed
 pub mod Canonical
 pub mod Writing
@@ -28,4 +29,5 @@ pub mod Queries
 pub mod Lines
 pub mod Cases
 pub mod NumberCases
+pub mod PlaceCases
 pub mod Computing

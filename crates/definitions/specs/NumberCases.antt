@@ -109,8 +109,8 @@ numberCases =
     reads "f-sbid()" (3 ∷ 0 ∷ []) ∷
     reads "F-SBID( -name \"n\"; )" (4 ∷ 8 ∷ []) ∷
     readsOption "--tag 1;" (5 ∷ 31 ∷ []) ∷
-    readsOption "--ip_id 1x;" (6 ∷ 31 ∷ []) ∷
-    readsOption "--ip_id 65536;" (7 ∷ 31 ∷ []) ∷
+    readsOption "--ip_id 1x;" (6 ∷ 40 ∷ []) ∷
+    readsOption "--ip_id 65536;" (7 ∷ 39 ∷ []) ∷
     readsOption "--same_ip;--name \"m\";" (8 ∷ 41 ∷ []) ∷
     readsOption "--no_case;" (9 ∷ 31 ∷ []) ∷
     readsOption "--pattern \"a\";--distance 1,match,reverse;" (10 ∷ 31 ∷ []) ∷

@@ -1,4 +1,5 @@
--- Reading a text into a table. Sections "Text" and "Numbers of refusal", 1 to 12 with their places and order. Places count from 0.
+-- Reading a text into a table. Sections "Text" and "Numbers of refusal", 1 to 12 with their places and order; document 02, T-02: where 6 and 7 are
+-- placed. Places count from 0.
 use Prim.Native.Nat.{ℕ, zero, suc, _+_, _-_}
 use mathlib.Core.Bool.{Bool, not}
 use mathlib.Core.List.{List, [], _∷_, _++_, map}
@@ -40,12 +41,26 @@ abbrev pub unlessRefused : Check → ℕ → Options → Options
 unlessRefused check.Pass at k = k
 unlessRefused (check.Refuse r) at k = refused r at
 
--- the option whose first dash stands at a place, after the options es: 5, then 6, then 7, then 8, 9 or 11, all at that dash
-abbrev pub optionStep : NamedOption → List OptionValue → ℕ → (OptionValue → ℕ → Options) → Options
-optionStep unlisted es at k = refused refusal.NotListed at
-optionStep (listed (Failed p)) es at k = refused refusal.Form at
-optionStep (listed (OutOfRange p next)) es at k = refused refusal.Limit at
-optionStep (listed (Parsed e next)) es at k = unlessRefused (occurrenceCheck es e) at (k e next)
+-- where 6 and 7 are placed: by the option's first dash, and by the place that its form answers with, for 6 the first at which it cannot go on, for 7
+-- that of the first broken limit
+pub record Placing : Type 0 where
+  pub form : ℕ → ℕ → ℕ
+  pub limit : ℕ → ℕ → ℕ
+
+-- document 01: at the dash
+abbrev pub atDash : Placing
+atDash = record { form = λ dash p. dash; limit = λ dash p. dash }
+
+-- T-02: at the wrong letter
+abbrev pub atLetter : Placing
+atLetter = record { form = λ dash p. p; limit = λ dash p. p }
+
+-- the option whose first dash stands at a place, after the options es: 5, then 6, then 7, then 8, 9 or 11; all but 6 and 7 at that dash
+abbrev pub optionStep : Placing → NamedOption → List OptionValue → ℕ → (OptionValue → ℕ → Options) → Options
+optionStep P unlisted es at k = refused refusal.NotListed at
+optionStep P (listed (Failed p)) es at k = refused refusal.Form (P .form at p)
+optionStep P (listed (OutOfRange p next)) es at k = refused refusal.Limit (P .limit at p)
+optionStep P (listed (Parsed e next)) es at k = unlessRefused (occurrenceCheck es e) at (k e next)
 
 abbrev pub isSpace : ℕ → Bool
 isSpace b = eqb b 32
@@ -55,15 +70,15 @@ abbrev pub dashes : List ℕ → Bool
 dashes l = sameBytes (take 2 l) (text "--")
 
 -- The text s from a place on, where the bytes l begin; `passed` of these belong to the option that was read last
-unfoldable pub options : List ℕ → List ℕ → ℕ → ℕ → List Located → Options
-options s [] passed at located = refused refusal.NeitherOptionNorEnd at
-options s (b ∷ l) (suc passed) at located = options s l passed (at + 1) located
-options s (b ∷ l) zero at located =
-    if isSpace b then options s l zero (at + 1) located
+unfoldable pub options : Placing → List ℕ → List ℕ → ℕ → ℕ → List Located → Options
+options P s [] passed at located = refused refusal.NeitherOptionNorEnd at
+options P s (b ∷ l) (suc passed) at located = options P s l passed (at + 1) located
+options P s (b ∷ l) zero at located =
+    if isSpace b then options P s l zero (at + 1) located
     else if eqb b 41 then (if none? l then ended located else refused refusal.NeitherOptionNorEnd (at + 1))
     else if dashes (b ∷ l)
-    then optionStep (optionAt s at) (optionValuesOf located) at
-    (λ e next. options s l (next - (at + 1)) (at + 1) (located ++ (record { dash = at; value = e } ∷ [])))
+    then optionStep P (optionAt s at) (optionValuesOf located) at
+    (λ e next. options P s l (next - (at + 1)) (at + 1) (located ++ (record { dash = at; value = e } ∷ [])))
     else refused refusal.NeitherOptionNorEnd at
 
 -- ---- then 10 by pattern, then 12
@@ -92,14 +107,20 @@ finished room s (refused r p) = refusedReading room r p
 
 -- ---- the whole text: 1, 2, 3, then the options
 
--- reading with rule 1's upper bound lifted, into a table with room for so many pattern bytes
-unfoldable pub readUnbounded : ℕ → List ℕ → Reading
-readUnbounded room s =
+-- reading with rule 1's upper bound lifted, into a table with room for so many pattern bytes; 6 and 7 are placed so
+unfoldable pub unboundedPlacing : Placing → ℕ → List ℕ → Reading
+unboundedPlacing P room s =
     if none? s then refusedReading room refusal.TextLength 0
     else if ltb (run printable s) (length s) then refusedReading room refusal.TextByte (run printable s)
     else if not (sameBytes (take (length opening) s) opening) then refusedReading room refusal.Opening 0
-    else finished room s (options s (drop (length opening) s) 0 (length opening) [])
+    else finished room s (options P s (drop (length opening) s) 0 (length opening) [])
 
--- READING
-unfoldable pub read : Limits → List ℕ → Reading
-read lim s = if ltb (lim .text) (length s) then refusedReading (lim .room) refusal.TextLength 0 else readUnbounded (lim .room) s
+unfoldable pub readPlacing : Placing → Limits → List ℕ → Reading
+readPlacing P lim s = if ltb (lim .text) (length s) then refusedReading (lim .room) refusal.TextLength 0 else unboundedPlacing P (lim .room) s
+
+-- READING; and without rule 1's upper bound
+abbrev pub read : Limits → List ℕ → Reading
+read = readPlacing atLetter
+
+abbrev pub readUnbounded : ℕ → List ℕ → Reading
+readUnbounded = unboundedPlacing atLetter

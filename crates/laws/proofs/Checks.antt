@@ -23,6 +23,11 @@ pub refuse-fine : (b : Bool) (r : Refusal) (d : Check) → refuseIf b r d ≡ Pa
 refuse-fine true r d e = no-fine r e
 refuse-fine false r d e = (refl, e)
 
+-- what is told of the refusal, and of what is due else
+pub refuse-by : (Q : Check → Type 0) (b : Bool) (r : Refusal) (d : Check) → Q (Refuse r) → Q d → Q (refuseIf b r d)
+refuse-by Q true r d h g = h
+refuse-by Q false r d h g = g
+
 pub else-same : (c d d′ : Check) → (c ≡ Pass → d ≡ d′) → andThen c d ≡ andThen c d′
 else-same Pass d d′ f = f refl
 else-same (Refuse r) d d′ f = refl
@@ -55,8 +60,7 @@ abbrev pub CheckAmong : List ℕ → Check → Type 0
 CheckAmong l d = among l (checkNumber d) ≡ true
 
 pub refuse-among : (l : List ℕ) (b : Bool) (r : Refusal) (d : Check) → among l (numberOf r) ≡ true → CheckAmong l d → CheckAmong l (refuseIf b r d)
-refuse-among l true r d e f = e
-refuse-among l false r d e f = f
+refuse-among l b r d e f = refuse-by (CheckAmong l) b r d e f
 
 pub else-among : (l : List ℕ) (c d : Check) → CheckAmong l c → CheckAmong l d → CheckAmong l (andThen c d)
 else-among l Pass d e f = f

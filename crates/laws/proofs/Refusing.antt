@@ -17,7 +17,7 @@ use Rattle.definitions.specs.Lists.{none?, count, sameBytes}
 use Rattle.definitions.specs.Tables.{tableOf}
 use Rattle.definitions.specs.Occurrences.{isPattern, missing}
 use Rattle.definitions.specs.Reading.{Located, optionValuesOf, Options, ended, refused, options, patternDash, refusedReading, checkedTable, finished}
-use Rattle.definitions.specs.Reading.{readUnbounded, read}
+use Rattle.definitions.specs.Reading.{atLetter, unboundedPlacing, readPlacing, readUnbounded, read}
 use Rattle.definitions.specs.Options.{printable, opening}
 use Rattle.definitions.specs.References.{usableIn}
 
@@ -43,19 +43,19 @@ finished-empty room s (ended located) = checked-empty room s located
 finished-empty room s (refused r p) = refusal-empty room r p
 
 pub unbounded-empty : (room : ℕ) (s : List ℕ) → EmptyOrAccepted room (readUnbounded room s)
-unfolding readUnbounded
+unfolding unboundedPlacing
 unbounded-empty room s =
     either room (none? s) _ _ (refusal-empty room refusal.TextLength 0)
     (either room (ltb (run printable s) (length s)) _ _ (refusal-empty room refusal.TextByte (run printable s))
     (either room (not (sameBytes (take (length opening) s) opening)) _ _ (refusal-empty room refusal.Opening 0)
-    (finished-empty room s (options s (drop (length opening) s) 0 (length opening) []))))
+    (finished-empty room s (options atLetter s (drop (length opening) s) 0 (length opening) []))))
 
 -- a refused reading has no name, protocol 0, no items, all room zero
 pub refused-empty : (lim : Limits) (s : List ℕ) → EmptyOrAccepted (lim .room) (read lim s)
-unfolding read
+unfolding readPlacing
 refused-empty lim s =
     either (lim .room) (ltb (lim .text) (length s)) _ _ (refusal-empty (lim .room) refusal.TextLength 0) (unbounded-empty (lim .room) s)
 
 pub limit-kept : (lim : Limits) (s : List ℕ) → lim .text < length s → read lim s ≡ refusedReading (lim .room) refusal.TextLength 0
-unfolding read
+unfolding readPlacing
 limit-kept lim s h = rw (lt-ltb (lim .text) (length s) h)

@@ -14,7 +14,7 @@ use Rattle.forms.proofs.Bools.{by-cases}
 use Rattle.definitions.specs.declared.answers.Refusal.the-variants as refusal
 use Rattle.definitions.specs.Limits.{documentLimits}
 use Rattle.definitions.specs.Lists.{none?, sameBytes}
-use Rattle.definitions.specs.Reading.{options, finished, refusedReading, readUnbounded, read}
+use Rattle.definitions.specs.Reading.{atLetter, options, finished, refusedReading, unboundedPlacing, readPlacing, read}
 use Rattle.definitions.specs.Options.{opening, printable}
 use Rattle.read_frame.specs.Framing.{isOpened}
 
@@ -78,23 +78,23 @@ module _ (s : List ℕ) where
       go (x ∷ l) q = refl
 
   pub read-empty : length s ≡ 0 → read documentLimits s ≡ refusedReading (documentLimits .room) refusal.TextLength 0
-  unfolding read readUnbounded
+  unfolding readPlacing unboundedPlacing
   read-empty e = rw (le-ltb (documentLimits .text) (length s) (omega arith), none-zero e)
 
   pub read-long : documentLimits .text < length s → read documentLimits s ≡ refusedReading (documentLimits .room) refusal.TextLength 0
-  unfolding read
+  unfolding readPlacing
   read-long h = rw (lt-ltb (documentLimits .text) (length s) h)
 
   module _ (some : length s ≡ 0 → ⊥) (short : length s ≤ documentLimits .text) where
     pub read-byte : run printable s < length s → read documentLimits s ≡ refusedReading (documentLimits .room) refusal.TextByte (run printable s)
-    unfolding read readUnbounded
+    unfolding readPlacing unboundedPlacing
     read-byte h = rw (le-ltb (documentLimits .text) (length s) short, none-some some, lt-ltb (run printable s) (length s) h)
 
     module _ (clean : length s ≤ run printable s) where
       pub read-unopened : isOpened s ≡ false → read documentLimits s ≡ refusedReading (documentLimits .room) refusal.Opening 0
-      unfolding read readUnbounded
+      unfolding readPlacing unboundedPlacing
       read-unopened e = rw (le-ltb (documentLimits .text) (length s) short, none-some some, le-ltb (run printable s) (length s) clean, e)
 
-      pub read-opened : isOpened s ≡ true → read documentLimits s ≡ finished (documentLimits .room) s (options s (drop 7 s) 0 7 [])
-      unfolding read readUnbounded
+      pub read-opened : isOpened s ≡ true → read documentLimits s ≡ finished (documentLimits .room) s (options atLetter s (drop 7 s) 0 7 [])
+      unfolding readPlacing unboundedPlacing
       read-opened e = rw (le-ltb (documentLimits .text) (length s) short, none-some some, le-ltb (run printable s) (length s) clean, e)

@@ -9,7 +9,7 @@ use Rattle.definitions.specs.declared.answers.Refusal.the-variants as refusal
 use Rattle.definitions.specs.Limits.{documentLimits}
 use Rattle.definitions.specs.Lists.{sameBytes}
 use Rattle.definitions.specs.Options.{opening}
-use Rattle.definitions.specs.Reading.{options, finished, refusedReading, read}
+use Rattle.definitions.specs.Reading.{atLetter, options, finished, refusedReading, read}
 use Rattle.scan_cursors.specs.declared.Cursor.{Cursor}
 use Rattle.scan_cursors.specs.declared.Cursor.the-variants.{Parsed, OutOfRange, Failed}
 use Rattle.read_frame.specs.declared.Front.{Front}
@@ -22,7 +22,7 @@ isOpened s = sameBytes (take (length opening) s) opening
 
 -- what the definition makes of the options of a text, from the end of `F-SBID(` on
 abbrev pub optionsRead : List ℕ → Reading
-optionsRead s = finished (documentLimits .room) s (options s (drop (length opening) s) 0 (length opening) [])
+optionsRead s = finished (documentLimits .room) s (options atLetter s (drop (length opening) s) 0 (length opening) [])
 
 -- a refusal is the definition's; after an opened front it reads the options, and the text is no longer than it may be
 abbrev pub Fronts : List ℕ → Front → Type 0
@@ -31,5 +31,5 @@ Fronts s front.Opened = (read documentLimits s ≡ optionsRead s) × (length ope
 
 abbrev pub endedBy : Cursor → Ended
 endedBy (Parsed n) = ended.Next n
-endedBy (OutOfRange p n) = ended.Refused refusal.Limit
-endedBy (Failed p) = ended.Refused refusal.Form
+endedBy (OutOfRange p n) = ended.Refused refusal.Limit p
+endedBy (Failed p) = ended.Refused refusal.Form p

@@ -21,10 +21,10 @@ pub enum Front {
     Refused(Refusal, usize),
 }
 
-// How reading an option after its name ends: on to a place, or a refusal.
+// How reading an option after its name ends: on to a place, or a refusal and its place.
 pub enum Ended {
     Next(usize),
-    Refused(Refusal),
+    Refused(Refusal, usize),
 }
 
 // How many bytes at the front a text may hold.
@@ -87,13 +87,13 @@ pub fn dashes_at(s: &[u8], at: usize) -> bool
     false
 }
 
-// A cursor that goes on is the place after the option; one over a limit is 7, one that stopped 6.
+// A cursor that goes on is the place after the option; a broken limit is 7 at its place, a form that failed 6 where it did.
 pub fn ended_by(c: Cursor) -> Ended
     ensures { λ r. ⌜ r ≡ endedBy c ⌝ }
 {
     match c {
         Cursor::Parsed(n) => Ended::Next(n),
-        Cursor::OutOfRange(_, _) => Ended::Refused(Refusal::Limit),
-        Cursor::Failed(_) => Ended::Refused(Refusal::Form),
+        Cursor::OutOfRange(p, _) => Ended::Refused(Refusal::Limit, p),
+        Cursor::Failed(p) => Ended::Refused(Refusal::Form, p),
     }
 }

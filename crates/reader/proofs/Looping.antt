@@ -12,7 +12,7 @@ use Rattle.forms.proofs.Bools.{by-cases}
 use Rattle.definitions.specs.declared.answers.Refusal.the-variants as refusal
 use Rattle.definitions.specs.declared.table.Slot.{Slot}
 use Rattle.definitions.specs.Options.{optionAt}
-use Rattle.definitions.specs.Reading.{Located, optionValuesOf, refused, optionStep, dashes, options}
+use Rattle.definitions.specs.Reading.{Located, optionValuesOf, refused, atLetter, optionStep, dashes, options}
 use Rattle.syntax.proofs.Loop.{passed-over}
 use Rattle.read_frame.proofs.Dashes.{head}
 use Rattle.read_state.specs.declared.State.{State}
@@ -45,15 +45,16 @@ module _ (s : List ℕ) (at : ℕ) (h : at < length s) (located : List Located) 
         rw (head s at h, ne-eqb (getD s at 0) 32 space, ne-eqb (getD s at 0) 41 close, d)
 
     to-option : dashes (drop at s) ≡ true
-        → options s (drop at s) 0 at located
-        ≡ optionStep (optionAt s at) (optionValuesOf located) at (λ e next. options s (drop (at + 1) s) (next - (at + 1)) (at + 1) (locatedAlso located at e))
+        → options atLetter s (drop at s) 0 at located
+        ≡ optionStep atLetter (optionAt s at) (optionValuesOf located) at
+        (λ e next. options atLetter s (drop (at + 1) s) (next - (at + 1)) (at + 1) (locatedAlso located at e))
     unfolding options
     to-option e =
         let d : dashes (getD s at 0 ∷ drop (at + 1) s) ≡ true = rw (head s at h) at e in
         rw (head s at h, ne-eqb (getD s at 0) 32 space, ne-eqb (getD s at 0) 41 close, d)
 
     passes : (n : ℕ) (more : List Located) → at + 2 ≤ n → n ≤ length s
-        → options s (drop (at + 1) s) (n - (at + 1)) (at + 1) more ≡ options s (drop n s) 0 n more
+        → options atLetter s (drop (at + 1) s) (n - (at + 1)) (at + 1) more ≡ options atLetter s (drop n s) 0 n more
     passes n more a b =
         let k = n - (at + 1) in
         let x = take k (drop (at + 1) s) in
@@ -62,10 +63,10 @@ module _ (s : List ℕ) (at : ℕ) (h : at < length s) (located : List Located) 
         let d : drop (at + 1) s ≡ x ++ drop n s =
         sym (take-append-drop k (drop (at + 1) s)) ∙ ap (λ (r : List ℕ). x ++ r) (drop-drop k (at + 1) s ∙ ap (λ (m : ℕ). drop m s) q) in
         let z : at + 1 + length x ≡ n = omega (arith, l) in
-        subst (λ (m : ℕ). options s (drop (at + 1) s) m (at + 1) more ≡ options s (drop n s) 0 n more) l
-        (ap (λ (r : List ℕ). options s r (length x) (at + 1) more) d
+        subst (λ (m : ℕ). options atLetter s (drop (at + 1) s) m (at + 1) more ≡ options atLetter s (drop n s) 0 n more) l
+        (ap (λ (r : List ℕ). options atLetter s r (length x) (at + 1) more) d
         ∙ passed-over s x (drop n s) (at + 1) more
-        ∙ ap (λ (m : ℕ). options s (drop n s) 0 m more) z)
+        ∙ ap (λ (m : ℕ). options atLetter s (drop n s) 0 m more) z)
 
     pub goes-option : (after : List ℕ) (items : List Slot) → dashes (drop at s) ≡ true → (t : Step) (u : State) → StepsTo s located at t u after items
         → GoesTo s located at bytes t u after items
@@ -88,6 +89,7 @@ goes-told s bytes st last at after r g t e located items h l u =
     subst (λ (w : Step). GoesTo s located at bytes w (r .state) after (set items (r .place) (r .slot))) e (g located items h l u)
 
 -- the text ends where an option or `)` is due
-pub loop-out : (s : List ℕ) (at : ℕ) (located : List Located) → length s ≤ at → options s (drop at s) 0 at located ≡ refused refusal.NeitherOptionNorEnd at
+pub loop-out : (s : List ℕ) (at : ℕ) (located : List Located) → length s ≤ at
+    → options atLetter s (drop at s) 0 at located ≡ refused refusal.NeitherOptionNorEnd at
 unfolding options
 loop-out s at located h = rw (drop-of-length-le s {i = at} h)

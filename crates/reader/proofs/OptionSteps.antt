@@ -18,7 +18,7 @@ use Rattle.definitions.specs.Options.{unlisted, listed, optionAt}
 use Rattle.definitions.specs.Occurrences.{occurrenceCheck}
 use Rattle.definitions.specs.Lists.{keep}
 use Rattle.definitions.specs.Tables.{nameIn, bytesIn, slotsIn, noSlot}
-use Rattle.definitions.specs.Reading.{Located, optionValuesOf, Options, refused, optionStep}
+use Rattle.definitions.specs.Reading.{Located, optionValuesOf, Options, refused, atLetter, optionStep}
 use Rattle.read_value.specs.declared.Value.{Value}
 use Rattle.read_value.specs.declared.Value.the-variants as value
 use Rattle.read_value.specs.Values.{PatternBytes, patternBytesOf, optionValueOf}
@@ -36,14 +36,14 @@ use Rattle.read_insert.proofs.OneMore.{options-also, used-is}
 use Rattle.reader.specs.Stepping.{stepBy, StepsTo}
 
 module _ (s : List ℕ) (at : ℕ) (es : List OptionValue) (K : OptionValue → ℕ → Options) where
-  pub taken-unlisted : optionAt s at ≡ unlisted → optionStep (optionAt s at) es at K ≡ refused refusal.NotListed at
+  pub taken-unlisted : optionAt s at ≡ unlisted → optionStep atLetter (optionAt s at) es at K ≡ refused refusal.NotListed at
   taken-unlisted e = rw e
 
-  pub taken-refused : (v : OptionValue) (d : Cursor) {q : Refusal} → optionAt s at ≡ listed (readBy v d) → endedBy d ≡ ended.Refused q
-      → optionStep (optionAt s at) es at K ≡ refused q at
+  pub taken-refused : (v : OptionValue) (d : Cursor) {q : Refusal} {place : ℕ} → optionAt s at ≡ listed (readBy v d) → endedBy d ≡ ended.Refused q place
+      → optionStep atLetter (optionAt s at) es at K ≡ refused q place
   taken-refused v d e f = rw e (go d f)
     where
-      go : (d : Cursor) {q : Refusal} → endedBy d ≡ ended.Refused q → optionStep (listed (readBy v d)) es at K ≡ refused q at
+      go : (d : Cursor) {q : Refusal} {place : ℕ} → endedBy d ≡ ended.Refused q place → optionStep atLetter (listed (readBy v d)) es at K ≡ refused q place
       go (cursor.Parsed n) g = absurd (let z : _≡_ {A = ℕ} 0 1 = cc in omega arith)
       go (cursor.OutOfRange p n) g = cc
       go (cursor.Failed p) g = cc

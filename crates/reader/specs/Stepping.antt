@@ -13,7 +13,7 @@ use Rattle.definitions.specs.Limits.{documentLimits, maxItems}
 use Rattle.definitions.specs.Tables.{noSlot}
 use Rattle.definitions.specs.OptionValues.{OptionValue}
 use Rattle.definitions.specs.Options.{optionAt}
-use Rattle.definitions.specs.Reading.{Located, optionValuesOf, Options, ended, refused, optionStep, options}
+use Rattle.definitions.specs.Reading.{Located, optionValuesOf, Options, ended, refused, atLetter, optionStep, options}
 use Rattle.read_state.specs.declared.State.{State}
 use Rattle.read_state.specs.declared.Inserted.{Inserted}
 use Rattle.read_state.specs.State.{Holds, lastSlot, locatedAlso, InsertedRight}
@@ -48,10 +48,11 @@ pub record Steppable (s bytes : List ℕ) (st : State) (last : Slot) (at : ℕ) 
 
 -- a refusal is the definition's, and so is the way on: to an option and a place after it, with its bytes stored and its slot put
 abbrev pub StepsTo : List ℕ → List Located → ℕ → Step → State → List ℕ → List Slot → Type 0
-StepsTo s located at (Refused q p) u bytes items = (K : OptionValue → ℕ → Options) → optionStep (optionAt s at) (optionValuesOf located) at K ≡ refused q p
+StepsTo s located at (Refused q p) u bytes items =
+    (K : OptionValue → ℕ → Options) → optionStep atLetter (optionAt s at) (optionValuesOf located) at K ≡ refused q p
 StepsTo s located at Done u bytes items = ⊥
 StepsTo s located at (Next n) u bytes items =
-    (e : OptionValue) × ((K : OptionValue → ℕ → Options) → optionStep (optionAt s at) (optionValuesOf located) at K ≡ K e n)
+    (e : OptionValue) × ((K : OptionValue → ℕ → Options) → optionStep atLetter (optionAt s at) (optionValuesOf located) at K ≡ K e n)
     × Holds s (locatedAlso located at e) u bytes items × (u .used ≤ n) × (at + 2 ≤ n) × (n ≤ length s)
 
 abbrev pub Steps : List ℕ → List ℕ → State → Slot → ℕ → List ℕ → Stepped → Type 0
@@ -77,10 +78,10 @@ pub record Placed (s bytes : List ℕ) (st : State) (last : Slot) (at : ℕ) : T
 
 -- what the definition's loop does from the place on; at the end all stays as it was
 abbrev pub GoesTo : List ℕ → List Located → ℕ → List ℕ → Step → State → List ℕ → List Slot → Type 0
-GoesTo s located at bytes (Refused q p) u after items = options s (drop at s) 0 at located ≡ refused q p
-GoesTo s located at bytes Done u after items = (options s (drop at s) 0 at located ≡ ended located) × (after ≡ bytes)
+GoesTo s located at bytes (Refused q p) u after items = options atLetter s (drop at s) 0 at located ≡ refused q p
+GoesTo s located at bytes Done u after items = (options atLetter s (drop at s) 0 at located ≡ ended located) × (after ≡ bytes)
 GoesTo s located at bytes (Next n) u after items =
-    (more : List Located) × (options s (drop at s) 0 at located ≡ options s (drop n s) 0 n more)
+    (more : List Located) × (options atLetter s (drop at s) 0 at located ≡ options atLetter s (drop n s) 0 n more)
     × Holds s more u after items × (u .used ≤ n) × (at < n) × (n ≤ length s)
 
 abbrev pub Goes : List ℕ → List ℕ → State → Slot → ℕ → List ℕ → Stepped → Type 0

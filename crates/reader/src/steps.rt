@@ -81,7 +81,7 @@ fn option_step(s: &[u8], bytes: &mut [u8], st: State, last: Slot, at: usize) -> 
     let ended = ended_by(cursor);
     match ended {
         Ended::Next(next) => insert_option(st, last, at, p, next),
-        Ended::Refused(r) => step_only(Step::Refused(r, at), st),
+        Ended::Refused(r, p) => step_only(Step::Refused(r, p), st),
     }
 }
 

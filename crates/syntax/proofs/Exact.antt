@@ -19,8 +19,8 @@ use Rattle.definitions.specs.Lists.{none?, all?, count, sameBytes}
 use Rattle.definitions.specs.OptionValues.{OptionValue}
 use Rattle.definitions.specs.Tables.{tableOf}
 use Rattle.definitions.specs.Occurrences.{isPattern, missing}
-use Rattle.definitions.specs.Reading.{Located, optionValuesOf, Options, ended, refused, options, patternDash, refusedReading, acceptedReading}
-use Rattle.definitions.specs.Reading.{checkedTable, finished, readUnbounded, read}
+use Rattle.definitions.specs.Reading.{Located, optionValuesOf, Options, ended, refused, atLetter, options, patternDash, refusedReading, acceptedReading}
+use Rattle.definitions.specs.Reading.{checkedTable, finished, unboundedPlacing, readPlacing, readUnbounded, read}
 use Rattle.definitions.specs.Options.{printable, opening}
 use Rattle.definitions.specs.References.{usableIn}
 use Rattle.definitions.specs.Grammar.{Derives}
@@ -81,7 +81,7 @@ module _ (room : ℕ) (s : List ℕ) (t : Table) where
       }
 
   accepted-derives : readUnbounded room s ≡ acceptedReading t → Derives room s t
-  unfolding readUnbounded
+  unfolding unboundedPlacing
   accepted-derives e =
       cases (none? s)
       (λ a. refused-never room refusal.TextLength 0 t (rw a at e))
@@ -90,7 +90,7 @@ module _ (room : ℕ) (s : List ℕ) (t : Table) where
       (λ b. cases (not (sameBytes (take (length opening) s) opening))
       (λ c. refused-never room refusal.Opening 0 t (rw (a, b, c) at e))
       (λ c.
-      let f = finished-is room s (options s (drop (length opening) s) 0 (length opening) []) t (rw (a, b, c) at e) in
+      let f = finished-is room s (options atLetter s (drop (length opening) s) 0 (length opening) []) t (rw (a, b, c) at e) in
       told-derives (opened-exactly s .0 (not-false (sameBytes (take (length opening) s) opening) c)) (printed-exactly s .0 b) (f .0) (f .2)
       (ended-options s (drop (length opening) s) 0 (length opening) [] (f .0) refl (f .1)))))
 
@@ -98,7 +98,7 @@ module _ (room : ℕ) (s : List ℕ) (t : Table) where
   some-text body f = rw f
 
   derives-accepted : Derives room s t → readUnbounded room s ≡ acceptedReading t
-  unfolding readUnbounded
+  unfolding unboundedPlacing
   derives-accepted d =
       let b : drop (length opening) s ≡ d .body = ap (drop (length opening)) (d .framed) ∙ drop-append-seam opening (d .body) in
       let f : s ≡ opening ++ drop (length opening) s = d .framed ∙ ap (λ l. opening ++ l) (sym b) in
@@ -117,7 +117,7 @@ one-table room s t u d e = ap (λ x. x .table) (sym (derives-accepted room s t d
 
 -- READING EXACTLY: the texts of the grammar within the limit
 pub read-exactly : (lim : Limits) (s : List ℕ) (t : Table) → (read lim s ≡ acceptedReading t) ↔ (Derives (lim .room) s t × (length s ≤ lim .text))
-unfolding read
+unfolding readPlacing
 read-exactly lim s t = (
   λ e. cases (ltb (lim .text) (length s))
       (λ a. refused-never (lim .room) refusal.TextLength 0 t (rw a at e))

@@ -20,7 +20,7 @@ use Rattle.definitions.specs.Lists.{none?, sameBytes}
 use Rattle.definitions.specs.OptionValues.{OptionValue}
 use Rattle.definitions.specs.Options.{NamedOption, unlisted, listed, optionAt}
 use Rattle.definitions.specs.Occurrences.{occurrenceCheck}
-use Rattle.definitions.specs.Reading.{Located, optionValuesOf, Options, ended, refused, unlessRefused, optionStep, isSpace, dashes, options}
+use Rattle.definitions.specs.Reading.{Located, optionValuesOf, Options, ended, refused, unlessRefused, atLetter, optionStep, isSpace, dashes, options}
 use Rattle.definitions.specs.Grammar.{OptionText, option, OptionsText, close, space, Occurrences, none}
 use Rattle.syntax.proofs.Truths.{cases, impossible}
 use Rattle.syntax.proofs.Frame.{after, front-exactly}
@@ -37,27 +37,29 @@ joined-options (d ∷ located) at e = ap (λ es. d .value ∷ es) (joined-option
 -- ---- complete
 
 -- the bytes of the option that was read last are passed over
-pub passed-over : (s x l : List ℕ) (at : ℕ) (located : List Located) → options s (x ++ l) (length x) at located ≡ options s l 0 (at + length x) located
+pub passed-over : (s x l : List ℕ) (at : ℕ) (located : List Located)
+    → options atLetter s (x ++ l) (length x) at located ≡ options atLetter s l 0 (at + length x) located
 unfolding options
-passed-over s [] l at located = ap (λ n. options s l 0 n located) (sym (add-zero at))
+passed-over s [] l at located = ap (λ n. options atLetter s l 0 n located) (sym (add-zero at))
 passed-over s (b ∷ x) l at located =
     let e : at + 1 + length x ≡ at + suc (length x) = omega arith in
-    passed-over s x l (at + 1) located ∙ ap (λ n. options s l 0 n located) e
+    passed-over s x l (at + 1) located ∙ ap (λ n. options atLetter s l 0 n located) e
 
 -- an option's text is read, and the loop goes on after it
 pub option-taken : {x : List ℕ} {e : OptionValue} → OptionText x e → (s : List ℕ) (at : ℕ) (l : List ℕ) (located : List Located) → drop at s ≡ x ++ l
-    → occurrenceCheck (optionValuesOf located) e ≡ check.Pass → options s (x ++ l) 0 at located ≡ options s l 0 (at + length x) (joined located at e)
+    → occurrenceCheck (optionValuesOf located) e ≡ check.Pass
+    → options atLetter s (x ++ l) 0 at located ≡ options atLetter s l 0 (at + length x) (joined located at e)
 unfolding options sameBytes
 option-taken (option o n y {e} m q w) s at l located d f =
     let x : List ℕ = 45 ∷ (n ++ y) in
     let p = option-read (option o n y m q w) s at l d in
     let g : at + suc (length x) - (at + 1) ≡ length x = omega arith in
     let k : at + 1 + length x ≡ at + suc (length x) = omega arith in
-    rw (p, f, g) (passed-over s x l (at + 1) (joined located at e) ∙ ap (λ i. options s l 0 i (joined located at e)) k)
+    rw (p, f, g) (passed-over s x l (at + 1) (joined located at e) ∙ ap (λ i. options atLetter s l 0 i (joined located at e)) k)
 
 -- the loop ends, with these options after those that were there
 abbrev pub Ends : List ℕ → List ℕ → ℕ → List Located → List OptionValue → Type 0
-Ends s l at located es = (final : List Located) × (options s l 0 at located ≡ ended final) × (optionValuesOf final ≡ optionValuesOf located ++ es)
+Ends s l at located es = (final : List Located) × (options atLetter s l 0 at located ≡ ended final) × (optionValuesOf final ≡ optionValuesOf located ++ es)
 
 standing-parts : {before es : List OptionValue} {e : OptionValue} → Occurrences before (e ∷ es)
     → (occurrenceCheck before e ≡ check.Pass) × Occurrences (before ++ (e ∷ [])) es
@@ -84,7 +86,8 @@ check-split : (u : Check) (at : ℕ) (k : Options) (final : List Located) → un
 check-split check.Pass at k final q = (refl, q)
 check-split (check.Refuse r) at k final q = never (cc)
 
-taken-split : (p : NamedOption) (es : List OptionValue) (at : ℕ) (k : OptionValue → ℕ → Options) (final : List Located) → optionStep p es at k ≡ ended final
+taken-split : (p : NamedOption) (es : List OptionValue) (at : ℕ) (k : OptionValue → ℕ → Options) (final : List Located)
+    → optionStep atLetter p es at k ≡ ended final
     → (e : OptionValue) × (next : ℕ) × (p ≡ listed (Parsed e next)) × (occurrenceCheck es e ≡ check.Pass) × (k e next ≡ ended final)
 taken-split unlisted es at k final q = never (cc)
 taken-split (listed (Parsed e next)) es at k final q = let i = check-split (occurrenceCheck es e) at (k e next) final q in (e, next, refl, i .0, i .1)
@@ -131,7 +134,7 @@ module _ (s : List ℕ) (b : ℕ) (l : List ℕ) (at : ℕ) (located final : Lis
         i .3 ∙ ap (λ r. r ++ i .0) (joined-options located at e) ∙ append-assoc (optionValuesOf located) (e ∷ []) (i .0),
       )
 
-pub ended-options : (s l : List ℕ) (passed at : ℕ) (located final : List Located) → drop at s ≡ l → options s l passed at located ≡ ended final
+pub ended-options : (s l : List ℕ) (passed at : ℕ) (located final : List Located) → drop at s ≡ l → options atLetter s l passed at located ≡ ended final
     → Extends (drop passed l) located final
 unfolding options
 ended-options s [] passed at located final d q = impossible (cc)
@@ -144,7 +147,7 @@ ended-options s (b ∷ l) zero at located final d q =
     (λ u. close-extends s b l at located final u (rw (t, u) at q))
     (λ u. cases (dashes (b ∷ l))
     (λ w.
-    let p = taken-split (optionAt s at) (optionValuesOf located) at (λ e next. options s l (next - (at + 1)) (at + 1) (joined located at e)) final
+    let p = taken-split (optionAt s at) (optionValuesOf located) at (λ e next. options atLetter s l (next - (at + 1)) (at + 1) (joined located at e)) final
     (rw (t, u, w) at q) in
     option-extends s b l at located final d w (p .0) (p .1) (p .2) (p .3)
     (ended-options s l (p .1 - (at + 1)) (at + 1) (joined located at (p .0)) final d1 (p .4)))

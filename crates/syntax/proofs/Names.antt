@@ -10,7 +10,7 @@ use lib.Dec.{eqb, leb}
 use borrow.Author.Tests.{eqb-true, leb-true, le-leb, not-true}
 use Rattle.forms.specs.Bytes.{between, lower, sameWord, run}
 use Rattle.forms.specs.Form.{Means}
-use Rattle.forms.specs.Place.{Parsed, readAt}
+use Rattle.forms.specs.Place.{Read, readAt}
 use Rattle.forms.proofs.Bools.{by-cases, both-left, both-right}
 use Rattle.forms.proofs.Sound.{never}
 use Rattle.forms.proofs.Complete.{first-of, no-empty}
@@ -76,31 +76,53 @@ same-as (x ∷ n) (y ∷ w) (z ∷ u) e p =
     let p1 = word-parts y w p in
     rw (e1, p1 .1, same-as n w u (both-right (eqb (lower x) y) (sameWord n w) e) (p1 .2))
 
+-- a name of a later row is not that of the first
+other-name : (x : Option) (xs : List Option) (o : Option) → Mem o xs → distinct (x ∷ xs) ≡ true → allRows plainName (x ∷ xs) ≡ true → (n : List ℕ)
+    → sameWord n (o .name) ≡ true → sameWord n (x .name) ≡ false
+other-name x xs o m d w n q =
+    same-as n (o .name) (x .name) q (each-row plainName m (both-right (plainName x) (allRows plainName xs) w))
+    ∙ not-true (sameWord (o .name) (x .name)) (each-row (unlike x) m (both-left (allRows (unlike x) xs) (distinct xs) d))
+
+apart-from : (x : Option) (xs : List Option) (o : Option) → Mem o xs → distinct (x ∷ xs) ≡ true → allRows plainName (x ∷ xs) ≡ true → (n : List ℕ)
+    → sameWord n (o .name) ≡ true → sameWord n (x .name) ≡ true → _≡_ {A = ℕ} 0 1
+apart-from x xs o m d w n q k = let e = other-name x xs o m d w n q in let z : false ≡ true = sym e ∙ k in cc
+
 row-found : {o : Option} {os : List Option} → Mem o os → distinct os ≡ true → allRows plainName os ≡ true → (n : List ℕ) → sameWord n (o .name) ≡ true
     → (s : List ℕ) (at : ℕ) → namedOption os n s at ≡ listed (readAt (o .form) s at)
 unfolding namedOption
 row-found (first-one {x} {xs} e) d w n q s at =
     rw (subst (λ (z : Option). sameWord n (z .name) ≡ true) e q) (ap (λ (z : Option). listed (readAt (z .form) s at)) (sym e))
 row-found {o} (later-one {x} {xs} m) d w n q s at =
-    let w1 = both-right (plainName x) (allRows plainName xs) w in
-    let u = not-true (sameWord (o .name) (x .name)) (each-row (unlike x) m (both-left (allRows (unlike x) xs) (distinct xs) d)) in
-    let z : sameWord n (x .name) ≡ false = same-as n (o .name) (x .name) q (each-row plainName m w1) ∙ u in
-    rw z (row-found m (both-right (allRows (unlike x) xs) (distinct xs) d) w1 n q s at)
+    rw (other-name x xs o m d w n q)
+    (row-found m (both-right (allRows (unlike x) xs) (distinct xs) d) (both-right (plainName x) (allRows plainName xs) w) n q s at)
 
 -- the table reads a listed name's option by its form
 pub named-parsed : {o : Option} → Mem o optionTable → (n : List ℕ) → sameWord n (o .name) ≡ true → (s : List ℕ) (at : ℕ)
     → namedOption optionTable n s at ≡ listed (readAt (o .form) s at)
 named-parsed m n q s at = row-found m names-distinct names-plain n q s at
 
--- what the rows read is of one of them
-abbrev pub Row-of : List Option → List ℕ → List ℕ → ℕ → OptionValue → ℕ → Type 1
-Row-of os n s at e next = (o : Option) × Mem o os × (sameWord n (o .name) ≡ true) × (readAt (o .form) s at ≡ Parsed e next)
+-- a name is that of one row only
+one-of : {o p : Option} {os : List Option} → Mem o os → Mem p os → distinct os ≡ true → allRows plainName os ≡ true → (n : List ℕ) → sameWord n (o .name) ≡ true
+    → sameWord n (p .name) ≡ true → o ≡ p
+one-of (first-one {x} {xs} e) (first-one g) d w n q k = e ∙ sym g
+one-of {o} {p} (first-one {x} {xs} e) (later-one m) d w n q k =
+    impossible (apart-from x xs p m d w n k (subst (λ (z : Option). sameWord n (z .name) ≡ true) e q))
+one-of {o} {p} (later-one {x} {xs} m) (first-one e) d w n q k =
+    impossible (apart-from x xs o m d w n q (subst (λ (z : Option). sameWord n (z .name) ≡ true) e k))
+one-of (later-one {x} {xs} m) (later-one t) d w n q k =
+    one-of m t (both-right (allRows (unlike x) xs) (distinct xs) d) (both-right (plainName x) (allRows plainName xs) w) n q k
 
-pub parsed-named : (os : List Option) (n s : List ℕ) (at : ℕ) (e : OptionValue) (next : ℕ) → namedOption os n s at ≡ listed (Parsed e next)
-    → Row-of os n s at e next
+pub one-row : {o p : Option} → Mem o optionTable → Mem p optionTable → (n : List ℕ) → sameWord n (o .name) ≡ true → sameWord n (p .name) ≡ true → o ≡ p
+one-row m k n q r = one-of m k names-distinct names-plain n q r
+
+-- what the rows read is of one of them
+abbrev pub Row-of : List Option → List ℕ → List ℕ → ℕ → Read OptionValue → Type 1
+Row-of os n s at r = (o : Option) × Mem o os × (sameWord n (o .name) ≡ true) × (readAt (o .form) s at ≡ r)
+
+pub row-of : (os : List Option) (n s : List ℕ) (at : ℕ) (r : Read OptionValue) → namedOption os n s at ≡ listed r → Row-of os n s at r
 unfolding namedOption
-parsed-named [] n s at e next q = impossible (cc)
-parsed-named (o ∷ os) n s at e next q =
+row-of [] n s at r q = impossible (cc)
+row-of (o ∷ os) n s at r q =
     cases (sameWord n (o .name))
-    (λ t. let z : listed (readAt (o .form) s at) ≡ listed (Parsed e next) = rw t at q in (o, first-one refl, t, cc))
-    (λ t. let i = parsed-named os n s at e next (rw t at q) in (i .0, later-one (i .1), i .2, i .3))
+    (λ t. let z : listed (readAt (o .form) s at) ≡ listed r = rw t at q in (o, first-one refl, t, cc))
+    (λ t. let i = row-of os n s at r (rw t at q) in (i .0, later-one (i .1), i .2, i .3))

@@ -18,7 +18,7 @@ use Rattle.definitions.specs.Options.{Option, optionTable, inName, listed, opti
 use Rattle.definitions.specs.Grammar.{OptionText, option}
 use Rattle.syntax.proofs.Frame.{after, place-after, parted}
 use Rattle.syntax.proofs.Rows.{Alone, form-alone}
-use Rattle.syntax.proofs.Names.{no-name-front, name-run, named-parsed, parsed-named}
+use Rattle.syntax.proofs.Names.{no-name-front, name-run, named-parsed, row-of}
 
 -- ---- a form at a place
 
@@ -84,6 +84,6 @@ module _ (s : List ℕ) (at : ℕ) where
       let d2 : drop (at + 2) s ≡ l = after s at (45 ∷ 45 ∷ []) l d in
       let j = run inName (drop (at + 2) s) in
       let w = take j (drop (at + 2) s) in
-      let k = parsed-named optionTable w s (at + 2 + j) e next p in
+      let k = row-of optionTable w s (at + 2 + j) (Parsed e next) p in
       let c = read-form (k .0 .form) s (at + 2 + j) e next (k .3) in
       found next e l w (c .0) (c .1) (k .0) (k .1) (k .2) (c .3) d (sym d2 ∙ parted s (at + 2) j (c .0 ++ c .1) (c .2)) (c .4)

@@ -18,7 +18,7 @@ use Rattle.definitions.specs.declared.answers.Writing.{Writing}
 use Rattle.definitions.specs.declared.answers.Writing.the-variants as writing
 use Rattle.definitions.specs.Limits.{documentLimits}
 use Rattle.definitions.specs.Refusals.{writeLength}
-use Rattle.definitions.specs.Reading.{read}
+use Rattle.definitions.specs.Reading.{readPlacing, read}
 use Rattle.definitions.specs.Canonical.{canonicalText}
 use Rattle.definitions.specs.Writing.{writingCheck, writtenIf, bufferIf, writes, bufferAfter}
 use Rattle.definitions.specs.Lines.{refusedLine, canonicalLine, lineOf}
@@ -78,5 +78,5 @@ module _ (s : List ℕ) (r : Reading) (e : r ≡ read documentLimits s) where
 -- ---- over the limit, all texts have one answer
 
 pub too-long : (s : List ℕ) → documentLimits .text < length s → lineOf documentLimits s ≡ refusedLine refusal.TextLength 0
-unfolding lineOf read
+unfolding lineOf readPlacing
 too-long s h = rw (lt-ltb (documentLimits .text) (length s) h)

@@ -5,7 +5,6 @@
 //! an ask is `all`, `first` or an earlier placement such as `(2,9)`.
 
 use crate::message::{Map, Span};
-use crate::scan::hex_digit;
 use crate::table::Field;
 use crate::words::CONTEXTS;
 
@@ -55,6 +54,10 @@ fn hex_pairs(column: &[u8]) -> Option<Vec<u8>> {
         return None;
     }
     column.chunks(2).map(|pair| Some(hex_digit(pair[0])? * 16 + hex_digit(pair[1])?)).collect()
+}
+
+fn hex_digit(byte: u8) -> Option<u8> {
+    char::from(byte).to_digit(16).map(|digit| digit as u8)
 }
 
 fn parse_map(column: &[u8]) -> Option<Map> {

@@ -28,13 +28,14 @@ mod generate_text;
 mod odd;
 mod random;
 mod selftest;
+mod slips;
 mod spell;
 
 use random::Random;
 use std::io::{stderr, stdin, stdout, BufWriter, Result, Write};
 use std::process::ExitCode;
 
-const USAGE: &str = "usage: second lines | placements | count
+const USAGE: &str = "usage: second lines | placements | count | slips
        second generate texts|cases SEED COUNT
        second selftest SEED COUNT";
 
@@ -46,6 +47,7 @@ fn main() -> ExitCode {
         ["lines"] => lines::answer_lines(stdin().lock(), output(), lines::answer_text),
         ["placements"] => lines::answer_lines(stdin().lock(), output(), placements::answer_case),
         ["count"] => count::count(stdin().lock(), output()),
+        ["slips"] => slips::write_slips(output()),
         ["generate", what, seed, count] => match (what, seed.parse(), count.parse()) {
             ("texts", Ok(seed), Ok(count)) => generate(seed, count, generate_text::text),
             ("cases", Ok(seed), Ok(count)) => generate(seed, count, generate_case::case),

@@ -2,8 +2,10 @@
 //!
 //! Order: 1, 2, 3; then options left to right, the first bad one deciding,
 //! with its lowest number among 4 to 9 and 11; then 10 by pattern; then 12.
+//! The places of 6 and 7 are those of document 02, T-02.
 
 use crate::reference::usable;
+use crate::scan::Scan;
 use crate::table::*;
 use crate::value::{parse, Parsed, Wrong};
 use crate::words::{meaning, OPTIONS};
@@ -46,7 +48,7 @@ pub fn read(text: &[u8]) -> Result<Table, Refusal> {
         if !rest.starts_with(b"--") {
             return refuse(4, at);
         }
-        at += draft.option(rest, at).or_else(|number| refuse(number, at))?;
+        at = draft.option(text, at)?;
     }
     draft.judge_references()?;
     match (draft.name, draft.protocol) {
@@ -71,21 +73,19 @@ struct Draft {
 }
 
 impl Draft {
-    /// Takes the option at the start of `rest`, its first dash at `dash`; returns its
-    /// length, `;` included.
-    fn option(&mut self, rest: &[u8], dash: usize) -> Result<usize, u8> {
-        let in_name = |byte: &&u8| byte.is_ascii_alphanumeric() || matches!(**byte, b'_' | b'.');
-        let name_end = 2 + rest[2..].iter().take_while(in_name).count();
-        let option = meaning(&OPTIONS, &rest[2..name_end]).ok_or(5u8)?;
-        // No value can hold a `;`, so the first one ends the option.
-        let length = rest[name_end..].iter().position(|byte| *byte == b';').ok_or(6u8)?;
-        let semicolon = name_end + length;
-        match parse(option, &rest[name_end..semicolon]) {
-            Ok(parsed) => self.add(parsed, dash)?,
-            Err(Wrong::Form) => return Err(6),
-            Err(Wrong::Limit) => return Err(7),
+    /// Takes the option whose first dash is at `dash`; returns the place after its `;`.
+    fn option(&mut self, text: &[u8], dash: usize) -> Result<usize, Refusal> {
+        let mut scan = Scan::new(text, dash + 2);
+        let name = scan.run(|byte| byte.is_ascii_alphanumeric() || matches!(byte, b'_' | b'.'));
+        let Some(option) = meaning(&OPTIONS, name) else {
+            return refuse(5, dash);
+        };
+        match parse(option, &mut scan) {
+            Ok(parsed) => self.add(parsed, dash).or_else(|number| refuse(number, dash))?,
+            Err(Wrong::Form(place)) => return refuse(6, place),
+            Err(Wrong::Limit(place)) => return refuse(7, place),
         }
-        Ok(semicolon + 1)
+        Ok(scan.at())
     }
 
     /// Adds an option of the right form, or says 8, 9 or 11.

@@ -1,6 +1,6 @@
 //! The value of each option (document 01, the table of section "Text").
 
-use crate::scan::{hex_digit, Scan};
+use crate::scan::Scan;
 use crate::table::*;
 use crate::words::*;
 
@@ -18,35 +18,39 @@ pub enum Parsed {
     Within(Within),
 }
 
+/// What is wrong with an option, and its place in the text.
 pub enum Wrong {
-    Form,
-    Limit,
+    Form(usize),
+    Limit(usize),
 }
 
-/// Judges all bytes between an option's name and its `;`.
-pub fn parse(option: OptionName, between: &[u8]) -> Result<Parsed, Wrong> {
-    let mut scan = Scan::new(between);
-    if !matches!(option, OptionName::SameIp | OptionName::NoCase) && !scan.eat(b" ") {
-        return Err(Wrong::Form);
+/// Judges an option from the end of its name to its `;`, which is taken too.
+pub fn parse(option: OptionName, scan: &mut Scan) -> Result<Parsed, Wrong> {
+    let Some(parsed) = form(option, scan) else {
+        return Err(Wrong::Form(scan.at()));
+    };
+    match scan.beyond() {
+        Some(place) => Err(Wrong::Limit(place)),
+        None => Ok(parsed),
+    }
+}
+
+fn form(option: OptionName, scan: &mut Scan) -> Option<Parsed> {
+    if !matches!(option, OptionName::SameIp | OptionName::NoCase) {
+        scan.due(b' ')?;
     }
     scan.spaces();
-    let parsed = value(option, &mut scan).ok_or(Wrong::Form)?;
+    let parsed = value(option, scan)?;
     scan.spaces();
-    if !scan.at_end() {
-        return Err(Wrong::Form);
-    }
-    let long_name = matches!(&parsed, Parsed::Name(name) if name.len() > 64);
-    if scan.beyond || long_name {
-        return Err(Wrong::Limit);
-    }
-    Ok(parsed)
+    scan.due(b';')?;
+    Some(parsed)
 }
 
 fn value(option: OptionName, scan: &mut Scan) -> Option<Parsed> {
     let parsed = match option {
         OptionName::Name => Parsed::Name(name(scan)?),
         OptionName::Protocol => Parsed::Protocol(protocol(scan)?),
-        OptionName::Flow => Parsed::Flow(scan.keyword(&FLOWS)?),
+        OptionName::Flow => Parsed::Flow(scan.listed(&FLOWS)?),
         OptionName::Address(side) => Parsed::Test(addresses(side, scan)?),
         OptionName::SameIp => Parsed::Test(Test::SameIp),
         OptionName::Equal(what) => {
@@ -54,17 +58,17 @@ fn value(option: OptionName, scan: &mut Scan) -> Option<Parsed> {
         }
         OptionName::IpTtl => {
             let signs = [("<", Compare::Less), (">", Compare::Greater)];
-            let compare = scan.sign(&signs).unwrap_or(Compare::Equal);
+            let compare = scan.listed(&signs).unwrap_or(Compare::Equal);
             Parsed::Test(Test::Ttl { compare, value: scan.number(255)? })
         }
         OptionName::Header(field) => Parsed::Test(header(field, scan)?),
         OptionName::DataSize => Parsed::Test(data_size(scan)?),
         OptionName::DataAt => Parsed::Test(data_at(scan)?),
         OptionName::Pattern => {
-            let negated = scan.eat(b"!");
+            let negated = scan.eat(b'!');
             Parsed::Pattern { negated, bytes: pattern(scan)? }
         }
-        OptionName::Context => Parsed::Context(scan.keyword(&CONTEXTS)?),
+        OptionName::Context => Parsed::Context(scan.listed(&CONTEXTS)?),
         OptionName::NoCase => Parsed::NoCase,
         OptionName::Distance => Parsed::Distance(distance(scan)?),
         OptionName::Within => Parsed::Within(within(scan)?),
@@ -74,37 +78,32 @@ fn value(option: OptionName, scan: &mut Scan) -> Option<Parsed> {
 
 /// In a name every byte but `"` and `;` stands for itself.
 fn name(scan: &mut Scan) -> Option<Vec<u8>> {
-    let mut bytes = Vec::new();
-    if !scan.eat(b"\"") {
+    let quote = scan.at();
+    scan.due(b'"')?;
+    let bytes = scan.run(|byte| byte != b'"' && byte != b';');
+    if bytes.is_empty() {
         return None;
     }
-    while !scan.eat(b"\"") {
-        bytes.push(scan.next()?);
+    scan.due(b'"')?;
+    if bytes.len() > 64 {
+        scan.note_beyond(quote);
     }
-    if bytes.is_empty() {
-        None
-    } else {
-        Some(bytes)
-    }
+    Some(bytes.to_vec())
 }
 
 fn protocol(scan: &mut Scan) -> Option<u64> {
-    scan.number(255).or_else(|| scan.keyword(&PROTOCOLS))
+    scan.number(255).or_else(|| scan.listed(&PROTOCOLS))
 }
 
 fn addresses(side: Side, scan: &mut Scan) -> Option<Test> {
-    let negated = scan.eat(b"!");
-    let mut list = Vec::new();
-    if scan.eat(b"[") {
-        list.push(address(scan)?);
-        while scan.eat(b",") {
+    let negated = scan.eat(b'!');
+    let bracketed = scan.eat(b'[');
+    let mut list = vec![address(scan)?];
+    if bracketed {
+        while scan.eat(b',') {
             list.push(address(scan)?);
         }
-        if !scan.eat(b"]") {
-            return None;
-        }
-    } else {
-        list.push(address(scan)?);
+        scan.due(b']')?;
     }
     Some(Test::Address { side, negated, list })
 }
@@ -112,13 +111,13 @@ fn addresses(side: Side, scan: &mut Scan) -> Option<Test> {
 fn address(scan: &mut Scan) -> Option<Address> {
     let mut numbers = [0u8; 4];
     for (place, number) in numbers.iter_mut().enumerate() {
-        if place > 0 && !scan.eat(b".") {
-            return None;
+        if place > 0 {
+            scan.due(b'.')?;
         }
         // A number over 255 is noted by the scan, so this cut is never kept.
         *number = scan.number(255)? as u8;
     }
-    let prefix = if scan.eat(b"/") { scan.number(32)? } else { 32 };
+    let prefix = if scan.eat(b'/') { scan.number(32)? } else { 32 };
     Some(Address { numbers, prefix })
 }
 
@@ -126,81 +125,70 @@ fn address(scan: &mut Scan) -> Option<Address> {
 fn header(field: HeaderField, scan: &mut Scan) -> Option<Test> {
     let limit = field.limit();
     let mut mask = limit;
-    if scan.eat(b"&") {
+    if scan.eat(b'&') {
         scan.spaces();
         mask = scan.number_or_hex(limit)?;
         scan.spaces();
     }
-    let compare = scan.sign(&OPERATORS)?;
+    let compare = scan.listed(&OPERATORS)?;
     scan.spaces();
     Some(Test::Header { field, mask, compare, value: scan.number_or_hex(limit)? })
 }
 
 fn data_size(scan: &mut Scan) -> Option<Test> {
     let signs = [("<", Compare::Less), (">", Compare::Greater), ("=", Compare::Equal)];
-    let compare = scan.sign(&signs).unwrap_or(Compare::Equal);
+    let compare = scan.listed(&signs).unwrap_or(Compare::Equal);
     let value = scan.number(65535)?;
-    let field = if scan.eat(b",") { scan.keyword(&SIZED_FIELDS)? } else { Field::Packet };
+    let field = if scan.eat(b',') { scan.listed(&SIZED_FIELDS)? } else { Field::Packet };
     Some(Test::DataSize { compare, value, field })
 }
 
 fn data_at(scan: &mut Scan) -> Option<Test> {
     let at = scan.number(65535)?;
-    let relative = scan.eat(b",");
+    let relative = scan.eat(b',');
     if relative {
-        scan.keyword(&[("relative", ())])?;
+        scan.listed(&[("relative", ())])?;
     }
     Some(Test::DataAt { at, relative })
 }
 
 /// `" ; \ | :` are written only in hex blocks.
 fn pattern(scan: &mut Scan) -> Option<Vec<u8>> {
+    scan.due(b'"')?;
     let mut bytes = Vec::new();
-    if !scan.eat(b"\"") {
-        return None;
-    }
-    while !scan.eat(b"\"") {
-        match scan.next()? {
-            b'|' => bytes.extend(block(scan)?),
-            b';' | b'\\' | b':' => return None,
-            byte => bytes.push(byte),
+    while bytes.is_empty() || !scan.eat(b'"') {
+        if scan.eat(b'|') {
+            bytes.extend(block(scan)?);
+        } else {
+            bytes.push(scan.take(|byte| !b"\";\\|:".contains(&byte))?);
         }
     }
-    if bytes.is_empty() {
-        None
-    } else {
-        Some(bytes)
-    }
+    Some(bytes)
 }
 
-/// A block behind its first `|`: pairs of hex digits, spaces round the pairs.
+/// A block after its first `|`: pairs of hex digits, spaces round the pairs.
 fn block(scan: &mut Scan) -> Option<Vec<u8>> {
     let mut bytes = Vec::new();
     scan.spaces();
-    while !scan.eat(b"|") {
-        let high = hex_digit(scan.next()?)?;
-        let low = hex_digit(scan.next()?)?;
-        bytes.push(high * 16 + low);
+    while bytes.is_empty() || !scan.eat(b'|') {
+        let pair = scan.digit(16)? * 16 + scan.digit(16)?;
+        bytes.push(pair as u8);
         scan.spaces();
     }
-    if bytes.is_empty() {
-        None
-    } else {
-        Some(bytes)
-    }
+    Some(bytes)
 }
 
 fn distance(scan: &mut Scan) -> Option<Distance> {
-    let minus = scan.eat(b"-");
+    let minus = scan.eat(b'-');
     let number = signed(scan.number(65535)?);
     let amount = if minus { -number } else { number };
     let mut reverse = false;
     let mut reference = Reference::Match;
-    if scan.eat(b",") {
-        reference = scan.keyword(&REFERENCES)?;
+    if scan.eat(b',') {
+        reference = scan.listed(&REFERENCES)?;
         // Only behind a reference may `reverse` stand.
-        if scan.eat(b",") {
-            scan.keyword(&[("reverse", ())])?;
+        if scan.eat(b',') {
+            scan.listed(&[("reverse", ())])?;
             reverse = true;
         }
     }
@@ -209,7 +197,7 @@ fn distance(scan: &mut Scan) -> Option<Distance> {
 
 fn within(scan: &mut Scan) -> Option<Within> {
     let amount = signed(scan.number(65535)?);
-    let reference = if scan.eat(b",") { scan.keyword(&REFERENCES)? } else { Reference::Match };
+    let reference = if scan.eat(b',') { scan.listed(&REFERENCES)? } else { Reference::Match };
     Some(Within { amount, reference })
 }
 

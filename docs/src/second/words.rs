@@ -73,7 +73,6 @@ pub const SIZED_FIELDS: [(&str, Field); 4] = [
 pub const REFERENCES: [(&str, Reference); 3] =
     [("match", Reference::Match), ("packet", Reference::Packet), ("context", Reference::Context)];
 
-/// The two-byte operators stand first, since `<=` is not `<` and then `=`.
 pub const OPERATORS: [(&str, Compare); 6] = [
     ("!=", Compare::NotEqual),
     ("<=", Compare::LessOrEqual),
@@ -87,6 +86,14 @@ pub const OPERATORS: [(&str, Compare); 6] = [
 pub fn meaning<T: Copy>(list: &[(&str, T)], word: &[u8]) -> Option<T> {
     let found = list.iter().find(|(text, _)| word.eq_ignore_ascii_case(text.as_bytes()));
     found.map(|(_, meaning)| *meaning)
+}
+
+/// Whether a word of the list begins with these bytes.
+pub fn begins<T>(list: &[(&str, T)], bytes: &[u8]) -> bool {
+    list.iter().any(|(text, _)| {
+        let start = text.as_bytes().get(..bytes.len());
+        start.is_some_and(|start| start.eq_ignore_ascii_case(bytes))
+    })
 }
 
 /// The small-letter word of a meaning.

@@ -9,7 +9,7 @@ use lib.ListN.{length, drop, replicate, set}
 use lib.Seq.{set-out}
 use Rattle.definitions.specs.declared.table.Slot.{Slot}
 use Rattle.definitions.specs.Limits.{documentLimits, maxItems}
-use Rattle.definitions.specs.Reading.{Located, options, finished}
+use Rattle.definitions.specs.Reading.{Located, atLetter, options, finished}
 use Rattle.read_state.specs.State.{Holds}
 use Rattle.read_insert.proofs.OneMore.{sound, bytes-full, items-full}
 use Rattle.reader.proofs.OptionSteps.{fresh-holds}
@@ -20,7 +20,7 @@ use Rattle.reader.proofs.read_options.Tie as tie
 abbrev Inv-loop : tie.InvT-loop
 Inv-loop s bytes₀ items₀ st₀ at₀ bytes items st at =
     (located : List Located) × Holds s located st bytes items × (st .used ≤ at) × (at ≤ length s)
-    × (options s (drop 7 s) 0 7 [] ≡ options s (drop at s) 0 at located)
+    × (options atLetter s (drop 7 s) 0 7 [] ≡ options atLetter s (drop at s) 0 at located)
 
 abbrev μ-loop : tie.MeasureT-loop
 μ-loop s bytes₀ items₀ st₀ at₀ bytes items st at = length s - at
