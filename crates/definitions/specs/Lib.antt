@@ -1,4 +1,5 @@
--- The definitions of document 01, a file for each section or part of one; each stands on files before it. Nothing here assumes anything.
+-- The definitions of document 01, a file for each section or part of one, and of document 02's requests that are in; each stands on files before it.
+-- Nothing here assumes anything.
 pub mod Lists
 pub mod Limits
 pub mod Numbers

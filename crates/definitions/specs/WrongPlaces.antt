@@ -64,7 +64,8 @@ pub record WrongByte (s : List ℕ) (dash p : ℕ) : Type 1 where
   pub no-further : p < length s → BeginsForm option (span s dash (p + 1)) → ⊥
 
 -- what a limit of an option is on, how many bytes of it stand before its place, and whether it is kept: a number in decimal digits, placed at the first;
--- one in hex digits, placed at the first after `0x`; a name in quotes, placed at the first quote
+-- one in hex digits, placed at the first after `0x`; a name in quotes, placed at the first quote. That a number's limit is the option's own is by its form,
+-- whose bounds `bounds` lists
 pub data Limited : List ℕ → ℕ → Bool → Type 0 where
   decimal : (limit : ℕ) (digits : List ℕ) → none? digits ≡ false → all? (has decimalDigits) digits ≡ true → Limited digits 0 (leb (valueOf 10 0 digits) limit)
   hex : (limit x : ℕ) (digits : List ℕ) → lower x ≡ 120 → none? digits ≡ false → all? (has hexDigits) digits ≡ true

@@ -18,11 +18,13 @@ pub record Bounded : Type 0 where
 abbrev pub shifted : ℕ → List Bounded → List Bounded
 shifted n bs = map (λ (b : Bounded). record { before = n + b .before; part = b .part; skip = b .skip; kept = b .kept }) bs
 
+-- of texts one after the other
 abbrev pub rowBounds : {A : Type 0} (P : List ℕ → A → Type 0) → ((x : List ℕ) (v : A) → P x v → List Bounded) → {x : List ℕ} {vs : List A} → Row P x vs
     → List Bounded
 rowBounds P h none = []
 rowBounds P h (more {x} {y} {v} {vs} p q) = h x v p ++ shifted (length x) (rowBounds P h q)
 
+-- of a text of the form; a bound stands after those on parts of its own part
 unfoldable pub bounds : {A : Type 0} (f : Form A) (x : List ℕ) (v : A) → Means false f x v → List Bounded
 unfolding Means
 bounds (pure a) x v m = []
@@ -34,6 +36,7 @@ bounds (many f) x v m = rowBounds (λ y w. Means false f y w) (λ y w n. bounds 
 bounds (fmap h f) x v m = bounds f x (m .0) (m .2)
 bounds (bound p j f) x v m = bounds f x v (m .0) ++ (record { before = 0; part = x; skip = j v; kept = p v } ∷ [])
 
+-- none is broken
 abbrev pub allKept : List Bounded → Bool
 allKept [] = true
 allKept (b ∷ bs) = b .kept && allKept bs
