@@ -3,6 +3,7 @@ pub mod Starred
 pub mod LeftOut
 pub mod Tables
 pub mod EveryNumber
+pub mod IpIdCases
 pub mod OneByteDecides
 pub mod Sample
 pub mod OtherItems

@@ -8,7 +8,7 @@ use lib.ListN.{getD, set, replicate}
 use lib.IntN.{pos, negsuc}
 use Rattle.forms.specs.Bytes.{text}
 use Rattle.definitions.specs.declared.table.Side.the-variants.{Source}
-use Rattle.definitions.specs.declared.table.NumberField.the-variants.{Tos}
+use Rattle.definitions.specs.declared.table.NumberField.the-variants.{IpId, SourcePort, Tos}
 use Rattle.definitions.specs.declared.table.HeaderField.the-variants.{Ttl}
 use Rattle.definitions.specs.declared.table.Operator.the-variants.{AtMost}
 use Rattle.definitions.specs.declared.table.Order.the-variants.{Less}
@@ -110,6 +110,7 @@ kept =
     (λ t. t) ∷
     withProtocol 255 ∷
     adds (item.Ttl (record { order = Less; number = 255 })) ∷
+    adds (item.Number (record { field = SourcePort; number = 5 })) ∷
     addsAddresses 8 (replicate 8 (addressOf 4294967295 32)) ∷
     onFirst (with (entry.Distance (record { offset = negsuc 65534; reference = Match; reverse = false }))) ∷
     onFirst (with (entry.Distance (record { offset = pos 65535; reference = Context; reverse = true }))) ∷
@@ -133,6 +134,9 @@ broken =
     (λ t. roomed 2 (set (t .bytes) 2 1) t) ∷
     addsAddresses 1 (replicate 8 (addressOf 1 32)) ∷
     addsSlot (record { item = item.SameIp; addresses = replicate 8 (addressOf 1 32) }) ∷
+    -- the old kind, also in a slot that is not in use
+    adds (item.Number (record { field = IpId; number = 5 })) ∷
+    (λ t. placed (t .count) 23 (slotOf (item.Number (record { field = IpId; number = 0 })) []) t) ∷
     -- numbers beyond their limit
     adds (item.Number (record { field = Tos; number = 256 })) ∷
     adds (item.Ttl (record { order = Less; number = 256 })) ∷

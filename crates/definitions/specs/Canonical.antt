@@ -147,6 +147,7 @@ addressesText (a ∷ (b ∷ al)) = addressText a ++ (text "," ++ addressesText (
 abbrev pub bracketed : List Address → List ℕ
 bracketed al = if ltb 1 (length al) then text "[" ++ (addressesText al ++ text "]") else addressesText al
 
+-- no table that is not refused holds an ip_id (document 02, T-09): this is what it was written as
 abbrev pub numberName : NumberField → List ℕ
 numberName numberField.IpId = text "ip_id"
 numberName numberField.SourcePort = text "src_port"

@@ -14,6 +14,7 @@ use Rattle.definitions.specs.Starts.{startBefore, sameStart}
 use Rattle.definitions.specs.References.{usable, usableRun}
 use Rattle.definitions.specs.Occurrences.{latest, occurrenceCheck, missing}
 use Rattle.definitions.specs.Reading.{options, checkedTable, unboundedPlacing, readPlacing}
+use Rattle.definitions.specs.IpId.{holdsIpId, renewed}
 use Rattle.definitions.specs.WellFormed.{nameFits, itemFits, itemsFit, bytesOf, bytesFit, wellFormed}
 use Rattle.definitions.specs.Canonical.{slotOptions, canonicalOptions, digitsOf, addressesText, fieldText, patternText, testText, modifierText, optionText, optionsText, canonicalText}
 use Rattle.definitions.specs.Writing.{writingCheck, writes, bufferAfter}
@@ -28,7 +29,8 @@ use Rattle.definitions.specs.Lines.{lineOf, lineTexts, linesFrom, output
 use Rattle.definitions.specs.Cases.{pairs, sameLists, signature, packetWith, uriOnly, numbersOf, rightBy, right, found, none, onPayload, onUri, onText, cases, knownMistakes, dataAtCases}
 use Rattle.definitions.specs.NumberCases.{agrees, shownIn, refusalNumbers, ruleWith, illFormed, longRule, header, good, noFields, longUri, reads, readsOption, writesTo, seen, judged, firstOf, nextOf, refusedWith, numberCases}
 use Rattle.definitions.specs.PlaceCases.{formPlaces, limitPlaces}
+use Rattle.definitions.specs.IpIdCases.{afterHead, rewrites, rewritesAtLimit, oldKind, oldKindAfterPattern, ipIdCases, oldKindCases, ipIdLimits}
 
 unfoldable pub computing : ℕ
-unfolding lower sameWord run has Means loop scan overs over readAt bounds all? any? keep sameBytes digitValue valueOf optionTable inName namedOption optionAt printable nameIn protocolIn flowIn modified slotsIn bytesIn tableOf patternsOf startBefore sameStart usable usableRun latest occurrenceCheck missing options checkedTable unboundedPlacing readPlacing nameFits itemFits itemsFit bytesOf bytesFit wellFormed slotOptions canonicalOptions digitsOf addressesText fieldText patternText testText modifierText optionText optionsText canonicalText writingCheck writes bufferAfter bigEndian headerOf packetCheck packetAnswer fieldOf present fieldsCheck inAddresses addressHolds numberHolds fieldHolds sizeHolds atHolds testHolds inWindow alike standsAt lies lexLess constraints itemsOf positives upFrom spread liesIn starts unmatchedHolds Meets placements MeetsTable listed inputCheck placementsOf verdictAnswer firstAnswer nextAnswer answers lineOf lineTexts linesFrom outputOver programOutput pairs sameLists signature packetWith uriOnly numbersOf rightBy right found none onPayload onUri onText cases knownMistakes dataAtCases agrees shownIn refusalNumbers ruleWith illFormed longRule header good noFields longUri reads readsOption writesTo seen judged firstOf nextOf refusedWith numberCases formPlaces limitPlaces
+unfolding lower sameWord run has Means loop scan overs over readAt bounds all? any? keep sameBytes digitValue valueOf optionTable inName namedOption optionAt printable nameIn protocolIn flowIn modified slotsIn bytesIn tableOf patternsOf startBefore sameStart usable usableRun latest occurrenceCheck missing options checkedTable unboundedPlacing readPlacing holdsIpId renewed nameFits itemFits itemsFit bytesOf bytesFit wellFormed slotOptions canonicalOptions digitsOf addressesText fieldText patternText testText modifierText optionText optionsText canonicalText writingCheck writes bufferAfter bigEndian headerOf packetCheck packetAnswer fieldOf present fieldsCheck inAddresses addressHolds numberHolds fieldHolds sizeHolds atHolds testHolds inWindow alike standsAt lies lexLess constraints itemsOf positives upFrom spread liesIn starts unmatchedHolds Meets placements MeetsTable listed inputCheck placementsOf verdictAnswer firstAnswer nextAnswer answers lineOf lineTexts linesFrom outputOver programOutput pairs sameLists signature packetWith uriOnly numbersOf rightBy right found none onPayload onUri onText cases knownMistakes dataAtCases agrees shownIn refusalNumbers ruleWith illFormed longRule header good noFields longUri reads readsOption writesTo seen judged firstOf nextOf refusedWith numberCases formPlaces limitPlaces afterHead rewrites rewritesAtLimit oldKind oldKindAfterPattern ipIdCases oldKindCases ipIdLimits
 computing = 0

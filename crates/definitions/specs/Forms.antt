@@ -18,6 +18,7 @@ use Rattle.definitions.specs.declared.table.HeaderField.{HeaderField}
 use Rattle.definitions.specs.declared.table.HeaderField.the-variants as headerField
 use Rattle.definitions.specs.declared.table.Operator.{Operator}
 use Rattle.definitions.specs.declared.table.Operator.the-variants as operator
+use Rattle.definitions.specs.declared.table.FieldTest.{FieldTest}
 use Rattle.definitions.specs.declared.table.SizeField.{SizeField}
 use Rattle.definitions.specs.declared.table.SizeField.the-variants as sizeField
 use Rattle.definitions.specs.declared.table.Context as contexts
@@ -117,6 +118,7 @@ maxNumber numberField.SourcePort = maxWord
 maxNumber numberField.DestinationPort = maxWord
 maxNumber numberField.Tos = maxByte
 
+-- src_port, dst_port, ip_tos; for ip_id see `ipIdForm`
 abbrev pub numberForm : NumberField → Form OptionValue
 numberForm f = valued (fmap (λ (n : ℕ). test (item.Number (record { field = f; number = n }))) (number (maxNumber f)))
 
@@ -152,6 +154,14 @@ fieldForm f =
     valued (fmap (λ (p : ℕ × (Operator × ℕ)). test (item.Field (record { field = f; mask = p .0; operator = p .1 .0; number = p .1 .1 })))
     (pair (opt (maxField f) (preceded (literal 38) (preceded spaces (terminated (numeral (maxField f)) spaces))))
     (pair (terminated comparison spaces) (numeral (maxField f)))))
+
+-- the field is equal to the number: `=`, and the full mask
+abbrev pub fieldEquals : HeaderField → ℕ → FieldTest
+fieldEquals f n = record { field = f; mask = maxField f; operator = operator.Equal; number = n }
+
+-- ip_id: one number, as in document 01, read as `--ip.id = N` (document 02, T-09)
+abbrev pub ipIdForm : Form OptionValue
+ipIdForm = valued (fmap (λ (n : ℕ). test (item.Field (fieldEquals headerField.Id n))) (number (maxNumber numberField.IpId)))
 
 -- data_size: optional `<`, `>` or `=`, 0..65535, optional `,` and `payload`, `uri`, `header` or `body`
 abbrev pub sizeForm : Form OptionValue

@@ -19,25 +19,32 @@ pub data OptionText : List ℕ → OptionValue → Type 1 where
   option : (o : Option) (n y : List ℕ) {e : OptionValue} → Mem o optionTable → sameWord n (o .name) ≡ true → Means true (o .form) y e
       → OptionText (45 ∷ 45 ∷ (n ++ y)) e
 
--- options with any spaces before, between and after, then `)` as the last byte
-pub data OptionsText : List ℕ → List OptionValue → Type 1 where
-  close : OptionsText (41 ∷ []) []
-  space : {l : List ℕ} {es : List OptionValue} → OptionsText l es → OptionsText (32 ∷ l) es
-  more : {x l : List ℕ} {e : OptionValue} {es : List OptionValue} → OptionText x e → OptionsText l es → OptionsText (x ++ l) (e ∷ es)
+-- options with any spaces before, between and after, then `)` as the last byte. `Says x e`: the option's text x says e, by `OptionText` or by another grammar
+pub data OptionsBy (Says : List ℕ → OptionValue → Type 1) : List ℕ → List OptionValue → Type 1 where
+  close : OptionsBy Says (41 ∷ []) []
+  space : {l : List ℕ} {es : List OptionValue} → OptionsBy Says l es → OptionsBy Says (32 ∷ l) es
+  more : {x l : List ℕ} {e : OptionValue} {es : List OptionValue} → Says x e → OptionsBy Says l es → OptionsBy Says (x ++ l) (e ∷ es)
+
+abbrev pub OptionsText : List ℕ → List OptionValue → Type 1
+OptionsText = OptionsBy OptionText
 
 -- each option may stand after those before it
 pub data Occurrences : List OptionValue → List OptionValue → Type 0 where
   none : {before : List OptionValue} → Occurrences before []
   more : {before es : List OptionValue} {e : OptionValue} → occurrenceCheck before e ≡ Pass → Occurrences (before ++ (e ∷ [])) es → Occurrences before (e ∷ es)
 
--- THE TEXTS of a table, of any length: `F-SBID(` and the options, each byte from 0x20 to 0x7E; all references usable; name and protocol given
-pub record Derives (room : ℕ) (s : List ℕ) (t : Table) : Type 1 where
+-- the texts of a table, of any length: `F-SBID(` and the options, each byte from 0x20 to 0x7E; all references usable; name and protocol given
+pub record DerivesBy (Says : List ℕ → OptionValue → Type 1) (room : ℕ) (s : List ℕ) (t : Table) : Type 1 where
   pub body : List ℕ
   pub values : List OptionValue
   pub framed : s ≡ opening ++ body
   pub printed : all? printable s ≡ true
-  pub made : OptionsText body values
+  pub made : OptionsBy Says body values
   pub occurrences : Occurrences [] values
   pub usable : usableIn values ≡ count isPattern values
   pub complete : missing values ≡ false
   pub table : t ≡ tableOf room values
+
+-- THE TEXTS of a table
+abbrev pub Derives : ℕ → List ℕ → Table → Type 1
+Derives = DerivesBy OptionText

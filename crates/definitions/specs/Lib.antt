@@ -16,6 +16,7 @@ pub mod Occurrences
 pub mod Reading
 pub mod Grammar
 pub mod WrongPlaces
+pub mod IpId
 pub mod WellFormed
 pub mod Canonical
 pub mod Writing
@@ -31,4 +32,5 @@ pub mod Lines
 pub mod Cases
 pub mod NumberCases
 pub mod PlaceCases
+pub mod IpIdCases
 pub mod Computing

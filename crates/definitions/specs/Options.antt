@@ -12,7 +12,7 @@ use Rattle.definitions.specs.declared.table.Side.the-variants.{Source, D
 use Rattle.definitions.specs.declared.table.NumberField.the-variants as number
 use Rattle.definitions.specs.declared.table.HeaderField.the-variants as header
 use Rattle.definitions.specs.OptionValues.{OptionValue}
-use Rattle.definitions.specs.Forms.{nameForm, protocolForm, flowForm, addressForm, sameIpForm, numberForm, ttlForm, fieldForm, sizeForm}
+use Rattle.definitions.specs.Forms.{nameForm, protocolForm, flowForm, addressForm, sameIpForm, numberForm, ttlForm, fieldForm, ipIdForm, sizeForm}
 use Rattle.definitions.specs.Forms.{atForm, patternForm, contextForm, noCaseForm, distanceForm, withinForm}
 
 -- a row of the table: an option's name, and its form after the name
@@ -31,7 +31,7 @@ optionTable =
     row "src_addr" (addressForm Source) ∷
     row "dst_addr" (addressForm Destination) ∷
     row "same_ip" sameIpForm ∷
-    row "ip_id" (numberForm number.IpId) ∷
+    row "ip_id" ipIdForm ∷
     row "src_port" (numberForm number.SourcePort) ∷
     row "dst_port" (numberForm number.DestinationPort) ∷
     row "ip_tos" (numberForm number.Tos) ∷

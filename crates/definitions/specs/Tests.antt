@@ -62,7 +62,8 @@ addressHolds f a l =
     if a .negated then not (inAddresses (packetAddress f (a .side)) (take (a .count) l))
     else inAddresses (packetAddress f (a .side)) (take (a .count) l)
 
--- ip_id, src_port, dst_port, ip_tos; a port test on other protocols than 6 and 17 doesn't hold
+-- ip_id, src_port, dst_port, ip_tos; a port test on other protocols than 6 and 17 doesn't hold. No table that is not refused holds an ip_id (document 02,
+-- T-09): this is what it meant
 unfoldable pub numberHolds : PacketHeader → NumberField → ℕ → Bool
 numberHolds f numberField.IpId n = eqb (f .id) n
 numberHolds f numberField.SourcePort n = hasPorts (f .protocol) && eqb (f .sport) n

@@ -8,6 +8,8 @@ use lib.Dec.{eqb, ltb, leb}
 use lib.IntN.{natAbs}
 use Rattle.forms.specs.Bytes.{between}
 use Rattle.forms.specs.Form.{has}
+use Rattle.definitions.specs.declared.table.NumberField.{NumberField}
+use Rattle.definitions.specs.declared.table.NumberField.the-variants as numberField
 use Rattle.definitions.specs.declared.table.Distance.{Distance}
 use Rattle.definitions.specs.declared.table.Distance.the-variants as distance
 use Rattle.definitions.specs.declared.table.Within.{Within}
@@ -62,11 +64,18 @@ abbrev pub withinFits : Within → Bool
 withinFits within.Unset = true
 withinFits (within.Given w) = leb (w .number) maxWord
 
+-- no text reads as an item of the old kind, ip_id (document 02, T-09)
+abbrev pub numberFits : NumberField → ℕ → Bool
+numberFits numberField.IpId n = false
+numberFits numberField.SourcePort n = leb n (maxNumber numberField.SourcePort)
+numberFits numberField.DestinationPort n = leb n (maxNumber numberField.DestinationPort)
+numberFits numberField.Tos n = leb n (maxNumber numberField.Tos)
+
 unfoldable pub itemFits : Item → Bool
 itemFits item.Unused = false
 itemFits (item.Address a) = between 1 maxAddresses (a .count)
 itemFits item.SameIp = true
-itemFits (item.Number a) = leb (a .number) (maxNumber (a .field))
+itemFits (item.Number a) = numberFits (a .field) (a .number)
 itemFits (item.Ttl a) = leb (a .number) maxByte
 itemFits (item.Field a) = leb (a .mask) (maxField (a .field)) && leb (a .number) (maxField (a .field))
 itemFits (item.Size a) = leb (a .number) maxWord

@@ -24,7 +24,8 @@ pub struct AddressTest {
     pub count: usize,
 }
 
-// ip_id, src_port, dst_port, ip_tos: the field is equal to the number.
+// ip_id, src_port, dst_port, ip_tos: the field is equal to the number. No text reads as an ip_id: it is kept so that a table which holds one can be handed in,
+// and is refused (document 02, T-09).
 pub enum NumberField {
     IpId,
     SourcePort,

@@ -68,7 +68,7 @@ module _ (v : View) (relative : Bool) (l : LastMatch) where
 
 -- ---- data_at 0 among other items
 
-spread-alike : (f g : Start → List (List Start)) (ss : List Start) → ((s : Start) → Mem s ss → f s ≡ g s) → spread f ss ≡ spread g ss
+pub spread-alike : (f g : Start → List (List Start)) (ss : List Start) → ((s : Start) → Mem s ss → f s ≡ g s) → spread f ss ≡ spread g ss
 unfolding spread
 spread-alike f g [] h = refl
 spread-alike f g (s ∷ ss) h = rw (h s (here refl), spread-alike f g ss (λ x m. h x (there m)))

@@ -30,7 +30,7 @@ fn byte_equals(x: u8, n: u16) -> bool
     x as u16 == n
 }
 
-// ip_id, src_port, dst_port, ip_tos.
+// ip_id, src_port, dst_port, ip_tos. A table with an ip_id is refused before it comes here.
 pub fn number_holds(f: PacketHeader, t: NumberTest) -> bool
     ensures { λ r. ⌜ r ≡ numberHolds f (t .field) (t .number) ⌝ }
 {

@@ -16,13 +16,17 @@ use Rattle.definitions.specs.declared.packets.Direction.{Direction}
 use Rattle.definitions.specs.declared.packets.FieldMap.{FieldMap}
 use Rattle.definitions.specs.declared.packets.Start.{Start}
 use Rattle.definitions.specs.declared.packets.Placement.{Placement}
+use Rattle.definitions.specs.declared.answers.Refusal.the-variants as refusal
 use Rattle.definitions.specs.declared.answers.Check.the-variants.{Pass}
 use Rattle.definitions.specs.declared.answers.Answer.{Answer}
+use Rattle.definitions.specs.declared.answers.Query.{Query}
 use Rattle.definitions.specs.declared.answers.Query.the-variants.{First, Next}
 use Rattle.definitions.specs.Lists.{keep}
 use Rattle.definitions.specs.Placements.{positives, itemsOf}
-use Rattle.definitions.specs.Answers.{foundAnswer, noneAnswer, inputCheck, placementsOf, firstAnswer, nextAnswer}
+use Rattle.definitions.specs.Answers.{foundAnswer, noneAnswer, refusedAnswer, inputCheck, placementsOf, firstAnswer, nextAnswer}
 use Rattle.definitions.specs.Queries.{answers}
+use Rattle.definitions.specs.IpId.{holdsIpId}
+use Rattle.laws.proofs.OldKind.{answers-ip-id}
 use Rattle.laws.proofs.QueryModel.{all-listed, empty-or-none}
 use Rattle.match_numbers.specs.Numbers.{numbersOfOne}
 use Rattle.match_queries.specs.Runs.{queryOfByte, allNumbers, room, written}
@@ -79,17 +83,22 @@ module _ (κs : Lfts 3) (t : Table) (p d : RefT (List ℕ)) (dir : Direction) (m
   abbrev pub Answers : List Answer → Type 0
   Answers rs = (r ≡ true) × (after ≡ allNumbers rs ++ drop (length rs * numbersOfOne) (now out))
 
-  module _ (fits : room (now queries) (now out) ≡ true) (check : inputCheck t (now p) (now d) dir m ≡ Pass) where
+  module _ (fits : room (now queries) (now out) ≡ true) where
     run-answers : (rs : List Answer) → answers t (now p) (now d) dir m held (map queryOfByte (now queries)) ≡ rs → Answers rs
     unfolding written
     run-answers rs e =
         let n : length (now queries) ≡ length rs = sym (answers-length t (now p) (now d) dir m held (now queries)) ∙ ap length e in
         (post .0 ∙ fits, post .1 ∙ rw (fits, e, n))
 
+    -- of a table that holds an item of the old kind (document 02, T-09) each answer is refusal 20
+    pub run-refuses-ip-id : holdsIpId t ≡ true → Answers (map (λ (q : Query). refusedAnswer refusal.IllFormed) (map queryOfByte (now queries)))
+    run-refuses-ip-id h = run-answers _ (answers-ip-id t h (now p) (now d) dir m held (map queryOfByte (now queries)))
+
+  module _ (fits : room (now queries) (now out) ≡ true) (check : inputCheck t (now p) (now d) dir m ≡ Pass) where
     pub run-lists : map queryOfByte (now queries) ≡ First ∷ replicate (length (placementsOf t (now p) (now d) dir m)) Next
         → Answers (map foundAnswer (placementsOf t (now p) (now d) dir m) ++ (noneAnswer ∷ []))
-    run-lists queried = run-answers _ (ap (answers t (now p) (now d) dir m held) queried ∙ all-listed t (now p) (now d) dir m check held)
+    run-lists queried = run-answers fits _ (ap (answers t (now p) (now d) dir m held) queried ∙ all-listed t (now p) (now d) dir m check held)
 
     pub run-empty : positives (itemsOf t) ≡ 0 → map queryOfByte (now queries) ≡ First ∷ Next ∷ [] → EmptyOrNone t (now p) (now d) dir m Answers
     run-empty none queried =
-        empty-claims t (now p) (now d) dir m check none held Answers (λ rs e. run-answers rs (ap (answers t (now p) (now d) dir m held) queried ∙ e))
+        empty-claims t (now p) (now d) dir m check none held Answers (λ rs e. run-answers fits rs (ap (answers t (now p) (now d) dir m held) queried ∙ e))

@@ -10,7 +10,7 @@ use Rattle.definitions.specs.declared.table.NumberField.the-variants as number
 use Rattle.definitions.specs.declared.table.HeaderField.the-variants as header
 use Rattle.definitions.specs.Lists.{all?}
 use Rattle.definitions.specs.OptionValues.{OptionValue}
-use Rattle.definitions.specs.Forms.{nameForm, protocolForm, flowForm, addressForm, sameIpForm, numberForm, ttlForm, fieldForm}
+use Rattle.definitions.specs.Forms.{nameForm, protocolForm, flowForm, addressForm, sameIpForm, numberForm, ttlForm, fieldForm, ipIdForm}
 use Rattle.definitions.specs.Forms.{sizeForm, atForm, patternForm, contextForm, noCaseForm, distanceForm, withinForm}
 use Rattle.definitions.specs.Options.{optionTable, NamedOption, unlisted, listed}
 use Rattle.read_names.specs.declared.options.OptionName.{OptionName}
@@ -53,7 +53,7 @@ formOf option.Flow = flowForm
 formOf option.SourceAddress = addressForm Source
 formOf option.DestinationAddress = addressForm Destination
 formOf option.SameIp = sameIpForm
-formOf option.IpId = numberForm number.IpId
+formOf option.IpId = ipIdForm
 formOf option.SourcePort = numberForm number.SourcePort
 formOf option.DestinationPort = numberForm number.DestinationPort
 formOf option.IpTos = numberForm number.Tos

@@ -3,13 +3,19 @@ ghost use mathlib.Core.Path.{_≡_};
 ghost use lib.ListN.{replicate};
 ghost use Rattle.definitions.specs.Limits.{maxAddresses};
 ghost use Rattle.definitions.specs.Tables.{noAddress};
+ghost use Rattle.definitions.specs.Forms.{fieldEquals};
+ghost use Rattle.definitions.specs.declared.table.HeaderField.the-variants.{Id};
 use definitions::limits::ADDRESSES;
+use definitions::limits::MAX_WORD;
 use definitions::table::Address;
 use definitions::table::AddressTest;
 use definitions::table::Context;
 use definitions::table::DistanceValue;
+use definitions::table::FieldTest;
 use definitions::table::Flow;
+use definitions::table::HeaderField;
 use definitions::table::Item;
+use definitions::table::Operator;
 use definitions::table::WithinValue;
 use scan_cursors::Cursor;
 
@@ -32,6 +38,22 @@ pub enum Value {
 pub struct Valued {
     pub value: Value,
     pub cursor: Cursor,
+}
+
+// All bits of a header field of two bytes.
+const FULL_MASK: u16 = MAX_WORD as u16;
+
+// The test that ip_id is read as: `ip.id = N`.
+pub fn ip_id_test(number: u16) -> Item
+    ensures { λ r. ⌜ r ≡ Item.Field (fieldEquals Id number) ⌝ }
+{
+    let test = FieldTest {
+        field: HeaderField::Id,
+        mask: FULL_MASK,
+        operator: Operator::Equal,
+        number,
+    };
+    Item::Field(test)
 }
 
 // The addresses beside a value that has none.

@@ -20,7 +20,7 @@ use Rattle.definitions.specs.References.{usableRun}
 use Rattle.definitions.specs.Occurrences.{isTest, isPattern, missing}
 use Rattle.definitions.specs.Reading.{acceptedReading, readUnbounded}
 use Rattle.definitions.specs.Options.{printable, opening}
-use Rattle.definitions.specs.Grammar.{OptionsText, close, space, Derives}
+use Rattle.definitions.specs.Grammar.{OptionsBy, OptionsText, close, space, Derives}
 use Rattle.definitions.specs.WellFormed.{Shaped, Readable, wellFormed}
 use Rattle.definitions.specs.Canonical.{optionText, optionsText, canonicalOptions, canonicalText}
 use Rattle.syntax.proofs.UsablePatterns.{options-tests, patterns-counted}
@@ -30,7 +30,7 @@ use Rattle.roundtrip.proofs.RebuiltTable.{canonical-slots, canonical-ta
 use Rattle.roundtrip.proofs.Counts.{slots-counted, fewAddresses}
 use Rattle.roundtrip.proofs.Fits.{optionFits, optionWritable}
 use Rattle.roundtrip.proofs.Parts.{formed}
-use Rattle.roundtrip.proofs.Printed.{options-printed}
+use Rattle.roundtrip.proofs.Printed.{printed-opening, options-printed}
 use Rattle.roundtrip.proofs.Read.{read-formed}
 use Rattle.roundtrip.proofs.MayStand.{canonical-stands}
 use Rattle.roundtrip.proofs.CanonicalFits.{good, canonical-good}
@@ -48,15 +48,11 @@ options-written (e ∷ es) t =
     let i = options-written es (all-tail good e es t) in
     let z : 32 ∷ (w .0 ++ (optionsText es ++ text " )")) ≡ (optionText e ++ optionsText es) ++ text " )" =
     ap (λ l. l ++ (optionsText es ++ text " )")) (sym (w .1)) ∙ sym (append-assoc (optionText e) (optionsText es) (text " )")) in
-    subst (λ l. OptionsText l (e ∷ es)) z (space (OptionsText.more (w .2) i))
+    subst (λ l. OptionsText l (e ∷ es)) z (space (OptionsBy.more (w .2) i))
 
 canonical-complete : (t : Table) → missing (canonicalOptions t) ≡ false
 unfolding missing canonicalOptions keep
 canonical-complete t = simp eqb·suc-zero
-
-printed-opening : all? printable opening ≡ true
-unfolding all? printable
-printed-opening = refl
 
 module _ (room : ℕ) (t : Table) (h : Shaped room t) (w : wellFormed t ≡ true) where
   canonical-options : OptionsText (optionsText (canonicalOptions t) ++ text " )") (canonicalOptions t)

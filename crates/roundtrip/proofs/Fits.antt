@@ -1,6 +1,6 @@
 -- When an option fits: its numbers are within the limits of its option, its name or pattern is not empty, a test's addresses are as many as it says.
 -- What a text makes fits (Rows), and what fits has a text (Written).
-use mathlib.Core.Path.{_≡_}
+use mathlib.Core.Path.{_≡_, refl}
 use mathlib.Core.Bool.{Bool, true, false, not, _&&_, _||_}
 use mathlib.Core.List.{List}
 use Prim.Native.Nat.{ℕ, _≤_}
@@ -9,8 +9,11 @@ use lib.Dec.{eqb, leb}
 use lib.IntN.{natAbs}
 use Rattle.forms.specs.Bytes.{between}
 use Rattle.forms.specs.Form.{has}
+use Rattle.forms.proofs.Sound.{never}
 use Rattle.definitions.specs.declared.table.Flow as flows
 use Rattle.definitions.specs.declared.table.Flow.the-variants as flow
+use Rattle.definitions.specs.declared.table.NumberField.{NumberField}
+use Rattle.definitions.specs.declared.table.NumberField.the-variants as numberField
 use Rattle.definitions.specs.declared.table.DistanceValue.{DistanceValue}
 use Rattle.definitions.specs.declared.table.Reference.the-variants as reference
 use Rattle.definitions.specs.declared.table.Item.{Item}
@@ -18,10 +21,18 @@ use Rattle.definitions.specs.declared.table.Address.{Address}
 use Rattle.definitions.specs.Limits.{maxName, maxByte, maxWord}
 use Rattle.definitions.specs.Lists.{all?, none?}
 use Rattle.definitions.specs.OptionValues.{Modifier, Context, NoCase, Distance, Within, OptionValue, Name, Protocol, Flow, Test, Pattern, Modified}
-use Rattle.definitions.specs.Forms.{quotable}
+use Rattle.definitions.specs.Forms.{quotable, maxNumber}
 use Rattle.definitions.specs.Items.{Kind, unused, addressed, patterned, plainTest, kindOf}
 use Rattle.definitions.specs.References.{sameReference}
-use Rattle.definitions.specs.WellFormed.{addressFits, itemFits}
+use Rattle.definitions.specs.WellFormed.{addressFits, numberFits, itemFits}
+use Rattle.definitions.specs.IpId.{isIpIdField}
+
+-- a number test that is not of the old kind fits if its number is within its limit
+pub number-limited : (f : NumberField) (n : ℕ) → isIpIdField f ≡ false → numberFits f n ≡ leb n (maxNumber f)
+number-limited numberField.IpId n t = never (cc)
+number-limited numberField.SourcePort n t = refl
+number-limited numberField.DestinationPort n t = refl
+number-limited numberField.Tos n t = refl
 
 abbrev pub flowFits : flows.Flow → Bool
 flowFits flow.Any = false

@@ -22,7 +22,7 @@ use Rattle.definitions.specs.Tables.{nameIn, protocolIn, noSlot, slotsIn, bytes
 use Rattle.definitions.specs.Items.{patternsOf}
 use Rattle.definitions.specs.References.{usableRun, usableIn}
 use Rattle.definitions.specs.Occurrences.{sameKind, isPattern, missing}
-use Rattle.definitions.specs.Grammar.{OptionsText, close, space, Occurrences}
+use Rattle.definitions.specs.Grammar.{OptionsBy, OptionsText, close, space, Occurrences}
 use Rattle.definitions.specs.WellFormed.{isZero, nameFits, slotUnused, itemsFit, bytesOf, bytesFit, wellFormed}
 use Rattle.syntax.proofs.UsablePatterns.{testOnly, patterns-counted}
 use Rattle.roundtrip.proofs.AllTests.{both, all-none, all-more, all-head, all-tail, all-replicate}
@@ -36,7 +36,7 @@ use Rattle.roundtrip.proofs.Slots.{slots-fit, bytes-fit, lengths-in}
 pub options-fit : {l : List ℕ} {es : List OptionValue} → OptionsText l es → all? optionFits es ≡ true
 options-fit close = all-none optionFits
 options-fit (space o) = options-fit o
-options-fit (OptionsText.more {e} {es} t o) = all-more optionFits e es (option-fits t .fits) (options-fit o)
+options-fit (OptionsBy.more {e} {es} t o) = all-more optionFits e es (option-fits t .fits) (options-fit o)
 
 option-bytes : (e : OptionValue) (es : List OptionValue) → length (bytesIn (e ∷ es)) ≡ patternLength e + length (bytesIn es)
 unfolding bytesIn
@@ -51,7 +51,7 @@ pub options-bytes : {l : List ℕ} {es : List OptionValue} → OptionsText l es 
 unfolding bytesIn
 options-bytes close = omega arith
 options-bytes (space o) = omega (arith, options-bytes o)
-options-bytes (OptionsText.more {x} {l} {e} {es} t o) = omega (arith, option-bytes e es, option-fits t .small, options-bytes o, length-append x l)
+options-bytes (OptionsBy.more {x} {l} {e} {es} t o) = omega (arith, option-bytes e es, option-fits t .small, options-bytes o, length-append x l)
 
 -- ---- name and protocol
 

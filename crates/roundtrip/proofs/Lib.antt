@@ -24,5 +24,9 @@ pub mod MayStand
 pub mod CanonicalFits
 pub mod Printed
 pub mod Canonical
+pub mod SameOptions
+pub mod NoIpId
+pub mod Respelled
+pub mod StillReads
 pub mod Buffer
 pub mod Typed

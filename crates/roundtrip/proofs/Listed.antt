@@ -1,6 +1,6 @@
 -- The rows of the table of options, each found in it by its place; and what stands after two dashes and a row's own name is an option's text.
 use mathlib.Core.Path.{_≡_, refl}
-use mathlib.Core.Bool.{Bool, true}
+use mathlib.Core.Bool.{Bool, true, false}
 use mathlib.Core.List.{List, [], _∷_, _++_, List·Memᴰ as Mem, List·Memᴰ·head as first-one, List·Memᴰ·tail as later-one}
 use Prim.Native.Nat.{ℕ, zero, suc, _<_}
 use native.Mathlib.Omega.{arith}
@@ -14,11 +14,13 @@ use Rattle.definitions.specs.declared.table.NumberField.the-variants as numberF
 use Rattle.definitions.specs.declared.table.HeaderField.{HeaderField}
 use Rattle.definitions.specs.declared.table.HeaderField.the-variants as headerField
 use Rattle.definitions.specs.OptionValues.{OptionValue}
-use Rattle.definitions.specs.Forms.{nameForm, protocolForm, flowForm, addressForm, sameIpForm, numberForm, ttlForm, fieldForm, sizeForm, atForm}
-use Rattle.definitions.specs.Forms.{patternForm, contextForm, noCaseForm, distanceForm, withinForm}
+use Rattle.definitions.specs.Forms.{nameForm, protocolForm, flowForm, addressForm, sameIpForm, numberForm, ttlForm, fieldForm, ipIdForm}
+use Rattle.definitions.specs.Forms.{sizeForm, atForm, patternForm, contextForm, noCaseForm, distanceForm, withinForm}
 use Rattle.definitions.specs.Options.{Option, row, optionTable}
 use Rattle.definitions.specs.Canonical.{sideName, numberName, fieldName}
 use Rattle.definitions.specs.Grammar.{OptionText, option}
+use Rattle.definitions.specs.IpId.{isIpIdField}
+use Rattle.syntax.proofs.Truths.{impossible}
 use Rattle.syntax.proofs.Rows.{allRows, each-row}
 use Rattle.roundtrip.proofs.Making.{Of}
 
@@ -68,12 +70,16 @@ pub same-ip-row : Mem (row "same_ip" sameIpForm) optionTable
 unfolding optionTable
 same-ip-row = at-place 5 (lit< tt)
 
-pub number-row : (f : NumberField) → Mem (record { name = numberName f; form = numberForm f }) optionTable
+pub ip-id-row : Mem (row "ip_id" ipIdForm) optionTable
 unfolding optionTable
-number-row numberField.IpId = at-place 6 (lit< tt)
-number-row numberField.SourcePort = at-place 7 (lit< tt)
-number-row numberField.DestinationPort = at-place 8 (lit< tt)
-number-row numberField.Tos = at-place 9 (lit< tt)
+ip-id-row = at-place 6 (lit< tt)
+
+pub number-row : (f : NumberField) → isIpIdField f ≡ false → Mem (record { name = numberName f; form = numberForm f }) optionTable
+unfolding optionTable
+number-row numberField.IpId t = impossible (cc)
+number-row numberField.SourcePort t = at-place 7 (lit< tt)
+number-row numberField.DestinationPort t = at-place 8 (lit< tt)
+number-row numberField.Tos t = at-place 9 (lit< tt)
 
 pub ttl-row : Mem (row "ip_ttl" ttlForm) optionTable
 unfolding optionTable

@@ -12,8 +12,8 @@ use Rattle.forms.proofs.Bools.{by-cases}
 use Rattle.forms.proofs.Sound.{never}
 use Rattle.definitions.specs.Lists.{all?}
 use Rattle.definitions.specs.OptionValues.{OptionValue}
-use Rattle.definitions.specs.Options.{Option, optionTable, printable}
-use Rattle.definitions.specs.Grammar.{OptionText, option, OptionsText, close, space}
+use Rattle.definitions.specs.Options.{Option, optionTable, printable, opening}
+use Rattle.definitions.specs.Grammar.{OptionText, option, OptionsBy, OptionsText, close, space}
 use Rattle.syntax.proofs.Rows.{allRows, each-row}
 use Rattle.roundtrip.proofs.AllTests.{halves, all-none, all-more, all-head, all-tail, all-append}
 use Rattle.roundtrip.proofs.Classes.{printedForm, inside-printed, form-printed}
@@ -60,8 +60,12 @@ option-printed (option o n y {e} m q w) =
     dashed : (n : List ℕ) → all? printable n ≡ true → all? printable (45 ∷ 45 ∷ n) ≡ true
     dashed n t = all-more printable 45 (45 ∷ n) one-dash (all-more printable 45 n one-dash t)
 
+pub printed-opening : all? printable opening ≡ true
+unfolding all? printable
+printed-opening = refl
+
 pub options-printed : {l : List ℕ} {es : List OptionValue} → OptionsText l es → all? printable l ≡ true
 unfolding all? printable
 options-printed close = refl
 options-printed (space o) = options-printed o
-options-printed (OptionsText.more {x} {l} t o) = all-append printable x l (option-printed t) (options-printed o)
+options-printed (OptionsBy.more {x} {l} t o) = all-append printable x l (option-printed t) (options-printed o)

@@ -63,11 +63,11 @@ unfolding nameIn slotsIn bytesIn all?
 empty-shaped room = table-shaped room [] (omega arith) (omega arith) (omega arith) refl
 
 -- accepted, or with the table of a refusal
-abbrev Either : ℕ → Reading → Type 0
+abbrev pub Either : ℕ → Reading → Type 0
 Either room r = (r ≡ acceptedReading (r .table)) ⊎ (r .table ≡ tableOf room [])
 
 -- each answer of the reader is one of these, since a refused one has the empty table
-told-either : (room : ℕ) (r : Reading) → EmptyOrAccepted room r → Either room r
+pub told-either : (room : ℕ) (r : Reading) → EmptyOrAccepted room r → Either room r
 told-either room r h = go (r .outcome) refl
   where
     go : (o : ReadOutcome) → r .outcome ≡ o → Either room r

@@ -24,14 +24,15 @@ use Rattle.definitions.specs.Limits.{maxByte, maxWord}
 use Rattle.definitions.specs.OptionValues.{NoCase, OptionValue, Pattern, Modified}
 use Rattle.definitions.specs.Numbers.{numeral}
 use Rattle.definitions.specs.Forms.{spaces, gap, closed, valued, quotable, addresses, addressTest, test, negation, maxField, patternBytes, nameForm}
-use Rattle.definitions.specs.Forms.{protocolForm, flowForm, addressForm, sameIpForm, numberForm, ttlForm, fieldForm, sizeForm, atForm, patternForm}
-use Rattle.definitions.specs.Forms.{contextForm, noCaseForm, distanceForm, withinForm}
+use Rattle.definitions.specs.Forms.{protocolForm, flowForm, addressForm, sameIpForm, numberForm, ttlForm, fieldForm, ipIdForm, sizeForm, atForm}
+use Rattle.definitions.specs.Forms.{patternForm, contextForm, noCaseForm, distanceForm, withinForm}
 use Rattle.definitions.specs.Options.{Option, optionTable}
 use Rattle.definitions.specs.WellFormed.{itemFits}
 use Rattle.definitions.specs.Grammar.{OptionText, option}
+use Rattle.definitions.specs.IpId.{isIpIdField}
 use Rattle.roundtrip.proofs.AllTests.{both, all-more, row-bytes}
 use Rattle.roundtrip.proofs.EveryValue.{Every, every, known}
-use Rattle.roundtrip.proofs.Fits.{flowFits, optionFits, patternLength, Fitting}
+use Rattle.roundtrip.proofs.Fits.{number-limited, flowFits, optionFits, patternLength, Fitting}
 use Rattle.roundtrip.proofs.Values.{keyword-every, number-within, numeral-within, signed-abs, not-none, addresses-fit, pattern-fits}
 
 -- all that the form makes fits
@@ -105,9 +106,13 @@ same-ip-gives : Gives sameIpForm
 unfolding itemFits
 same-ip-gives = close (pure (test item.SameIp)) (plain [] (test item.SameIp) refl refl)
 
-number-gives : (f : NumberField) → Gives (numberForm f)
+number-gives : (f : NumberField) → isIpIdField f ≡ false → Gives (numberForm f)
 unfolding itemFits
-number-gives f = says (λ n. refl) (λ b h x vs r t. both t refl)
+number-gives f k = says (λ n. refl) (λ b h x vs r t. both (number-limited f _ k ∙ t) refl)
+
+ip-id-gives : Gives ipIdForm
+unfolding itemFits
+ip-id-gives = says (λ n. refl) (λ b h x vs r t. both (both refl t) refl)
 
 -- an option whose value is known to fit
 known-says : {A : Type 0} {h : A → OptionValue} {f : Form A} → ((a : A) → patternLength (h a) ≡ 0)
@@ -188,7 +193,7 @@ table-gives : RowsGive optionTable
 unfolding optionTable
 table-gives =
     name-gives and protocol-gives and flow-gives and address-gives side.Source and address-gives side.Destination and same-ip-gives
-    and number-gives numberField.IpId and number-gives numberField.SourcePort and number-gives numberField.DestinationPort and number-gives numberField.Tos
+    and ip-id-gives and number-gives numberField.SourcePort refl and number-gives numberField.DestinationPort refl and number-gives numberField.Tos refl
     and ttl-gives
     and field-gives headerField.TotalLength and field-gives headerField.Id and field-gives headerField.Checksum and field-gives headerField.Ttl
     and size-gives and at-gives and pattern-gives and context-gives and no-case-gives and distance-gives and within-gives and done

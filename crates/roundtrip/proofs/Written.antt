@@ -1,5 +1,5 @@
 -- An option that fits is written as one space and an option's text of that option. For each row the text of the value is put together as its form is.
-use mathlib.Core.Path.{_≡_, sym, ap}
+use mathlib.Core.Path.{_≡_, sym, ap, _∙_}
 use mathlib.Core.Bool.{Bool, true, false, not, _&&_, _||_}
 use mathlib.Core.List.{List, [], _∷_, _++_, append-assoc}
 use Prim.Native.Nat.{ℕ, suc}
@@ -44,12 +44,13 @@ use Rattle.definitions.specs.References.{sameReference}
 use Rattle.definitions.specs.Canonical.{decimal, textIf, negatedText, orderText, operatorText, fieldText, sizeFieldText, contextText, referenceText}
 use Rattle.definitions.specs.Canonical.{testText, modifierText, optionText}
 use Rattle.definitions.specs.WellFormed.{itemFits}
+use Rattle.laws.proofs.OldKind.{number-known}
 use Rattle.syntax.proofs.Truths.{impossible}
 use Rattle.roundtrip.proofs.AllTests.{halves}
 use Rattle.roundtrip.proofs.Addressed.{addresses-of}
 use Rattle.roundtrip.proofs.Blocks.{pattern-of}
 use Rattle.roundtrip.proofs.Decimals.{number-of, numeral-of}
-use Rattle.roundtrip.proofs.Fits.{flowFits, testFits, optionFits, optionWritable}
+use Rattle.roundtrip.proofs.Fits.{number-limited, flowFits, testFits, optionFits, optionWritable}
 use Rattle.roundtrip.proofs.Listed.{Written, row-written, name-row, protocol-row, flow-row, side-row, same-ip-row, number-row, ttl-row}
 use Rattle.roundtrip.proofs.Listed.{field-row, size-row, at-row, pattern-row, context-row, no-case-row, distance-row, within-row}
 use Rattle.roundtrip.proofs.Making.{Of, retexts, revalues, pure-of, fmap-of, bound-of, preceded-of, terminated-of, both-of}
@@ -148,8 +149,10 @@ address-written a al t =
 number-written : (a : NumberTest) → itemFits (item.Number a) ≡ true → Written (testText (item.Number a) []) (test (item.Number a))
 unfolding testText itemFits
 number-written a f =
-    row-written (number-row (a .field))
-    (values (fmap-of {h = λ (n : ℕ). test (item.Number (record { field = a .field; number = n }))} (number-of (maxNumber (a .field)) (a .number) f)))
+    let k = number-known (a .field) (a .number) f in
+    let t = sym (number-limited (a .field) (a .number) k) ∙ f in
+    row-written (number-row (a .field) k)
+    (values (fmap-of {h = λ (n : ℕ). test (item.Number (record { field = a .field; number = n }))} (number-of (maxNumber (a .field)) (a .number) t)))
 
 ttl-written : (a : TtlTest) → itemFits (item.Ttl a) ≡ true → Written (testText (item.Ttl a) []) (test (item.Ttl a))
 unfolding testText itemFits

@@ -21,7 +21,7 @@ use Rattle.definitions.specs.OptionValues.{OptionValue}
 use Rattle.definitions.specs.Options.{NamedOption, unlisted, listed, optionAt}
 use Rattle.definitions.specs.Occurrences.{occurrenceCheck}
 use Rattle.definitions.specs.Reading.{Located, optionValuesOf, Options, ended, refused, unlessRefused, atLetter, optionStep, isSpace, dashes, options}
-use Rattle.definitions.specs.Grammar.{OptionText, option, OptionsText, close, space, Occurrences, none}
+use Rattle.definitions.specs.Grammar.{OptionText, option, OptionsBy, OptionsText, close, space, Occurrences, none}
 use Rattle.syntax.proofs.Truths.{cases, impossible}
 use Rattle.syntax.proofs.Frame.{after, front-exactly}
 use Rattle.syntax.proofs.Single.{option-dashes, option-read, read-option}
@@ -70,7 +70,7 @@ pub options-read : {l : List ℕ} {es : List OptionValue} → OptionsText l es �
 unfolding options
 options-read close s at located st d = (located, refl, sym (append-nil (optionValuesOf located)))
 options-read (space {l} o) s at located st d = options-read o s (at + 1) located st (after s at (32 ∷ []) l d)
-options-read (OptionsText.more {x} {l} {e} {es} t o) s at located st d =
+options-read (OptionsBy.more {x} {l} {e} {es} t o) s at located st d =
     let p = standing-parts st in
     let i = options-read o s (at + length x) (joined located at e) (subst (λ b. Occurrences b es) (sym (joined-options located at e)) (p .1))
     (after s at x l d) in (
@@ -129,7 +129,7 @@ module _ (s : List ℕ) (b : ℕ) (l : List ℕ) (at : ℕ) (located final : Lis
       ap (drop (next - (at + 1))) (sym (after s at (b ∷ []) l d)) ∙ drop-drop (next - (at + 1)) (at + 1) s ∙ ap (λ k. drop k s) g in
       let z : o .0 ++ drop (next - (at + 1)) l ≡ b ∷ l = ap (λ r. o .0 ++ r) h ∙ sym (o .2) ∙ d in (
         e ∷ i .0,
-        subst (λ r. OptionsText r (e ∷ i .0)) z (OptionsText.more (o .1) (i .1)),
+        subst (λ r. OptionsText r (e ∷ i .0)) z (OptionsBy.more (o .1) (i .1)),
         Occurrences.more f (subst (λ r. Occurrences r (i .0)) (joined-options located at e) (i .2)),
         i .3 ∙ ap (λ r. r ++ i .0) (joined-options located at e) ∙ append-assoc (optionValuesOf located) (e ∷ []) (i .0),
       )

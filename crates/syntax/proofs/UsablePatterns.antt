@@ -24,7 +24,7 @@ use Rattle.definitions.specs.Items.{Kind, unused, addressed, patterned, plainTe
 use Rattle.definitions.specs.Starts.{startAt}
 use Rattle.definitions.specs.References.{lastAfter, usable, usableRun, usableIn}
 use Rattle.definitions.specs.Occurrences.{isPattern}
-use Rattle.definitions.specs.Grammar.{OptionText, option, OptionsText, close, space}
+use Rattle.definitions.specs.Grammar.{OptionText, option, OptionsBy, OptionsText, close, space}
 
 -- ---- a test's item is no pattern
 
@@ -113,7 +113,7 @@ pub options-tests : {l : List ℕ} {es : List OptionValue} → OptionsText l es 
 unfolding all?
 options-tests close = refl
 options-tests (space o) = options-tests o
-options-tests (OptionsText.more t o) = rw (option-tests t) (options-tests o)
+options-tests (OptionsBy.more t o) = rw (option-tests t) (options-tests o)
 
 -- ---- counts
 

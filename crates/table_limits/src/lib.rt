@@ -4,7 +4,7 @@ ghost use lib.Dec.{leb};
 ghost use lib.IntN.{natAbs};
 ghost use Rattle.forms.specs.Bytes.{between};
 ghost use Rattle.definitions.specs.Limits.{maxWord, maxAddresses};
-ghost use Rattle.definitions.specs.Forms.{maxNumber, maxField};
+ghost use Rattle.definitions.specs.Forms.{maxField};
 ghost use Rattle.definitions.specs.WellFormed.{addressFits, addressUnused, distanceFits, itemFits};
 use definitions::limits::ADDRESSES;
 use definitions::limits::MAX_BYTE;
@@ -31,25 +31,17 @@ pub fn count_fits(count: usize) -> bool
     }
 }
 
-// The largest number of each option, and of each header field.
-pub fn number_most(field: NumberField) -> u64
-    ensures { λ r. ⌜ r ≡ maxNumber field ⌝ }
-{
-    match field {
-        NumberField::IpId => MAX_WORD,
-        NumberField::SourcePort => MAX_WORD,
-        NumberField::DestinationPort => MAX_WORD,
-        NumberField::Tos => MAX_BYTE,
-    }
-}
-
-// Whether a number test is within the limit of its field.
+// Whether a number test is within the limit of its field. No text reads as an ip_id.
 pub fn number_fits(a: NumberTest) -> bool
-    ensures { λ r. ⌜ r ≡ leb (a .number) (maxNumber (a .field)) ⌝ }
+    ensures { λ r. ⌜ r ≡ itemFits (Item.Number a) ⌝ }
 {
     let field = a.field;
-    let most = number_most(field);
-    a.number as u64 <= most
+    match field {
+        NumberField::IpId => false,
+        NumberField::SourcePort => true,
+        NumberField::DestinationPort => true,
+        NumberField::Tos => a.number as u64 <= MAX_BYTE,
+    }
 }
 
 // The most that stands in a header field, which is its full mask.

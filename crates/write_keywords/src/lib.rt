@@ -54,7 +54,7 @@ pub fn side_keyword(s: Side) -> Keyword
     }
 }
 
-// The name of the option that tests a number.
+// The name of the option that tests a number. A table with an ip_id is refused before it comes here.
 pub fn number_field_keyword(f: NumberField) -> Keyword
     ensures { λ k. ⌜ Spells k (numberName f) ⌝ }
 {

@@ -6,7 +6,14 @@ use definitions::answers::Writing;
 use definitions::limits::ITEMS;
 use definitions::limits::NAME_BYTES;
 use definitions::limits::PATTERN_BYTES;
+use definitions::table::FieldTest;
 use definitions::table::Flow;
+use definitions::table::HeaderField;
+use definitions::table::Item;
+use definitions::table::NumberField;
+use definitions::table::NumberTest;
+use definitions::table::Operator;
+use definitions::table::Slot;
 use definitions::table::Table;
 use libc::STDOUT_FILENO;
 use read_state::no_slot;
@@ -85,6 +92,33 @@ fn try_edited(t: Table) {
     try_in(stale, &mut buffer);
 }
 
+// The table with one test.
+fn with_test(t: Table, item: Item) -> Table {
+    let none = no_slot();
+    let addresses = none.addresses;
+    let mut tested = t;
+    tested.items[0] = Slot { item, addresses };
+    tested.count = 1;
+    tested
+}
+
+// Of a table with an ip_id, the old kind, and of the table with the field test that ip_id reads as.
+fn try_ip_id(t: Table) {
+    let mut buffer = [b'.'; 50];
+    let old = NumberTest {
+        field: NumberField::IpId,
+        number: 5,
+    };
+    try_in(with_test(t, Item::Number(old)), &mut buffer);
+    let read = FieldTest {
+        field: HeaderField::Id,
+        mask: 65535,
+        operator: Operator::Equal,
+        number: 5,
+    };
+    try_in(with_test(t, Item::Field(read)), &mut buffer);
+}
+
 // The table that the rule with the name `n`, protocol 6 and no items reads as.
 fn small_rule() -> Table {
     let none = no_slot();
@@ -106,4 +140,5 @@ fn main() {
     let table = small_rule();
     try_whole(table);
     try_edited(table);
+    try_ip_id(table);
 }

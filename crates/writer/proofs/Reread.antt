@@ -1,7 +1,8 @@
 -- OF THE ENTRY `write` ITSELF, whatever table it is given. What it writes reads back: where it answers that n bytes are written, the first n bytes of the
 -- buffer read as that table. And it answers 20 exactly if no text reads as the table. That the table's arrays have their lengths is part of what a value
--- of its type is (`typed-shaped`).
+-- of its type is (`typed-shaped`). So it answers 20 for a table that holds an item of the old kind, ip_id, whatever else that holds.
 use mathlib.Core.Path.{_≡_, sym, ap, _∙_}
+use mathlib.Core.Bool.{true}
 use mathlib.Core.List.{List}
 use mathlib.Core.Logic.{_↔_}
 use Prim.Native.Nat.{ℕ}
@@ -18,7 +19,9 @@ use Rattle.definitions.specs.Limits.{documentLimits}
 use Rattle.definitions.specs.Refusals.{writeNumber}
 use Rattle.definitions.specs.Reading.{acceptedReading, read}
 use Rattle.definitions.specs.WellFormed.{Readable}
+use Rattle.definitions.specs.IpId.{holdsIpId}
 use Rattle.laws.proofs.IllFormed.{write-ill-formed}
+use Rattle.laws.proofs.OldKind.{write-ip-id}
 use Rattle.roundtrip.proofs.Buffer.{written-reads}
 use Rattle.roundtrip.proofs.Typed.{typed-shaped, twenty-unreadable}
 use Rattle.writer.proofs.write.Reads as write
@@ -32,3 +35,6 @@ module _ (κs : Lfts 1) (t : Table) (out : RefT (List ℕ)) (r : Writing) (s : A
 
   pub write-unreadable : (writeNumber r ≡ 20) ↔ (Readable (documentLimits .room) t → ⊥)
   write-unreadable = twenty-unreadable t _ (good .0) (ap writeNumber (post .0)) (write-ill-formed documentLimits t (now out))
+
+  pub write-refuses-ip-id : holdsIpId t ≡ true → writeNumber r ≡ 20
+  write-refuses-ip-id h = ap writeNumber (post .0) ∙ write-ip-id documentLimits t (now out) h

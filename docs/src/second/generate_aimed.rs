@@ -63,9 +63,9 @@ fn near_test(random: &mut Random, message: &Message, last: Option<&Placed>) -> T
             Test::Address { side, negated: random.chance(30), list }
         }
         2 => Test::SameIp,
+        3 if random.chance(70) => Test::ip_id(near(random, pair(datagram, 4)).min(65535)),
         3 | 4 => {
             let (what, value) = random.pick(&[
-                (Plain::IpId, pair(datagram, 4)),
                 (Plain::IpTos, u64::from(datagram[1])),
                 (Plain::SrcPort, pair(message.transport, 0)),
                 (Plain::DstPort, pair(message.transport, 2)),

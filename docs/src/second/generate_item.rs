@@ -20,8 +20,9 @@ pub fn test(random: &mut Random) -> Test {
     match random.below(12) {
         0 | 1 => addresses(random, 4),
         2 => Test::SameIp,
+        3 if random.chance(70) => Test::ip_id(number(random, 65535)),
         3 | 4 => {
-            let what = random.pick(&[Plain::IpId, Plain::SrcPort, Plain::DstPort, Plain::IpTos]);
+            let what = random.pick(&[Plain::SrcPort, Plain::DstPort, Plain::IpTos]);
             Test::Equal { what, value: number(random, what.limit()) }
         }
         5 => Test::Ttl { compare: sign(random), value: number(random, 255) },

@@ -1,7 +1,7 @@
 //! Texts: of every spelling, on both sides of every limit, and damaged ones.
 
 use crate::damage::{damage, outside_byte};
-use crate::generate_item::{address, byte};
+use crate::generate_item::{address, byte, number};
 use crate::generate_table::{counted, name, table};
 use crate::house::house_text;
 use crate::odd;
@@ -83,6 +83,10 @@ fn of_length(random: &mut Random) -> Vec<u8> {
 fn of_house_length(random: &mut Random) -> Vec<u8> {
     let tests = random.index(4);
     let mut table = counted(random, 1, tests, false);
+    // Written as ip.id, each ip_id is two bytes longer than it is spelled.
+    for _ in 0..random.pick(&[0, 0, 1, 2]) {
+        table.items.push(Item::Test(Test::ip_id(number(random, 65535))));
+    }
     let fill = |bytes: Vec<u8>, table: &mut Table| {
         for item in &mut table.items {
             if let Item::Pattern(pattern) = item {

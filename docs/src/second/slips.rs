@@ -68,7 +68,7 @@ fn values(option: OptionName) -> &'static [&'static str] {
         OptionName::Address(Source) => &[" ![10.0.0.255/032,1.2.3.4/8] ;"],
         OptionName::Address(Destination) => &[" !1.25.255.0/24;", " [5.6.7.8];"],
         OptionName::SameIp => &[" ;"],
-        OptionName::Equal(Plain::IpId) => &[" 65535;"],
+        OptionName::IpId => &[" 65535;"],
         OptionName::Equal(Plain::SrcPort) => &["  6553 ;"],
         OptionName::Equal(Plain::DstPort) => &[" 065535;"],
         OptionName::Equal(Plain::IpTos) => &[" 255 ;"],

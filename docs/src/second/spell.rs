@@ -1,5 +1,6 @@
 //! One table in any of its spellings: free spaces, letter case, leading zeros,
-//! hex or plain bytes, spelled-out defaults, modifiers apart from their pattern.
+//! hex or plain bytes, spelled-out defaults, modifiers apart from their pattern,
+//! ip_id for ip.id.
 
 use crate::random::Random;
 use crate::table::*;
@@ -14,6 +15,8 @@ pub struct Spell<'a> {
     pub hex: u64,
     pub defaults: u64,
     pub mixed: u64,
+    /// ip.id = N as ip_id N.
+    pub ip_id: u64,
 }
 
 impl<'a> Spell<'a> {
@@ -24,12 +27,22 @@ impl<'a> Spell<'a> {
         let hex = random.pick(&[0, 0, 20, 100]);
         let defaults = random.pick(&[0, 30, 100]);
         let mixed = random.pick(&[0, 0, 50]);
-        Spell { random, spaces, capitals, zeros, hex, defaults, mixed }
+        let ip_id = random.pick(&[50, 100]);
+        Spell { random, spaces, capitals, zeros, hex, defaults, mixed, ip_id }
     }
 
     /// The shortest style: no free space, nothing spelled out.
     pub fn compact(random: &'a mut Random) -> Spell<'a> {
-        Spell { random, spaces: 0, capitals: 0, zeros: 0, hex: 0, defaults: 0, mixed: 0 }
+        Spell {
+            random,
+            spaces: 0,
+            capitals: 0,
+            zeros: 0,
+            hex: 0,
+            defaults: 0,
+            mixed: 0,
+            ip_id: 100,
+        }
     }
 
     pub fn text(&mut self, table: &Table) -> Vec<u8> {
@@ -208,6 +221,11 @@ impl<'a> Spell<'a> {
             Test::Ttl { compare, value } => {
                 let sign = if *compare == Compare::Equal { "" } else { word(&OPERATORS, *compare) };
                 (OptionName::IpTtl, sign.to_string() + &self.number(*value))
+            }
+            Test::Header { value, .. }
+                if *test == Test::ip_id(*value) && self.random.chance(self.ip_id) =>
+            {
+                (OptionName::IpId, self.number(*value))
             }
             Test::Header { field, mask, compare, value } => {
                 let mut text = String::new();

@@ -74,7 +74,7 @@ pub enum Test {
         list: Vec<Address>,
     },
     SameIp,
-    /// ip_id, src_port, dst_port and ip_tos: equal to a number.
+    /// src_port, dst_port and ip_tos: equal to a number.
     Equal {
         what: Plain,
         value: u64,
@@ -117,7 +117,6 @@ pub struct Address {
 
 #[derive(Clone, Copy, Debug, PartialEq, Eq)]
 pub enum Plain {
-    IpId,
     SrcPort,
     DstPort,
     IpTos,
@@ -157,6 +156,14 @@ impl Plain {
             Plain::IpTos => 255,
             _ => 65535,
         }
+    }
+}
+
+impl Test {
+    /// What `--ip_id N` is read as: `--ip.id = N` (document 02, T-09).
+    pub fn ip_id(value: u64) -> Test {
+        let field = HeaderField::Id;
+        Test::Header { field, mask: field.limit(), compare: Compare::Equal, value }
     }
 }
 

@@ -44,7 +44,6 @@ fn covers(listed: &Address, address: u32) -> bool {
 fn plain(message: &Message, what: Plain) -> Option<u64> {
     let has_ports = matches!(message.protocol(), TCP | UDP);
     match what {
-        Plain::IpId => Some(pair(message.datagram, 4)),
         Plain::IpTos => message.datagram.get(1).map(|byte| u64::from(*byte)),
         Plain::SrcPort => has_ports.then(|| pair(message.transport, 0)),
         Plain::DstPort => has_ports.then(|| pair(message.transport, 2)),

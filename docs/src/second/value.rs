@@ -53,6 +53,7 @@ fn value(option: OptionName, scan: &mut Scan) -> Option<Parsed> {
         OptionName::Flow => Parsed::Flow(scan.listed(&FLOWS)?),
         OptionName::Address(side) => Parsed::Test(addresses(side, scan)?),
         OptionName::SameIp => Parsed::Test(Test::SameIp),
+        OptionName::IpId => Parsed::Test(Test::ip_id(scan.number(HeaderField::Id.limit())?)),
         OptionName::Equal(what) => {
             Parsed::Test(Test::Equal { what, value: scan.number(what.limit())? })
         }

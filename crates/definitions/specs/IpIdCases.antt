@@ -1,0 +1,76 @@
+-- ip_id by examples: what its texts are written as, and tables that hold the old kind. Document 02, T-09. proofs/IpIdCases.antt has the statement.
+use mathlib.Core.Bool.{false}
+use mathlib.Core.List.{List, [], _∷_, _++_}
+use Prim.Native.Nat.{ℕ}
+use Prim.Native.String.{String}
+use lib.ListN.{replicate}
+use Rattle.forms.specs.Bytes.{text}
+use Rattle.definitions.specs.declared.table.NumberField.the-variants as numberField
+use Rattle.definitions.specs.declared.table.Item.the-variants as item
+use Rattle.definitions.specs.declared.table.Table.{Table}
+use Rattle.definitions.specs.Limits.{documentLimits}
+use Rattle.definitions.specs.OptionValues.{Pattern}
+use Rattle.definitions.specs.Forms.{test}
+use Rattle.definitions.specs.Reading.{read}
+use Rattle.definitions.specs.Writing.{writes}
+use Rattle.definitions.specs.Canonical.{canonicalText}
+use Rattle.definitions.specs.AnswerNumbers.{writeNumbers}
+use Rattle.definitions.specs.NumberCases.{Example, ruleWith, good, noFields, longUri, readsOption, writesTo, judged, firstOf, nextOf, refusedWith}
+
+-- the text of some options after a name and a protocol, as canonical text has them
+unfoldable pub afterHead : List ℕ → List ℕ
+afterHead options = text "F-SBID( --name \"n\"; --protocol 6;" ++ (options ++ text " )")
+
+-- the canonical text of what is read
+unfoldable pub rewrites : String → String → Example
+rewrites s said = record { given = canonicalText (read documentLimits (afterHead (text s)) .table); said = afterHead (text said) }
+
+-- so many bytes of a pattern after an option: what the writer answers for what is read
+unfoldable pub rewritesAtLimit : String → ℕ → List ℕ → Example
+rewritesAtLimit s n said =
+    record {
+      given = writeNumbers (writes documentLimits (read documentLimits (afterHead (text s ++ (text " --pattern \"" ++ (replicate n 97 ++ text "\";")))) .table)
+          (replicate 1024 7));
+      said = said;
+    }
+
+unfoldable pub oldKind : Table
+oldKind = ruleWith (test (item.Number (record { field = numberField.IpId; number = 5 })) ∷ [])
+
+unfoldable pub oldKindAfterPattern : Table
+oldKindAfterPattern = ruleWith (Pattern false (text "X") ∷ test (item.Number (record { field = numberField.IpId; number = 4663 })) ∷ [])
+
+unfoldable pub ipIdCases : List Example
+ipIdCases =
+    -- the table is that of `--ip.id = N`
+    rewrites " --ip_id 5;" " --ip.id = 5;" ∷
+    rewrites " --IP_ID  05 ;" " --ip.id = 5;" ∷
+    rewrites " --ip.id & 0xffff = 0x5;" " --ip.id = 5;" ∷
+    rewrites " --ip_id 0; --ip_id 65535;" " --ip.id = 0; --ip.id = 65535;" ∷
+    rewrites " --ip.id & 0 = 5; --ip.id >= 5;" " --ip.id & 0 = 5; --ip.id >= 5;" ∷
+    -- its form and its limit are its own
+    readsOption "--ip_id = 5;" (6 ∷ 39 ∷ []) ∷
+    readsOption "--ip_id 0x5;" (6 ∷ 40 ∷ []) ∷
+    readsOption "--ip_id 70000;" (7 ∷ 39 ∷ []) ∷
+    []
+
+-- a table that holds the old kind is refused, before all else
+unfoldable pub oldKindCases : List Example
+oldKindCases =
+    writesTo oldKind (7 ∷ 7 ∷ []) (20 ∷ 0 ∷ 7 ∷ 7 ∷ []) ∷
+    judged oldKind good noFields (20 ∷ 0 ∷ []) ∷
+    judged oldKindAfterPattern good noFields (20 ∷ 0 ∷ []) ∷
+    judged oldKindAfterPattern (replicate 2049 69) longUri (20 ∷ 0 ∷ []) ∷
+    firstOf oldKindAfterPattern good noFields (refusedWith 20) ∷
+    nextOf oldKindAfterPattern (1 ∷ []) (refusedWith 20) ∷
+    nextOf oldKindAfterPattern [] (refusedWith 20) ∷
+    []
+
+-- texts of 1,022, 1,023 and 1,024 bytes, and the first of them with the other spelling
+unfoldable pub ipIdLimits : List Example
+ipIdLimits =
+    rewritesAtLimit " --ip_id 5;" 962 (0 ∷ 1024 ∷ []) ∷
+    rewritesAtLimit " --ip_id 5;" 963 (21 ∷ 0 ∷ []) ∷
+    rewritesAtLimit " --ip_id 5;" 964 (21 ∷ 0 ∷ []) ∷
+    rewritesAtLimit " --ip.id = 5;" 962 (0 ∷ 1024 ∷ []) ∷
+    []
