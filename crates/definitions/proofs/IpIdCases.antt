@@ -1,9 +1,9 @@
--- ip_id reads as `--ip.id = N` and is written so, two bytes longer, and a table that holds the old kind is refused with 20: by computation.
+-- ip_id reads as `--ip.id = N` and is written so, and a table that holds the old kind is refused with 20: by computation.
 use mathlib.Core.Path.{_≡_, refl}
 use mathlib.Core.Bool.{true}
 use Rattle.definitions.specs.Lists.{all?}
 use Rattle.definitions.specs.NumberCases.{agrees}
-use Rattle.definitions.specs.IpIdCases.{ipIdCases, oldKindCases, ipIdLimits}
+use Rattle.definitions.specs.IpIdCases.{ipIdCases, oldKindCases}
 use Rattle.definitions.specs.Computing.{computing}
 
 pub ip-id-cases : all? agrees ipIdCases ≡ true
@@ -13,7 +13,3 @@ ip-id-cases = refl
 pub old-kind-cases : all? agrees oldKindCases ≡ true
 unfolding computing
 old-kind-cases = refl
-
-pub ip-id-limits : all? agrees ipIdLimits ≡ true
-unfolding computing
-ip-id-limits = refl

@@ -1,4 +1,5 @@
--- ip_id by examples: what its texts are written as, and tables that hold the old kind. Document 02, T-09. proofs/IpIdCases.antt has the statement.
+-- ip_id by examples: what its texts are written as, and tables that hold the old kind. Document 02, T-09. proofs/IpIdCases.antt has the statements, that of the
+-- last four roundtrip/proofs/IpIdLimits.antt.
 use mathlib.Core.Bool.{false}
 use mathlib.Core.List.{List, [], _∷_, _++_}
 use Prim.Native.Nat.{ℕ}

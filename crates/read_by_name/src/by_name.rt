@@ -25,7 +25,6 @@ use read_options::modifiers::no_case_option;
 use read_options::modifiers::within_option;
 use read_tests::tests::at_option;
 use read_tests::tests::field_option;
-use read_tests::tests::ip_id_option;
 use read_tests::tests::number_option;
 use read_tests::tests::same_ip_option;
 use read_tests::tests::size_option;
@@ -42,7 +41,7 @@ fn value_by_name(s: &[u8], at: usize, o: OptionName) -> Valued
         OptionName::Protocol => protocol_option(s, at),
         OptionName::Flow => flow_option(s, at),
         OptionName::SameIp => same_ip_option(s, at),
-        OptionName::IpId => ip_id_option(s, at),
+        OptionName::IpId => number_option(s, at, NumberField::IpId, MAX_WORD),
         OptionName::SourcePort => number_option(s, at, NumberField::SourcePort, MAX_WORD),
         OptionName::DestinationPort => number_option(s, at, NumberField::DestinationPort, MAX_WORD),
         OptionName::IpTos => number_option(s, at, NumberField::Tos, MAX_BYTE),

@@ -7,6 +7,7 @@ use Rattle.definitions.specs.declared.table.SizeField.the-variants as sizeField
 use Rattle.definitions.specs.Numbers.{number, numeral}
 use Rattle.definitions.specs.OptionValues.{OptionValue}
 use Rattle.definitions.specs.Forms.{spaces, valued, comma, test, comparison}
+use Rattle.definitions.specs.IpId.{renewedItem}
 use Rattle.definitions.specs.declared.table.NumberField.{NumberField}
 use Rattle.definitions.specs.declared.table.HeaderField.{HeaderField}
 use Rattle.definitions.specs.declared.table.Item.the-variants as item
@@ -19,10 +20,10 @@ use Rattle.read_operators.specs.Operators.{masked}
 abbrev pub sizeField : Form SizeField
 sizeField = comma sizeFields.Payload sizeWord
 
--- ---- options over the limit: at a field's own limit they are definitions' `numberForm` and `fieldForm`
+-- ---- options over the limit: at a field's own limit they are definitions' `numberForm` (of ip_id `ipIdForm`) and `fieldForm`
 
 abbrev pub numberWithin : NumberField → ℕ → Form OptionValue
-numberWithin f limit = valued (fmap (λ (n : ℕ). test (item.Number (record { field = f; number = n }))) (number limit))
+numberWithin f limit = valued (fmap (λ (n : ℕ). test (renewedItem (item.Number (record { field = f; number = n })))) (number limit))
 
 abbrev pub fieldWithin : HeaderField → ℕ → Form OptionValue
 fieldWithin f limit =

@@ -3,7 +3,7 @@ ghost use mathlib.Core.List.{[]};
 ghost use Prim.Native.Nat.{_≤_};
 ghost use lib.ListN.{length};
 ghost use Rattle.definitions.specs.Limits.{maxWord};
-ghost use Rattle.definitions.specs.Forms.{sameIpForm, ipIdForm, ttlForm, sizeForm, atForm};
+ghost use Rattle.definitions.specs.Forms.{sameIpForm, ttlForm, sizeForm, atForm};
 ghost use Rattle.read_tests.specs.Parts.{numberWithin, fieldWithin};
 ghost use Rattle.read_value.specs.Values.{optionValueOf, Plain};
 ghost use Rattle.scan_cursors.specs.Reads.{Reads};
@@ -25,7 +25,7 @@ use read_operators::then_order;
 use read_operators::then_size_order;
 use read_value::Value;
 use read_value::Valued;
-use read_value::ip_id_test;
+use read_value::number_item;
 use scan_pieces::literals::closing_at;
 use scan_pieces::literals::gap_at;
 use scan_steps::literals::then_closing;
@@ -45,23 +45,7 @@ pub fn same_ip_option(s: &[u8], at: usize) -> Valued
     }
 }
 
-// The option ip_id, which is read as `ip.id = N`.
-pub fn ip_id_option(s: &[u8], at: usize) -> Valued
-    requires { ⌜ at ≤ length (now s) ⌝ }
-    ensures { λ r. ⌜ Reads ipIdForm (now (s .entry)) (Parsed at) (optionValueOf (now (s .entry)) (r .value) [] []) (r .cursor) × Plain (r .value) ⌝ }
-{
-    let c = gap_at(s, at);
-    let n = then_number(s, c, MAX_WORD);
-    let c = n.cursor;
-    let cursor = then_closing(s, c);
-    let number = n.value as u16;
-    Valued {
-        value: Value::Test(ip_id_test(number)),
-        cursor,
-    }
-}
-
-// src_port, dst_port and ip_tos, whose limit the caller names.
+// ip_id, src_port, dst_port and ip_tos, whose limit the caller names.
 pub fn number_option(s: &[u8], at: usize, field: NumberField, limit: u64) -> Valued
     requires { ⌜ (at ≤ length (now s)) × (limit ≤ maxWord) ⌝ }
     ensures { λ r. ⌜ Reads (numberWithin field limit) (now (s .entry)) (Parsed at) (optionValueOf (now (s .entry)) (r .value) [] []) (r .cursor) × Plain (r .value) ⌝ }
@@ -72,7 +56,7 @@ pub fn number_option(s: &[u8], at: usize, field: NumberField, limit: u64) -> Val
     let cursor = then_closing(s, c);
     let number = n.value as u16;
     Valued {
-        value: Value::Test(Item::Number(NumberTest { field, number })),
+        value: Value::Test(number_item(NumberTest { field, number })),
         cursor,
     }
 }

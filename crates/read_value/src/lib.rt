@@ -4,6 +4,7 @@ ghost use lib.ListN.{replicate};
 ghost use Rattle.definitions.specs.Limits.{maxAddresses};
 ghost use Rattle.definitions.specs.Tables.{noAddress};
 ghost use Rattle.definitions.specs.Forms.{fieldEquals};
+ghost use Rattle.definitions.specs.IpId.{renewedItem};
 ghost use Rattle.definitions.specs.declared.table.HeaderField.the-variants.{Id};
 use definitions::limits::ADDRESSES;
 use definitions::limits::MAX_WORD;
@@ -15,6 +16,8 @@ use definitions::table::FieldTest;
 use definitions::table::Flow;
 use definitions::table::HeaderField;
 use definitions::table::Item;
+use definitions::table::NumberField;
+use definitions::table::NumberTest;
 use definitions::table::Operator;
 use definitions::table::WithinValue;
 use scan_cursors::Cursor;
@@ -43,8 +46,8 @@ pub struct Valued {
 // All bits of a header field of two bytes.
 const FULL_MASK: u16 = MAX_WORD as u16;
 
-// The test that ip_id is read as: `ip.id = N`.
-pub fn ip_id_test(number: u16) -> Item
+// The test `ip.id = N`.
+fn id_equals(number: u16) -> Item
     ensures { λ r. ⌜ r ≡ Item.Field (fieldEquals Id number) ⌝ }
 {
     let test = FieldTest {
@@ -54,6 +57,17 @@ pub fn ip_id_test(number: u16) -> Item
         number,
     };
     Item::Field(test)
+}
+
+// What the option ip_id, src_port, dst_port or ip_tos is read as: the number test, but ip_id as `ip.id = N`.
+pub fn number_item(a: NumberTest) -> Item
+    ensures { λ r. ⌜ r ≡ renewedItem (Item.Number a) ⌝ }
+{
+    let field = a.field;
+    match field {
+        NumberField::IpId => id_equals(a.number),
+        _ => Item::Number(a),
+    }
 }
 
 // The addresses beside a value that has none.

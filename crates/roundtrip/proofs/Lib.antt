@@ -27,6 +27,7 @@ pub mod Canonical
 pub mod SameOptions
 pub mod NoIpId
 pub mod Respelled
+pub mod IpIdLimits
 pub mod StillReads
 pub mod Buffer
 pub mod Typed
