@@ -28,7 +28,6 @@ pub leftOut : List LeftOut
 leftOut =
     row 5 0 "pcre 1;" ∷
     row 5 0 "byte_jump 1;" ∷
-    row 5 0 "byte_test 1;" ∷
     row 5 0 "tag 1;" ∷
     row 5 0 "rate 1;" ∷
     row 5 0 "track 1;" ∷

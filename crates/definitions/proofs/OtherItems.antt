@@ -1,4 +1,4 @@
--- An item that is no pattern is one of the other eight: what holds of their three kinds holds of its kind.
+-- An item that is no pattern is one of the other nine: what holds of their three kinds holds of its kind.
 use mathlib.Core.List.{[], _∷_}
 use types.Run.{OneOf, miss}
 use denote.Enum.Declared.{tagOf}
@@ -9,7 +9,7 @@ use Rattle.definitions.specs.Items.{Kind, unused, addressed, plainTest, 
 use Rattle.definitions.proofs.table.Item as item-type
 
 pub other-kind : (P : Kind → Type 0) → P unused → ((a : AddressTest) → P (addressed a)) → P plainTest → (it : Item)
-    → OneOf (0 ∷ 1 ∷ 2 ∷ 3 ∷ 4 ∷ 5 ∷ 6 ∷ 7 ∷ []) (tagOf item-type.the-type it) → P (kindOf it)
+    → OneOf (0 ∷ 1 ∷ 2 ∷ 3 ∷ 4 ∷ 5 ∷ 6 ∷ 7 ∷ 8 ∷ []) (tagOf item-type.the-type it) → P (kindOf it)
 other-kind P u a p item.Unused k = u
 other-kind P u a p (item.Address t) k = a t
 other-kind P u a p item.SameIp k = p
@@ -18,4 +18,5 @@ other-kind P u a p (item.Ttl t) k = p
 other-kind P u a p (item.Field t) k = p
 other-kind P u a p (item.Size t) k = p
 other-kind P u a p (item.At t) k = p
-other-kind P u a p (item.Pattern q) k = absurd (miss (0 ∷ 1 ∷ 2 ∷ 3 ∷ 4 ∷ 5 ∷ 6 ∷ 7 ∷ []) 8 tt k)
+other-kind P u a p (item.Byte t) k = p
+other-kind P u a p (item.Pattern q) k = absurd (miss (0 ∷ 1 ∷ 2 ∷ 3 ∷ 4 ∷ 5 ∷ 6 ∷ 7 ∷ 8 ∷ []) 9 tt k)

@@ -12,6 +12,8 @@ use Rattle.definitions.specs.declared.table.NumberField.the-variants.{Ip
 use Rattle.definitions.specs.declared.table.HeaderField.the-variants.{Ttl}
 use Rattle.definitions.specs.declared.table.Operator.the-variants.{AtMost}
 use Rattle.definitions.specs.declared.table.Order.the-variants.{Less}
+use Rattle.definitions.specs.declared.table.Width.the-variants.{One, Four}
+use Rattle.definitions.specs.declared.table.ByteOperator.the-variants.{Unequal}
 use Rattle.definitions.specs.declared.table.Reference.the-variants.{Match, Context}
 use Rattle.definitions.specs.declared.table.Pattern.{Pattern}
 use Rattle.definitions.specs.declared.table.Item.{Item}
@@ -111,6 +113,7 @@ kept =
     withProtocol 255 ∷
     adds (item.Ttl (record { order = Less; number = 255 })) ∷
     adds (item.Number (record { field = SourcePort; number = 5 })) ∷
+    adds (item.Byte (record { width = Four; operator = Unequal; value = 4294967295; offset = 65535; relative = true; little = true })) ∷
     addsAddresses 8 (replicate 8 (addressOf 4294967295 32)) ∷
     onFirst (with (entry.Distance (record { offset = negsuc 65534; reference = Match; reverse = false }))) ∷
     onFirst (with (entry.Distance (record { offset = pos 65535; reference = Context; reverse = true }))) ∷
@@ -143,6 +146,8 @@ broken =
     adds (item.Field (record { field = Ttl; mask = 256; operator = AtMost; number = 0 })) ∷
     adds (item.Field (record { field = Ttl; mask = 255; operator = AtMost; number = 256 })) ∷
     adds (item.At (record { number = 65536; relative = false })) ∷
+    adds (item.Byte (record { width = One; operator = Unequal; value = 4294967296; offset = 0; relative = false; little = false })) ∷
+    adds (item.Byte (record { width = One; operator = Unequal; value = 0; offset = 65536; relative = false; little = false })) ∷
     addsAddresses 8 (replicate 8 (addressOf 1 33)) ∷
     onFirst (with (entry.Distance (record { offset = negsuc 65535; reference = Match; reverse = false }))) ∷
     onFirst (with (entry.Within (record { number = 65536; reference = Match }))) ∷

@@ -21,6 +21,8 @@ use Rattle.definitions.specs.declared.table.Operator.{Operator}
 use Rattle.definitions.specs.declared.table.Operator.the-variants as operator
 use Rattle.definitions.specs.declared.table.SizeField.{SizeField}
 use Rattle.definitions.specs.declared.table.SizeField.the-variants as sizeField
+use Rattle.definitions.specs.declared.table.ByteOperator.{ByteOperator}
+use Rattle.definitions.specs.declared.table.ByteOperator.the-variants as byteOperator
 use Rattle.definitions.specs.declared.table.Context as contexts
 use Rattle.definitions.specs.declared.table.Context.the-variants as context
 use Rattle.definitions.specs.declared.table.Reference.{Reference}
@@ -30,6 +32,7 @@ use Rattle.definitions.specs.declared.table.Distance.the-variants as dis
 use Rattle.definitions.specs.declared.table.Within as withins
 use Rattle.definitions.specs.declared.table.Within.the-variants as within
 use Rattle.definitions.specs.declared.table.FieldTest.{FieldTest}
+use Rattle.definitions.specs.declared.table.ByteTest.{ByteTest}
 use Rattle.definitions.specs.declared.table.Pattern as patterns
 use Rattle.definitions.specs.declared.table.Item.{Item}
 use Rattle.definitions.specs.declared.table.Item.the-variants as item
@@ -39,6 +42,7 @@ use Rattle.definitions.specs.declared.table.Table.{Table}
 use Rattle.definitions.specs.Limits.{maxPrefix}
 use Rattle.definitions.specs.OptionValues.{Modifier, Context, NoCase, Distance, Within, OptionValue, Name, Protocol, Flow, Test, Pattern, Modified}
 use Rattle.definitions.specs.Forms.{maxField, plainBytes}
+use Rattle.definitions.specs.ByteCounts.{byteCount}
 use Rattle.definitions.specs.Items.{Kind, unused, addressed, patterned, plainTest, kindOf, slotsOf, afterItem}
 use Rattle.definitions.specs.Options.{opening}
 
@@ -97,10 +101,15 @@ canonicalOptions t =
 
 -- ---- numbers: decimal, without leading zeros
 
+-- a number of one digit, or its last one after the digits of its tenth; these are asked for only where there are any, so that a number of four bytes computes
+abbrev pub digitsBy : Bool → (ℕ → List ℕ) → ℕ → List ℕ
+digitsBy true tenth n = (48 + n) ∷ []
+digitsBy false tenth n = tenth (n / 10) ++ ((48 + n % 10) ∷ [])
+
 -- n, where k digits are enough
 unfoldable pub digitsOf : ℕ → ℕ → List ℕ
 digitsOf zero n = []
-digitsOf (suc k) n = if ltb n 10 then (48 + n) ∷ [] else digitsOf k (n / 10) ++ ((48 + n % 10) ∷ [])
+digitsOf (suc k) n = digitsBy (ltb n 10) (digitsOf k) n
 
 abbrev pub decimal : ℕ → List ℕ
 decimal n = digitsOf (suc n) n
@@ -185,6 +194,20 @@ sizeFieldText sizeField.Uri = text ",uri"
 sizeFieldText sizeField.Header = text ",header"
 sizeFieldText sizeField.Body = text ",body"
 
+abbrev pub byteOperatorText : ByteOperator → List ℕ
+byteOperatorText byteOperator.Greater = text ">"
+byteOperatorText byteOperator.Less = text "<"
+byteOperatorText byteOperator.Equal = text "="
+byteOperatorText byteOperator.Unequal = text "!"
+
+-- a byte test's parts, each with its comma: the value in decimal (document 02, T-01)
+unfoldable pub comparisonText : ByteTest → List ℕ
+comparisonText a =
+    decimal (byteCount (a .width)) ++ (text "," ++ (byteOperatorText (a .operator) ++ (text "," ++ (decimal (a .value) ++ text ","))))
+
+unfoldable pub byteText : ByteTest → List ℕ
+byteText a = comparisonText a ++ (decimal (a .offset) ++ (textIf (a .relative) (text ",relative") ++ textIf (a .little) (text ",little")))
+
 abbrev pub contextText : contexts.Context → List ℕ
 contextText context.Packet = text "packet"
 contextText context.Uri = text "uri"
@@ -230,6 +253,7 @@ testText (item.Ttl a) al = valuedText (text "ip_ttl") (orderText (a .order) ++ d
 testText (item.Field a) al = valuedText (fieldName (a .field)) (fieldText a)
 testText (item.Size a) al = valuedText (text "data_size") (orderText (a .order) ++ (decimal (a .number) ++ sizeFieldText (a .field)))
 testText (item.At a) al = valuedText (text "data_at") (decimal (a .number) ++ textIf (a .relative) (text ",relative"))
+testText (item.Byte a) al = valuedText (text "byte_test") (byteText a)
 testText (item.Pattern p) al = []
 
 unfoldable pub modifierText : Modifier → List ℕ

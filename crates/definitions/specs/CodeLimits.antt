@@ -19,6 +19,7 @@ codeLimits = record {
   decoded = limits.maxDecoded;
   byte = limits.maxByte;
   word = limits.maxWord;
+  long = limits.maxLong;
   -- a distance either way
   offset = pos limits.maxWord;
   prefix = limits.maxPrefix;

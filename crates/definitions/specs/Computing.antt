@@ -16,21 +16,22 @@ use Rattle.definitions.specs.Occurrences.{latest, occurrenceCheck, missi
 use Rattle.definitions.specs.Reading.{options, checkedTable, unboundedPlacing, readPlacing}
 use Rattle.definitions.specs.IpId.{holdsIpId, renewed}
 use Rattle.definitions.specs.WellFormed.{nameFits, itemFits, itemsFit, bytesOf, bytesFit, wellFormed}
-use Rattle.definitions.specs.Canonical.{slotOptions, canonicalOptions, digitsOf, addressesText, fieldText, patternText, testText, modifierText, optionText, optionsText, canonicalText}
+use Rattle.definitions.specs.Canonical.{slotOptions, canonicalOptions, digitsOf, addressesText, fieldText, comparisonText, byteText, patternText, testText, modifierText, optionText, optionsText, canonicalText}
 use Rattle.definitions.specs.Writing.{writingCheck, writes, bufferAfter}
 use Rattle.definitions.specs.Packet.{bigEndian, headerOf, packetCheck, packetAnswer}
 use Rattle.definitions.specs.Fields.{fieldOf, present, fieldsCheck}
-use Rattle.definitions.specs.Tests.{inAddresses, addressHolds, numberHolds, fieldHolds, sizeHolds, atHolds, testHolds}
+use Rattle.definitions.specs.Tests.{inAddresses, addressHolds, numberHolds, fieldHolds, numberAt, bytesHold, sizeHolds, atHolds, byteHolds, testHolds}
 use Rattle.definitions.specs.Windows.{inWindow, alike, standsAt, lies}
 use Rattle.definitions.specs.Placements.{lexLess, constraints, itemsOf, positives, upFrom, spread, liesIn, starts, unmatchedHolds, Meets, placements, MeetsTable, listed}
 use Rattle.definitions.specs.Answers.{inputCheck, placementsOf, verdictAnswer, firstAnswer, nextAnswer}
 use Rattle.definitions.specs.Queries.{answers}
 use Rattle.definitions.specs.Lines.{lineOf, lineTexts, linesFrom, outputOver, programOutput}
 use Rattle.definitions.specs.Cases.{pairs, sameLists, signature, packetWith, uriOnly, numbersOf, rightBy, right, found, none, onPayload, onUri, onText, cases, knownMistakes, dataAtCases}
-use Rattle.definitions.specs.NumberCases.{agrees, shownIn, refusalNumbers, ruleWith, illFormed, longRule, header, good, noFields, longUri, reads, readsOption, writesTo, seen, judged, firstOf, nextOf, refusedWith, numberCases}
+use Rattle.definitions.specs.NumberCases.{agrees, shownIn, refusalNumbers, ruleWith, illFormed, longRule, header, good, noFields, longUri, reads, readsOption, afterHead, rewrites, writesTo, seen, judged, firstOf, nextOf, refusedWith, numberCases}
 use Rattle.definitions.specs.PlaceCases.{formPlaces, limitPlaces}
-use Rattle.definitions.specs.IpIdCases.{afterHead, rewrites, rewritesAtLimit, oldKind, oldKindAfterPattern, ipIdCases, oldKindCases, ipIdLimits}
+use Rattle.definitions.specs.IpIdCases.{rewritesAtLimit, oldKind, oldKindAfterPattern, ipIdCases, oldKindCases, ipIdLimits}
+use Rattle.definitions.specs.ByteTestCases.{byteTestTexts, byteTestCases}
 
 unfoldable pub computing : ℕ
-unfolding lower sameWord run has Means loop scan overs over readAt bounds all? any? keep sameBytes digitValue valueOf optionTable inName namedOption optionAt printable nameIn protocolIn flowIn modified slotsIn bytesIn tableOf patternsOf startBefore sameStart usable usableRun latest occurrenceCheck missing options checkedTable unboundedPlacing readPlacing holdsIpId renewed nameFits itemFits itemsFit bytesOf bytesFit wellFormed slotOptions canonicalOptions digitsOf addressesText fieldText patternText testText modifierText optionText optionsText canonicalText writingCheck writes bufferAfter bigEndian headerOf packetCheck packetAnswer fieldOf present fieldsCheck inAddresses addressHolds numberHolds fieldHolds sizeHolds atHolds testHolds inWindow alike standsAt lies lexLess constraints itemsOf positives upFrom spread liesIn starts unmatchedHolds Meets placements MeetsTable listed inputCheck placementsOf verdictAnswer firstAnswer nextAnswer answers lineOf lineTexts linesFrom outputOver programOutput pairs sameLists signature packetWith uriOnly numbersOf rightBy right found none onPayload onUri onText cases knownMistakes dataAtCases agrees shownIn refusalNumbers ruleWith illFormed longRule header good noFields longUri reads readsOption writesTo seen judged firstOf nextOf refusedWith numberCases formPlaces limitPlaces afterHead rewrites rewritesAtLimit oldKind oldKindAfterPattern ipIdCases oldKindCases ipIdLimits
+unfolding lower sameWord run has Means loop scan overs over readAt bounds all? any? keep sameBytes digitValue valueOf optionTable inName namedOption optionAt printable nameIn protocolIn flowIn modified slotsIn bytesIn tableOf patternsOf startBefore sameStart usable usableRun latest occurrenceCheck missing options checkedTable unboundedPlacing readPlacing holdsIpId renewed nameFits itemFits itemsFit bytesOf bytesFit wellFormed slotOptions canonicalOptions digitsOf addressesText fieldText comparisonText byteText patternText testText modifierText optionText optionsText canonicalText writingCheck writes bufferAfter bigEndian headerOf packetCheck packetAnswer fieldOf present fieldsCheck inAddresses addressHolds numberHolds fieldHolds numberAt bytesHold sizeHolds atHolds byteHolds testHolds inWindow alike standsAt lies lexLess constraints itemsOf positives upFrom spread liesIn starts unmatchedHolds Meets placements MeetsTable listed inputCheck placementsOf verdictAnswer firstAnswer nextAnswer answers lineOf lineTexts linesFrom outputOver programOutput pairs sameLists signature packetWith uriOnly numbersOf rightBy right found none onPayload onUri onText cases knownMistakes dataAtCases agrees shownIn refusalNumbers ruleWith illFormed longRule header good noFields longUri reads readsOption afterHead rewrites writesTo seen judged firstOf nextOf refusedWith numberCases formPlaces limitPlaces rewritesAtLimit oldKind oldKindAfterPattern ipIdCases oldKindCases ipIdLimits byteTestTexts byteTestCases
 computing = 0

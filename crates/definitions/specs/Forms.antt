@@ -21,6 +21,9 @@ use Rattle.definitions.specs.declared.table.Operator.the-variants as ope
 use Rattle.definitions.specs.declared.table.FieldTest.{FieldTest}
 use Rattle.definitions.specs.declared.table.SizeField.{SizeField}
 use Rattle.definitions.specs.declared.table.SizeField.the-variants as sizeField
+use Rattle.definitions.specs.declared.table.Width.{Width}
+use Rattle.definitions.specs.declared.table.ByteOperator.{ByteOperator}
+use Rattle.definitions.specs.declared.table.ByteOperator.the-variants as byteOperator
 use Rattle.definitions.specs.declared.table.Context as contexts
 use Rattle.definitions.specs.declared.table.Context.the-variants as context
 use Rattle.definitions.specs.declared.table.Reference.{Reference}
@@ -28,8 +31,9 @@ use Rattle.definitions.specs.declared.table.Reference.the-variants as re
 use Rattle.definitions.specs.declared.table.Item.{Item}
 use Rattle.definitions.specs.declared.table.Item.the-variants as item
 use Rattle.definitions.specs.declared.table.Address.{Address}
-use Rattle.definitions.specs.Limits.{maxByte, maxWord, maxName, maxPrefix}
-use Rattle.definitions.specs.Numbers.{hexDigits, digitValue, number, numeral}
+use Rattle.definitions.specs.Limits.{maxByte, maxWord, maxLong, maxName, maxPrefix}
+use Rattle.definitions.specs.Numbers.{hexDigits, digitValue, numberThat, number, numeral}
+use Rattle.definitions.specs.ByteCounts.{isByteCount, widthOf}
 use Rattle.definitions.specs.OptionValues.{Context, NoCase, Distance, Within, OptionValue, Name, Protocol, Flow, Test, Pattern, Modified}
 
 -- ---- spaces and the end of an option
@@ -180,6 +184,43 @@ abbrev pub atForm : Form OptionValue
 atForm =
     valued (fmap (λ (p : ℕ × Bool). test (item.At (record { number = p .0; relative = p .1 })))
     (pair (number maxWord) (comma false (keyword (text "relative") true))))
+
+-- byte_test (document 02, T-01), its parts parted by commas: byte count 1, 2 or 4; one of `>`, `<`, `=`, `!`; a value to 4,294,967,295 in decimal or hex;
+-- an offset 0..65535; then optional `,relative`, and with or without it optional `,little`
+abbrev pub width : Form Width
+width = fmap widthOf (numberThat isByteCount)
+
+abbrev pub byteComparison : Form ByteOperator
+byteComparison =
+    or (literalAs 62 byteOperator.Greater)
+    (or (literalAs 60 byteOperator.Less)
+    (or (literalAs 61 byteOperator.Equal)
+    (literalAs 33 byteOperator.Unequal)))
+
+-- whether `relative` stands there, and whether `little` does
+abbrev pub flagWords : Form (Bool × Bool)
+flagWords = or (pair (keyword (text "relative") true) (comma false (keyword (text "little") true))) (keyword (text "little") (false, true))
+
+abbrev pub flags : Form (Bool × Bool)
+flags = comma (false, false) flagWords
+
+-- a part and the comma after it
+abbrev pub part : {A : Type 0} → Form A → Form A
+part f = terminated f (literal 44)
+
+abbrev pub byteTest : Width × (ByteOperator × (ℕ × (ℕ × (Bool × Bool)))) → OptionValue
+byteTest p =
+    test (item.Byte (record {
+      width = p .0;
+      operator = p .1 .0;
+      value = p .1 .1 .0;
+      offset = p .1 .1 .1 .0;
+      relative = p .1 .1 .1 .1 .0;
+      little = p .1 .1 .1 .1 .1;
+    }))
+
+abbrev pub byteForm : Form OptionValue
+byteForm = valued (fmap byteTest (pair (part width) (pair (part byteComparison) (pair (part (numeral maxLong)) (pair (number maxWord) flags)))))
 
 -- a block is `|`, one or more pairs of hex digits, any spaces before, between and after pairs, `|`
 abbrev pub hexPair : Form ℕ

@@ -41,6 +41,7 @@ isIpId (item.Ttl a) = false
 isIpId (item.Field a) = false
 isIpId (item.Size a) = false
 isIpId (item.At a) = false
+isIpId (item.Byte a) = false
 isIpId (item.Pattern p) = false
 
 abbrev pub slotIsIpId : Slot → Bool
@@ -72,6 +73,7 @@ renewedItem (item.Ttl a) = item.Ttl a
 renewedItem (item.Field a) = item.Field a
 renewedItem (item.Size a) = item.Size a
 renewedItem (item.At a) = item.At a
+renewedItem (item.Byte a) = item.Byte a
 renewedItem (item.Pattern p) = item.Pattern p
 
 -- of what an option says, and of a slot
@@ -122,7 +124,7 @@ pub data Respelled : ℕ → List ℕ → List ℕ → Type 1 where
   otherSpelling : {n : ℕ} {l m : List ℕ} (digits : List ℕ) → WordDigits digits → Respelled n l m
       → Respelled (suc n) (ipIdText digits ++ l) (idEqualsText digits ++ m)
 
--- ---- the texts before: `--ip_id N` said an item of the old kind, all other options what they say now
+-- ---- the texts before: `--ip_id N` said an item of the old kind, all other options what they say now (byte_test, which came later, among them)
 
 pub data FormerOption : List ℕ → OptionValue → Type 1 where
   formerIpId : (n y : List ℕ) {e : OptionValue} → sameWord n (text "ip_id") ≡ true → Means true (numberForm numberField.IpId) y e

@@ -14,17 +14,8 @@ use Rattle.definitions.specs.OptionValues.{Pattern}
 use Rattle.definitions.specs.Forms.{test}
 use Rattle.definitions.specs.Reading.{read}
 use Rattle.definitions.specs.Writing.{writes}
-use Rattle.definitions.specs.Canonical.{canonicalText}
 use Rattle.definitions.specs.AnswerNumbers.{writeNumbers}
-use Rattle.definitions.specs.NumberCases.{Example, ruleWith, good, noFields, longUri, readsOption, writesTo, judged, firstOf, nextOf, refusedWith}
-
--- the text of some options after a name and a protocol, as canonical text has them
-unfoldable pub afterHead : List ℕ → List ℕ
-afterHead options = text "F-SBID( --name \"n\"; --protocol 6;" ++ (options ++ text " )")
-
--- the canonical text of what is read
-unfoldable pub rewrites : String → String → Example
-rewrites s said = record { given = canonicalText (read documentLimits (afterHead (text s)) .table); said = afterHead (text said) }
+use Rattle.definitions.specs.NumberCases.{Example, ruleWith, good, noFields, longUri, readsOption, afterHead, rewrites, writesTo, judged, firstOf, nextOf, refusedWith}
 
 -- so many bytes of a pattern after an option: what the writer answers for what is read
 unfoldable pub rewritesAtLimit : String → ℕ → List ℕ → Example

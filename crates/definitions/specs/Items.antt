@@ -24,6 +24,7 @@ kindOf (item.Ttl a) = plainTest
 kindOf (item.Field a) = plainTest
 kindOf (item.Size a) = plainTest
 kindOf (item.At a) = plainTest
+kindOf (item.Byte a) = plainTest
 kindOf (item.Pattern p) = patterned p
 
 -- the slots in use

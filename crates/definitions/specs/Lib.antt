@@ -3,6 +3,7 @@
 pub mod Lists
 pub mod Limits
 pub mod Numbers
+pub mod ByteCounts
 pub mod OptionValues
 pub mod Forms
 pub mod Options
@@ -33,4 +34,5 @@ pub mod Cases
 pub mod NumberCases
 pub mod PlaceCases
 pub mod IpIdCases
+pub mod ByteTestCases
 pub mod Computing

@@ -33,8 +33,8 @@ maxByte = 255
 abbrev pub maxWord : ℕ
 maxWord = 65535
 
-abbrev pub maxAddress : ℕ
-maxAddress = 4294967295
+abbrev pub maxLong : ℕ
+maxLong = 4294967295
 
 abbrev pub maxPrefix : ℕ
 maxPrefix = 32

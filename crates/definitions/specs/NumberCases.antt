@@ -19,6 +19,7 @@ use Rattle.definitions.specs.OptionValues.{OptionValue, Name, Protocol, 
 use Rattle.definitions.specs.Tables.{tableOf}
 use Rattle.definitions.specs.Starts.{startAt}
 use Rattle.definitions.specs.Reading.{read}
+use Rattle.definitions.specs.Canonical.{canonicalText}
 use Rattle.definitions.specs.Writing.{writes, bufferAfter}
 use Rattle.definitions.specs.Packet.{packetAnswer}
 use Rattle.definitions.specs.Fields.{fieldsCheck}
@@ -79,6 +80,14 @@ reads s said = record { given = readNumbers (read documentLimits (text s) .outco
 unfoldable pub readsOption : String → List ℕ → Example
 readsOption s said =
     record { given = readNumbers (read documentLimits (text "F-SBID(--name \"n\";--protocol 6;" ++ (text s ++ text ")")) .outcome); said = said }
+
+-- the text of some options after a name and a protocol, as canonical text has them
+unfoldable pub afterHead : List ℕ → List ℕ
+afterHead options = text "F-SBID( --name \"n\"; --protocol 6;" ++ (options ++ text " )")
+
+-- the canonical text of what is read
+unfoldable pub rewrites : String → String → Example
+rewrites s said = record { given = canonicalText (read documentLimits (afterHead (text s)) .table); said = afterHead (text said) }
 
 -- the answer, and the whole buffer afterwards
 unfoldable pub writesTo : Table → List ℕ → List ℕ → Example

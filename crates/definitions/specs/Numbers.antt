@@ -1,6 +1,8 @@
--- Numbers in a text. Section "Text": decimal digits, leading zeros allowed; in field tests decimal, or `0x` or `0X` and hex digits.
+-- Numbers in a text. Section "Text": decimal digits, leading zeros allowed; in field tests, and in the value of byte_test, decimal, or `0x` or `0X` and hex
+-- digits.
 -- A number has any count of digits and never wraps.
 use Prim.Native.Nat.{ℕ, _+_, _-_, _*_}
+use mathlib.Core.Bool.{Bool}
 use mathlib.Core.List.{List, [], _∷_}
 use lib.Dec.{leb}
 use Rattle.forms.specs.Bytes.{if_then_else_}
@@ -22,9 +24,13 @@ unfoldable pub valueOf : ℕ → ℕ → List ℕ → ℕ
 valueOf base a [] = a
 valueOf base a (b ∷ l) = valueOf base (a * base + digitValue b) l
 
--- a decimal number up to a limit; one beyond it is placed at its first digit
+-- a decimal number of which something is asked; one that is not so is placed at its first digit
+abbrev pub numberThat : (ℕ → Bool) → Form ℕ
+numberThat kept = bound kept (λ (n : ℕ). 0) (fmap (valueOf 10 0) (some (byte decimalDigits)))
+
+-- one up to a limit
 abbrev pub number : ℕ → Form ℕ
-number limit = bound (λ (n : ℕ). leb n limit) (λ (n : ℕ). 0) (fmap (valueOf 10 0) (some (byte decimalDigits)))
+number limit = numberThat (λ (n : ℕ). leb n limit)
 
 -- decimal or hex: how many bytes stand before its first digit, and the number
 abbrev pub eitherBase : Form (ℕ × ℕ)

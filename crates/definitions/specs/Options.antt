@@ -1,4 +1,4 @@
--- The options and their names, and the frame of a text. Section "Text", the table's first column.
+-- The options and their names, and the frame of a text. Section "Text", the table's first column, and document 02's byte_test.
 use Prim.Native.Nat.{ℕ, _+_}
 use Prim.Native.String.{String}
 use mathlib.Core.Bool.{Bool, _||_}
@@ -13,7 +13,7 @@ use Rattle.definitions.specs.declared.table.NumberField.the-variants as 
 use Rattle.definitions.specs.declared.table.HeaderField.the-variants as header
 use Rattle.definitions.specs.OptionValues.{OptionValue}
 use Rattle.definitions.specs.Forms.{nameForm, protocolForm, flowForm, addressForm, sameIpForm, numberForm, ttlForm, fieldForm, ipIdForm, sizeForm}
-use Rattle.definitions.specs.Forms.{atForm, patternForm, contextForm, noCaseForm, distanceForm, withinForm}
+use Rattle.definitions.specs.Forms.{atForm, byteForm, patternForm, contextForm, noCaseForm, distanceForm, withinForm}
 
 -- a row of the table: an option's name, and its form after the name
 pub record Option : Type 1 where
@@ -42,6 +42,7 @@ optionTable =
     row "ip.ttl" (fieldForm header.Ttl) ∷
     row "data_size" sizeForm ∷
     row "data_at" atForm ∷
+    row "byte_test" byteForm ∷
     row "pattern" patternForm ∷
     row "context" contextForm ∷
     row "no_case" noCaseForm ∷

@@ -1,8 +1,8 @@
 -- When a test holds. Section "Meaning".
 use Prim.Native.Nat.{ℕ, _+_, _-_, _/_, _^_}
 use mathlib.Core.Bool.{Bool, true, false, not, _&&_, _||_}
-use mathlib.Core.List.{List, [], _∷_}
-use lib.ListN.{length, take}
+use mathlib.Core.List.{List, [], _∷_, reverse}
+use lib.ListN.{length, take, drop}
 use lib.Dec.{eqb, ltb, leb}
 use Rattle.forms.specs.Bytes.{if_then_else_}
 use lib.Bits.{bitAnd}
@@ -18,12 +18,15 @@ use Rattle.definitions.specs.declared.table.HeaderField.{HeaderField}
 use Rattle.definitions.specs.declared.table.HeaderField.the-variants as headerField
 use Rattle.definitions.specs.declared.table.Operator.{Operator}
 use Rattle.definitions.specs.declared.table.Operator.the-variants as operator
+use Rattle.definitions.specs.declared.table.ByteOperator.{ByteOperator}
+use Rattle.definitions.specs.declared.table.ByteOperator.the-variants as byteOperator
 use Rattle.definitions.specs.declared.table.Context.{Context}
 use Rattle.definitions.specs.declared.table.Context.the-variants as context
 use Rattle.definitions.specs.declared.table.AddressTest.{AddressTest}
 use Rattle.definitions.specs.declared.table.FieldTest.{FieldTest}
 use Rattle.definitions.specs.declared.table.SizeTest.{SizeTest}
 use Rattle.definitions.specs.declared.table.AtTest.{AtTest}
+use Rattle.definitions.specs.declared.table.ByteTest.{ByteTest}
 use Rattle.definitions.specs.declared.table.Item.{Item}
 use Rattle.definitions.specs.declared.table.Item.the-variants as item
 use Rattle.definitions.specs.declared.table.Address.{Address}
@@ -32,7 +35,8 @@ use Rattle.definitions.specs.declared.packets.Direction.the-variants.{Cl
 use Rattle.definitions.specs.declared.packets.PacketHeader.{PacketHeader}
 use Rattle.definitions.specs.declared.packets.LastMatch.{LastMatch}
 use Rattle.definitions.specs.declared.packets.LastMatch.the-variants as last
-use Rattle.definitions.specs.Packet.{hasPorts}
+use Rattle.definitions.specs.ByteCounts.{byteCount}
+use Rattle.definitions.specs.Packet.{bigEndian, hasPorts}
 use Rattle.definitions.specs.Fields.{View, sizeContext}
 
 -- flow, if given
@@ -94,7 +98,7 @@ operatorHolds operator.AtLeast x n = leb n x
 unfoldable pub fieldHolds : PacketHeader → FieldTest → Bool
 fieldHolds f t = operatorHolds (t .operator) (bitAnd (headerValue f (t .field)) (t .mask)) (t .number)
 
--- ---- data_at: what it is counted from. The payload's start; with relative the end of the last positive pattern before it, in its field
+-- ---- data_at and byte_test: what they are counted from. The payload's start; with relative the end of the last positive pattern before, in its field
 
 abbrev pub atContext : Bool → LastMatch → Context
 atContext false l = context.Packet
@@ -110,6 +114,28 @@ atStart true (last.Some m) = m .end
 abbrev pub dataFollows : ℕ → ℕ → ℕ → Bool
 dataFollows n start len = leb (start + n) len
 
+-- ---- byte_test (document 02, T-01)
+
+-- `!` is not equal
+abbrev pub comparedBy : ByteOperator → Operator
+comparedBy byteOperator.Greater = operator.Greater
+comparedBy byteOperator.Less = operator.Less
+comparedBy byteOperator.Equal = operator.Equal
+comparedBy byteOperator.Unequal = operator.Unequal
+
+-- the number that n bytes at a place write: big end first, or with little the same of the bytes reversed
+abbrev pub bigEndFirst : Bool → List ℕ → List ℕ
+bigEndFirst little l = if little then reverse l else l
+
+unfoldable pub numberAt : Bool → ℕ → List ℕ → ℕ → ℕ
+numberAt little n d at = bigEndian n (bigEndFirst little (take n (drop at d))) 0
+
+-- no byte lies past the end, and the bytes' number is compared with the value
+unfoldable pub bytesHold : ByteTest → ℕ → List ℕ → Bool
+bytesHold t at d =
+    leb (at + byteCount (t .width)) (length d)
+    && operatorHolds (comparedBy (t .operator)) (numberAt (t .little) (byteCount (t .width)) d at) (t .value)
+
 -- ---- every test; one on an absent field doesn't hold
 
 module _ (v : View) where
@@ -121,6 +147,11 @@ module _ (v : View) where
       v .present (atContext (t .relative) l)
       && dataFollows (t .number) (atStart (t .relative) l) (length (v .field (atContext (t .relative) l)))
 
+  unfoldable pub byteHolds : ByteTest → LastMatch → Bool
+  byteHolds t l =
+      v .present (atContext (t .relative) l)
+      && bytesHold t (atStart (t .relative) l + t .offset) (v .field (atContext (t .relative) l))
+
   -- a test, after the last positive pattern; a slot that is not in use, and a pattern, are no tests
   unfoldable pub testHolds : Item → List Address → LastMatch → Bool
   testHolds item.Unused al l = false
@@ -131,4 +162,5 @@ module _ (v : View) where
   testHolds (item.Field t) al l = fieldHolds (v .header) t
   testHolds (item.Size t) al l = sizeHolds t
   testHolds (item.At t) al l = atHolds t l
+  testHolds (item.Byte t) al l = byteHolds t l
   testHolds (item.Pattern p) al l = false

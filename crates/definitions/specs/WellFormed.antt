@@ -21,7 +21,7 @@ use Rattle.definitions.specs.declared.table.Address.{Address}
 use Rattle.definitions.specs.declared.table.Slot.{Slot}
 use Rattle.definitions.specs.declared.table.Table.{Table}
 use Rattle.definitions.specs.declared.packets.LastMatch.the-variants.{None}
-use Rattle.definitions.specs.Limits.{maxName, maxPatterns, maxTests, maxItems, maxAddresses, maxByte, maxWord, maxAddress, maxPrefix}
+use Rattle.definitions.specs.Limits.{maxName, maxPatterns, maxTests, maxItems, maxAddresses, maxByte, maxWord, maxLong, maxPrefix}
 use Rattle.definitions.specs.Lists.{all?}
 use Rattle.definitions.specs.Forms.{quotable, maxField, maxNumber}
 use Rattle.definitions.specs.Items.{Kind, unused, addressed, patterned, plainTest, kindOf, patternsOf, slotsOf}
@@ -50,7 +50,7 @@ nameFits name n = between 1 maxName n && (all? (has quotable) (take n name) && a
 
 -- addresses: four numbers 0..255 and a prefix of at most 32; unused ones zero
 abbrev pub addressFits : Address → Bool
-addressFits a = leb (a .number) maxAddress && leb (a .prefix) maxPrefix
+addressFits a = leb (a .number) maxLong && leb (a .prefix) maxPrefix
 
 abbrev pub addressUnused : Address → Bool
 addressUnused a = isZero (a .number) && isZero (a .prefix)
@@ -80,6 +80,7 @@ itemFits (item.Ttl a) = leb (a .number) maxByte
 itemFits (item.Field a) = leb (a .mask) (maxField (a .field)) && leb (a .number) (maxField (a .field))
 itemFits (item.Size a) = leb (a .number) maxWord
 itemFits (item.At a) = leb (a .number) maxWord
+itemFits (item.Byte a) = leb (a .value) maxLong && leb (a .offset) maxWord
 itemFits (item.Pattern p) = ltb 0 (p .len) && (distanceFits (p .distance) && withinFits (p .within))
 
 -- how many of a slot's addresses are in use

@@ -15,6 +15,7 @@ use Rattle.definitions.specs.Limits.{maxName}
 use Rattle.definitions.specs.Lists.{all?, none?}
 use Rattle.definitions.specs.Refusals.{numberOf}
 use Rattle.definitions.specs.Numbers.{decimalDigits, hexDigits, valueOf}
+use Rattle.definitions.specs.ByteCounts.{isByteCount}
 use Rattle.definitions.specs.OptionValues.{OptionValue}
 use Rattle.definitions.specs.Options.{Option, optionTable, nameLength}
 
@@ -64,12 +65,13 @@ pub record WrongByte (s : List ℕ) (dash p : ℕ) : Type 1 where
   pub no-further : p < length s → BeginsForm option (span s dash (p + 1)) → ⊥
 
 -- what a limit of an option is on, how many bytes of it stand before its place, and whether it is kept: a number in decimal digits, placed at the first;
--- one in hex digits, placed at the first after `0x`; a name in quotes, placed at the first quote. That a number's limit is the option's own is by its form,
--- whose bounds `bounds` lists
+-- one in hex digits, placed at the first after `0x`; a byte count, placed as a number is; a name in quotes, placed at the first quote. That a number's limit
+-- is the option's own is by its form, whose bounds `bounds` lists
 pub data Limited : List ℕ → ℕ → Bool → Type 0 where
   decimal : (limit : ℕ) (digits : List ℕ) → none? digits ≡ false → all? (has decimalDigits) digits ≡ true → Limited digits 0 (leb (valueOf 10 0 digits) limit)
   hex : (limit x : ℕ) (digits : List ℕ) → lower x ≡ 120 → none? digits ≡ false → all? (has hexDigits) digits ≡ true
       → Limited (48 ∷ x ∷ digits) 2 (leb (valueOf 16 0 digits) limit)
+  count : (digits : List ℕ) → none? digits ≡ false → all? (has decimalDigits) digits ≡ true → Limited digits 0 (isByteCount (valueOf 10 0 digits))
   name : (bytes : List ℕ) → Limited (34 ∷ (bytes ++ (34 ∷ []))) 0 (leb (length bytes) maxName)
 
 -- THE PLACE OF 7: the option is of its form up to its end; of its limits from left to right those before one are kept, this one is not, and p is its place

@@ -25,17 +25,19 @@ pub const PACKET_BYTES: usize = 2048;
 
 pub const DECODED_BYTES: usize = 4096;
 
-// Numbers of one byte and of two bytes, a distance either way, and the bits of an address.
+// Numbers of one byte, of two bytes and of four bytes, a distance either way, and the bits of an address.
 pub const MAX_BYTE: u64 = 255;
 
 pub const MAX_WORD: u64 = 65535;
+
+pub const MAX_LONG: u64 = 4294967295;
 
 pub const MAX_OFFSET: i32 = 65535;
 
 pub const MAX_PREFIX: u8 = 32;
 
-// The options of document 01's table.
-pub const OPTIONS: usize = 22;
+// The options of document 01's table, and byte_test.
+pub const OPTIONS: usize = 23;
 
 // Every limit that this code goes by, for its callers.
 pub struct DocumentLimits {
@@ -51,6 +53,7 @@ pub struct DocumentLimits {
     pub decoded: usize,
     pub byte: u64,
     pub word: u64,
+    pub long: u64,
     pub offset: i32,
     pub prefix: u8,
     pub options: usize,
@@ -73,6 +76,7 @@ pub fn document_limits() -> DocumentLimits
         decoded: DECODED_BYTES,
         byte: MAX_BYTE,
         word: MAX_WORD,
+        long: MAX_LONG,
         offset: MAX_OFFSET,
         prefix: MAX_PREFIX,
         options: OPTIONS,

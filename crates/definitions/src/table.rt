@@ -99,6 +99,31 @@ pub struct AtTest {
     pub relative: bool,
 }
 
+// How many bytes a byte test reads. No other count can be handed in.
+pub enum Width {
+    One,
+    Two,
+    Four,
+}
+
+// The operator of a byte test.
+pub enum ByteOperator {
+    Greater,
+    Less,
+    Equal,
+    Unequal,
+}
+
+// byte_test: the number that some bytes write, compared with a value (document 02, T-01). Whatever is handed in, some text says it.
+pub struct ByteTest {
+    pub width: Width,
+    pub operator: ByteOperator,
+    pub value: u32,
+    pub offset: u16,
+    pub relative: bool,
+    pub little: bool,
+}
+
 // The field that a pattern lies in.
 pub enum Context {
     Packet,
@@ -162,6 +187,7 @@ pub enum Item {
     Field(FieldTest),
     Size(SizeTest),
     At(AtTest),
+    Byte(ByteTest),
     Pattern(Pattern),
 }
 

@@ -1,6 +1,6 @@
 -- A field that is missing meets nothing. A test or pattern, negated or not, on an absent field doesn't hold (`absent-never`); so a list of items
 -- with such an item, at whatever place, has no placements (`absent-after`, `absent-none`); so a table with such an item is met by no packet and
--- no decoded buffer (`absent-table`, `absent-verdict`). Of data_at with relative, whose field is that of the last positive pattern before it,
+-- no decoded buffer (`absent-table`, `absent-verdict`). Of data_at and byte_test with relative, whose field is that of the last positive pattern before,
 -- `absent-at` says which that can be. Section "Meaning", its first paragraph. The argument: each item's test asks for its field first.
 use mathlib.Core.Path.{_≡_, refl, sym, ap, _∙_, subst, fun-ext}
 use mathlib.Core.Logic.{_⊎_, inl, inr, ⊎-elim}
@@ -11,7 +11,6 @@ use Prim.Native.Nat.{ℕ}
 use lib.ListN.{length}
 use Rattle.forms.proofs.Bools.{by-cases}
 use Rattle.definitions.specs.declared.table.Context.{Context}
-use Rattle.definitions.specs.declared.table.AtTest.{AtTest}
 use Rattle.definitions.specs.declared.table.Pattern.{Pattern}
 use Rattle.definitions.specs.declared.table.Item.{Item}
 use Rattle.definitions.specs.declared.table.Item.the-variants as item
@@ -31,7 +30,7 @@ use Rattle.definitions.specs.Items.{kindOf, slotsOf, afterItem}
 use Rattle.definitions.specs.Starts.{startAt}
 use Rattle.definitions.specs.References.{lastAfter}
 use Rattle.definitions.specs.Fields.{View, viewOf, present, sizeContext}
-use Rattle.definitions.specs.Tests.{atContext, sizeHolds, atHolds, testHolds}
+use Rattle.definitions.specs.Tests.{atContext, sizeHolds, atHolds, byteHolds, testHolds}
 use Rattle.definitions.specs.Placements.{startsTo, spread, onlyIf, Constraint, matched, unmatched, tested, patternConstraint, constraintBy}
 use Rattle.definitions.specs.Placements.{constraints, itemsOf, liesIn, starts, unmatchedHolds, placements, headHolds, listed}
 use Rattle.definitions.specs.Answers.{inputCheck, placementsOf, verdictBy, verdictAnswer}
@@ -39,8 +38,8 @@ use Rattle.laws.proofs.Keep.{keep-none}
 
 -- ---- what the statements say
 
--- the fields that a test looks at, after the last positive pattern: data_size its field, data_at the payload or, with relative, the pattern's
--- field; tests of the header none
+-- the fields that a test looks at, after the last positive pattern: data_size its field, data_at and byte_test the payload or, with relative, the
+-- pattern's field; tests of the header none
 abbrev pub fieldsTested : Item → LastMatch → List Context
 fieldsTested item.Unused l = []
 fieldsTested (item.Address a) l = []
@@ -50,6 +49,7 @@ fieldsTested (item.Ttl t) l = []
 fieldsTested (item.Field t) l = []
 fieldsTested (item.Size t) l = sizeContext (t .field) ∷ []
 fieldsTested (item.At t) l = atContext (t .relative) l ∷ []
+fieldsTested (item.Byte t) l = atContext (t .relative) l ∷ []
 fieldsTested (item.Pattern p) l = []
 
 -- the fields that an item looks at: a pattern, negated or not, its context
@@ -71,7 +71,7 @@ lastAfterAll (matched p b ∷ ws) l = lastAfterAll ws (lastAfter l p (startAt 0)
 lastAfterAll (unmatched p b ∷ ws) l = lastAfterAll ws l
 lastAfterAll (tested it al ∷ ws) l = lastAfterAll ws l
 
--- the fields that a slot's item looks at, whatever stands before it: not those of data_at
+-- the fields that a slot's item looks at, whatever stands before it: not those of data_at and byte_test
 abbrev pub fieldsOf : Item → List Context
 fieldsOf item.Unused = []
 fieldsOf (item.Address a) = []
@@ -81,6 +81,7 @@ fieldsOf (item.Ttl t) = []
 fieldsOf (item.Field t) = []
 fieldsOf (item.Size t) = sizeContext (t .field) ∷ []
 fieldsOf (item.At t) = []
+fieldsOf (item.Byte t) = []
 fieldsOf (item.Pattern p) = p .context ∷ []
 
 -- ---- one item
@@ -94,7 +95,7 @@ absent-first v x c b m e = let f : v .present x ≡ false = ap (v .present) (sym
 
 absent-test : (v : View) (it : Item) (al : List Address) (l : LastMatch) (c : Context) → Mem c (fieldsTested it l) → v .present c ≡ false
     → testHolds v it al l ≡ false
-unfolding testHolds sizeHolds atHolds
+unfolding testHolds sizeHolds atHolds byteHolds
 absent-test v item.Unused al l c m e = refl
 absent-test v (item.Address a) al l c m e = absurd (not-nil m)
 absent-test v item.SameIp al l c m e = absurd (not-nil m)
@@ -103,6 +104,7 @@ absent-test v (item.Ttl t) al l c m e = absurd (not-nil m)
 absent-test v (item.Field t) al l c m e = absurd (not-nil m)
 absent-test v (item.Size t) al l c m e = absent-first v (sizeContext (t .field)) c _ m e
 absent-test v (item.At t) al l c m e = absent-first v (atContext (t .relative) l) c _ m e
+absent-test v (item.Byte t) al l c m e = absent-first v (atContext (t .relative) l) c _ m e
 absent-test v (item.Pattern p) al l c m e = refl
 
 -- A TEST OR PATTERN ON AN ABSENT FIELD NEVER HOLDS, negated or not
@@ -116,7 +118,7 @@ absent-never v (tested it al) l s c m e = absent-test v it al l c m e
 -- `fieldsRead` leaves none out: besides the datagram's header fields an item depends on those fields only
 pub looks-only : (v v′ : View) (w : Constraint) (l : LastMatch) (s : Start) → v .header ≡ v′ .header
     → ((c : Context) → Mem c (fieldsRead w l) → (v .present c ≡ v′ .present c) × (v .field c ≡ v′ .field c)) → itemHolds v w l s ≡ itemHolds v′ w l s
-unfolding liesIn unmatchedHolds starts testHolds sizeHolds atHolds
+unfolding liesIn unmatchedHolds starts testHolds sizeHolds atHolds byteHolds
 looks-only v v′ (matched p b) l s f h = let k = h (p .context) (here refl) in rw (k .0, k .1)
 looks-only v v′ (unmatched p b) l s f h =
     let k = h (p .context) (here refl) in
@@ -130,6 +132,7 @@ looks-only v v′ (tested (item.Ttl t) al) l s f h = rw f
 looks-only v v′ (tested (item.Field t) al) l s f h = rw f
 looks-only v v′ (tested (item.Size t) al) l s f h = let k = h (sizeContext (t .field)) (here refl) in rw (k .0, k .1)
 looks-only v v′ (tested (item.At t) al) l s f h = let k = h (atContext (t .relative) l) (here refl) in rw (k .0, k .1)
+looks-only v v′ (tested (item.Byte t) al) l s f h = let k = h (atContext (t .relative) l) (here refl) in rw (k .0, k .1)
 looks-only v v′ (tested (item.Pattern p) al) l s f h = refl
 
 -- ---- a list of items
@@ -171,6 +174,7 @@ module _ (v : View) where
     read-alike (tested (item.Field t) al) k l h = refl
     read-alike (tested (item.Size t) al) k l h = refl
     read-alike (tested (item.At t) al) k l h = ap (λ (x : Context). x ∷ []) (tested-alike (t .relative) k l h)
+    read-alike (tested (item.Byte t) al) k l h = ap (λ (x : Context). x ∷ []) (tested-alike (t .relative) k l h)
     read-alike (tested (item.Pattern p) al) k l h = refl
 
     after-alike : (p : Pattern) (s : Start) (k l : LastMatch) → Alike k l → Alike (lastAfter k p s) (lastAfter l p (startAt 0))
@@ -221,6 +225,7 @@ slot-reads (item.Ttl t) al b c m l = absurd (not-nil m)
 slot-reads (item.Field t) al b c m l = absurd (not-nil m)
 slot-reads (item.Size t) al b c m l = m
 slot-reads (item.At t) al b c m l = absurd (not-nil m)
+slot-reads (item.Byte t) al b c m l = absurd (not-nil m)
 slot-reads (item.Pattern p) al b c m l = subst (Mem c) (sym (pattern-reads p _ l)) m
 
 -- a slot's item is among the items, with some pattern bytes
@@ -258,7 +263,7 @@ module _ (t : Table) (sl : Slot) (c : Context) (inUse : Mem sl (slotsOf t)) (loo
       never Pass q = false≢true (ap isMet q)
       never (Refuse r) q = false≢true (ap isMet q)
 
--- ---- data_at
+-- ---- data_at and byte_test
 
 -- the last positive pattern after some items is one of them, or the one before them
 abbrev Among : List Constraint → Context → Type 0
@@ -275,23 +280,18 @@ last-among (matched p b ∷ us) l =
 last-among (unmatched p b ∷ us) l = ⊎-elim inl (λ q. inr (q .0, q .1, there (q .2), q .3)) (last-among us l)
 last-among (tested it al ∷ us) l = ⊎-elim inl (λ q. inr (q .0, q .1, there (q .2), q .3)) (last-among us l)
 
--- DATA_AT LOOKS AT AN ABSENT FIELD ONLY WITH RELATIVE, BEHIND A PATTERN ON THAT FIELD, which then holds as little: else it looks at the payload,
--- which is always present
-pub absent-at : (m : FieldMap) (us : List Constraint) (t : AtTest) → present m (atContext (t .relative) (lastAfterAll us None)) ≡ false
-    → (t .relative ≡ true)
-    × ((p : Pattern) × (b : List ℕ) × Mem (matched p b) us × (p .context ≡ atContext (t .relative) (lastAfterAll us None))
+-- DATA_AT AND BYTE_TEST LOOK AT AN ABSENT FIELD ONLY WITH RELATIVE, AFTER A PATTERN ON THAT FIELD, which then holds as little: else they look at the
+-- payload, which is always present
+pub absent-at : (m : FieldMap) (us : List Constraint) (relative : Bool) → present m (atContext relative (lastAfterAll us None)) ≡ false
+    → (relative ≡ true)
+    × ((p : Pattern) × (b : List ℕ) × Mem (matched p b) us × (p .context ≡ atContext relative (lastAfterAll us None))
     × (present m (p .context) ≡ false))
 unfolding present
-absent-at m us t e = go (t .relative) e
-  where
-    go : (relative : Bool) → present m (atContext relative (lastAfterAll us None)) ≡ false
-        → (relative ≡ true) × ((p : Pattern) × (b : List ℕ) × Mem (matched p b) us × (p .context ≡ atContext relative (lastAfterAll us None))
-        × (present m (p .context) ≡ false))
-    go false e = absurd (true≢false e)
-    go true e = (
-      refl,
-      ⊎-elim
-          (λ q. absurd (true≢false (sym (ap (present m) q) ∙ e)))
-          (λ q. (q .0, q .1, q .2, sym (q .3), sym (ap (present m) (q .3)) ∙ e))
-          (last-among us None),
-    )
+absent-at m us false e = absurd (true≢false e)
+absent-at m us true e = (
+  refl,
+  ⊎-elim
+      (λ q. absurd (true≢false (sym (ap (present m) q) ∙ e)))
+      (λ q. (q .0, q .1, q .2, sym (q .3), sym (ap (present m) (q .3)) ∙ e))
+      (last-among us None),
+)

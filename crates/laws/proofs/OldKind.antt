@@ -52,6 +52,7 @@ item-not (item.Ttl a) t = refl
 item-not (item.Field a) t = refl
 item-not (item.Size a) t = refl
 item-not (item.At a) t = refl
+item-not (item.Byte a) t = refl
 item-not (item.Pattern p) t = refl
 
 pub unused-not : (it : Item) → isUnused (kindOf it) ≡ true → isIpId it ≡ false
@@ -63,6 +64,7 @@ unused-not (item.Ttl a) t = refl
 unused-not (item.Field a) t = refl
 unused-not (item.Size a) t = refl
 unused-not (item.At a) t = refl
+unused-not (item.Byte a) t = refl
 unused-not (item.Pattern p) t = refl
 
 pub fitting-not : (sl : Slot) → slotFits sl ≡ true → slotIsIpId sl ≡ false

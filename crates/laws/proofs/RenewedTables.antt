@@ -68,6 +68,7 @@ module _ (v : View) (id : v .header .id ≤ maxWord) where
   renewed-test (item.Field a) al l = refl
   renewed-test (item.Size a) al l = refl
   renewed-test (item.At a) al l = refl
+  renewed-test (item.Byte a) al l = refl
   renewed-test (item.Pattern p) al l = refl
 
 -- ---- the items
@@ -96,6 +97,7 @@ kind-kept (item.Ttl a) = refl
 kind-kept (item.Field a) = refl
 kind-kept (item.Size a) = refl
 kind-kept (item.At a) = refl
+kind-kept (item.Byte a) = refl
 kind-kept (item.Pattern p) = refl
 
 constraint-kept : (it : Item) (al : List Address) (b : List ℕ)
@@ -108,6 +110,7 @@ constraint-kept (item.Ttl a) al b = refl
 constraint-kept (item.Field a) al b = refl
 constraint-kept (item.Size a) al b = refl
 constraint-kept (item.At a) al b = refl
+constraint-kept (item.Byte a) al b = refl
 constraint-kept (item.Pattern p) al b = pattern-kept p (take (p .len) b)
 
 renewed-constraints : (sls : List Slot) (b : List ℕ) → constraints (map renewedSlot sls) b ≡ map renewedConstraint (constraints sls b)
@@ -201,6 +204,7 @@ item-longer (item.Ttl a) al b = omega arith
 item-longer (item.Field a) al b = omega arith
 item-longer (item.Size a) al b = omega arith
 item-longer (item.At a) al b = omega arith
+item-longer (item.Byte a) al b = omega arith
 item-longer (item.Pattern p) al b = omega arith
 
 counted-first : (k : Bool) (sl : Slot) (sls : List Slot) → length (keepOne k sl sls) ≡ oneIf k + length sls

@@ -13,6 +13,7 @@ use definitions::table::Address;
 use definitions::table::Item;
 use match_address_tests::address_holds;
 use match_address_tests::same_ip;
+use match_byte_tests::byte_holds;
 use match_length_tests::at_holds;
 use match_length_tests::size_holds;
 use match_number_tests::field_holds;
@@ -40,6 +41,7 @@ pub fn test_holds<'a>(
         Item::Field(t) => field_holds(f, t),
         Item::Size(t) => size_holds(payload, decoded, m, t),
         Item::At(t) => at_holds(payload, decoded, m, t, last),
+        Item::Byte(t) => byte_holds(payload, decoded, m, t, last),
         Item::Pattern(_) => false,
     }
 }

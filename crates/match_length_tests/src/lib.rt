@@ -2,7 +2,7 @@
 ghost use mathlib.Core.Path.{_≡_};
 ghost use lib.ListN.{length};
 ghost use Rattle.definitions.specs.Fields.{fieldOf, sizeContext};
-ghost use Rattle.definitions.specs.Tests.{atContext, atStart, dataFollows, sizeHolds, atHolds};
+ghost use Rattle.definitions.specs.Tests.{dataFollows, sizeHolds, atHolds};
 ghost use Rattle.fields.specs.Seen.{seen};
 ghost use Rattle.definitions.specs.declared.packets.PacketHeader.{PacketHeader};
 use definitions::packets::FieldMap;
@@ -15,6 +15,8 @@ use fields::field_of;
 use fields::is_present;
 use match_number_tests::of_word;
 use match_number_tests::order_holds;
+use match_origins::at_context;
+use match_origins::at_start;
 
 fn field_length<'a>(payload: &'a [u8], decoded: &'a [u8], m: FieldMap, c: Context) -> usize
     ensures { λ r. ⌜ r ≡ length (fieldOf (now (payload .entry)) (now (decoded .entry)) m c) ⌝ }
@@ -47,32 +49,6 @@ pub fn size_holds<'a>(payload: &'a [u8], decoded: &'a [u8], m: FieldMap, t: Size
     let len = field_length(payload, decoded, m, c);
     let n = of_word(t.number);
     order_holds(order, len, n)
-}
-
-// The field that data_at looks into.
-fn at_context(relative: bool, last: LastMatch) -> Context
-    ensures { λ r. ⌜ r ≡ atContext relative last ⌝ }
-{
-    if !relative {
-        return Context::Packet;
-    }
-    match last {
-        LastMatch::None => Context::Packet,
-        LastMatch::Some(m) => m.context,
-    }
-}
-
-// Where data_at counts from.
-fn at_start(relative: bool, last: LastMatch) -> usize
-    ensures { λ r. ⌜ r ≡ atStart relative last ⌝ }
-{
-    if !relative {
-        return 0;
-    }
-    match last {
-        LastMatch::None => 0,
-        LastMatch::Some(m) => m.end,
-    }
 }
 
 // At least n bytes follow a start in a field of so many bytes; no sum of the two can wrap here.

@@ -89,7 +89,8 @@ fn header_value(f: PacketHeader, field: HeaderField) -> usize
     }
 }
 
-fn operator_holds(operator: Operator, x: usize, n: usize) -> bool
+// x is compared with n, as a field test or a byte test asks.
+pub fn operator_holds(operator: Operator, x: usize, n: usize) -> bool
     ensures { λ r. ⌜ r ≡ operatorHolds operator x n ⌝ }
 {
     match operator {

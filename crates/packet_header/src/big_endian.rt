@@ -11,7 +11,7 @@ fn byte_at(d: &[u8], at: usize) -> u8
 }
 
 // The number that the n bytes at a place write, big end first.
-fn be_at(d: &[u8], at: usize, n: usize) -> u64
+pub fn be_at(d: &[u8], at: usize, n: usize) -> u64
     requires { ⌜ (at ≤ 255) × (n ≤ 4) ⌝ }
     ensures { λ r. ⌜ r ≡ bigEndian n (now (d .entry)) at ⌝ }
 {

@@ -39,6 +39,7 @@ row option.HeaderChecksum = refl
 row option.HeaderTtl = refl
 row option.DataSize = refl
 row option.DataAt = refl
+row option.ByteTest = refl
 row option.Pattern = refl
 row option.Context = refl
 row option.NoCase = refl
@@ -62,7 +63,7 @@ abbrev singles : List OptionName
 singles =
     option.Protocol ∷ option.Flow ∷ option.SameIp ∷ option.IpId ∷ option.SourcePort ∷ option.DestinationPort ∷ option.IpTos ∷
     option.IpTtl ∷ option.HeaderTotalLength ∷ option.HeaderId ∷ option.HeaderChecksum ∷ option.HeaderTtl ∷ option.DataSize ∷
-    option.DataAt ∷ option.Context ∷ option.NoCase ∷ option.Distance ∷ option.Within ∷ []
+    option.DataAt ∷ option.ByteTest ∷ option.Context ∷ option.NoCase ∷ option.Distance ∷ option.Within ∷ []
 
 module _ (ps : List OptionName) (o : OptionName) (k : OneOfOptions ps o) where
   -- an option that is one of a few is no other

@@ -52,6 +52,7 @@ fair option.HeaderChecksum = refl
 fair option.HeaderTtl = refl
 fair option.DataSize = refl
 fair option.DataAt = refl
+fair option.ByteTest = refl
 fair option.Pattern = refl
 fair option.Context = refl
 fair option.NoCase = refl

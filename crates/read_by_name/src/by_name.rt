@@ -16,6 +16,7 @@ use definitions::limits::MAX_WORD;
 use definitions::table::HeaderField;
 use definitions::table::NumberField;
 use definitions::table::Side;
+use read_byte_tests::byte_option;
 use read_names::options::OptionName;
 use read_options::heads::flow_option;
 use read_options::heads::protocol_option;
@@ -52,6 +53,7 @@ fn value_by_name(s: &[u8], at: usize, o: OptionName) -> Valued
         OptionName::HeaderTtl => field_option(s, at, HeaderField::Ttl, MAX_BYTE),
         OptionName::DataSize => size_option(s, at),
         OptionName::DataAt => at_option(s, at),
+        OptionName::ByteTest => byte_option(s, at),
         OptionName::Context => context_option(s, at),
         OptionName::NoCase => no_case_option(s, at),
         OptionName::Distance => distance_option(s, at),

@@ -11,7 +11,7 @@ use Rattle.definitions.specs.declared.table.HeaderField.the-variants as header
 use Rattle.definitions.specs.Lists.{all?}
 use Rattle.definitions.specs.OptionValues.{OptionValue}
 use Rattle.definitions.specs.Forms.{nameForm, protocolForm, flowForm, addressForm, sameIpForm, numberForm, ttlForm, fieldForm, ipIdForm}
-use Rattle.definitions.specs.Forms.{sizeForm, atForm, patternForm, contextForm, noCaseForm, distanceForm, withinForm}
+use Rattle.definitions.specs.Forms.{sizeForm, atForm, byteForm, patternForm, contextForm, noCaseForm, distanceForm, withinForm}
 use Rattle.definitions.specs.Options.{optionTable, NamedOption, unlisted, listed}
 use Rattle.read_names.specs.declared.options.OptionName.{OptionName}
 use Rattle.read_names.specs.declared.options.OptionName.the-variants as option
@@ -38,6 +38,7 @@ optionOrder =
     option.HeaderTtl ∷
     option.DataSize ∷
     option.DataAt ∷
+    option.ByteTest ∷
     option.Pattern ∷
     option.Context ∷
     option.NoCase ∷
@@ -64,6 +65,7 @@ formOf option.HeaderChecksum = fieldForm header.Checksum
 formOf option.HeaderTtl = fieldForm header.Ttl
 formOf option.DataSize = sizeForm
 formOf option.DataAt = atForm
+formOf option.ByteTest = byteForm
 formOf option.Pattern = patternForm
 formOf option.Context = contextForm
 formOf option.NoCase = noCaseForm
@@ -75,7 +77,7 @@ unfoldable pub optionNames : List (List ℕ)
 optionNames = map (λ row. row .name) optionTable
 
 abbrev pub optionCount : ℕ
-optionCount = 22
+optionCount = 23
 
 -- no byte of a word is a capital, as in the names of the rows (`names-small`)
 abbrev pub noCapitals : List ℕ → Bool

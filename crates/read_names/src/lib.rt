@@ -36,11 +36,12 @@ const STARTS: [u8; OPTIONS + 1] = [
     109,
     118,
     125,
-    132,
-    139,
-    146,
-    154,
-    160,
+    134,
+    141,
+    148,
+    155,
+    163,
+    169,
 ];
 
 // The options of the table, row by row: only here does a number stand for an option.
@@ -62,6 +63,7 @@ const ROWS: [OptionName; OPTIONS] = [
     OptionName::HeaderTtl,
     OptionName::DataSize,
     OptionName::DataAt,
+    OptionName::ByteTest,
     OptionName::Pattern,
     OptionName::Context,
     OptionName::NoCase,
@@ -110,7 +112,7 @@ fn row_named(x: &[u8], k: usize) -> bool
 {
     let names: &[u8] = b"nameprotocolflowsrc_addrdst_addrsame_ipip_idsrc_portdst_port\
         ip_tosip_ttlip.total_lengthip.idip.checksumip.ttl\
-        data_sizedata_atpatterncontextno_casedistancewithin";
+        data_sizedata_atbyte_testpatterncontextno_casedistancewithin";
     let starts = STARTS;
     let start = starts[k] as usize;
     let end = starts[k + 1] as usize;

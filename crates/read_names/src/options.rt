@@ -1,4 +1,4 @@
-// The options of document 01's table, told apart by name and not by number.
+// The options of document 01's table and document 02's byte_test, told apart by name and not by number.
 
 // One option of the table. Lookup::Found has it, and what reads after the name goes by it.
 pub enum OptionName {
@@ -19,6 +19,7 @@ pub enum OptionName {
     HeaderTtl,
     DataSize,
     DataAt,
+    ByteTest,
     Pattern,
     Context,
     NoCase,

@@ -14,7 +14,7 @@ use Rattle.forms.specs.Form.{Row, none}
 use Rattle.forms.specs.Pieces.{preceded, opt, literal}
 use Rattle.forms.proofs.Bools.{by-cases}
 use Rattle.definitions.specs.declared.table.Address.{Address}
-use Rattle.definitions.specs.Limits.{maxByte, maxAddress, maxPrefix}
+use Rattle.definitions.specs.Limits.{maxByte, maxLong, maxPrefix}
 use Rattle.definitions.specs.Lists.{all?}
 use Rattle.definitions.specs.Numbers.{number}
 use Rattle.definitions.specs.Forms.{dotted, octet, address, addresses}
@@ -57,7 +57,7 @@ address-of : (a : Address) → addressFits a ≡ true → Of address (addressTex
 address-of a t =
     let h = halves t in
     let n = a .number in
-    let e = four-back n (leb-true n maxAddress (h .0)) in
+    let e = four-back n (leb-true n maxLong (h .0)) in
     revalues (ap (λ i. record { number = i; prefix = a .prefix }) e)
     (retexts (simp append-assoc)
     (fmap-of (both-of (dotted-of (n / 16777216 % 256) (omega arith))

@@ -142,6 +142,7 @@ module _ (al : List Address) (b : List ℕ) (whole : length al ≡ maxAddresses)
   item-good (item.Field a) h u t = one-good (test (item.Field a)) (both (plain-good (item.Field a) t) refl)
   item-good (item.Size a) h u t = one-good (test (item.Size a)) (both (plain-good (item.Size a) t) refl)
   item-good (item.At a) h u t = one-good (test (item.At a)) (both (plain-good (item.At a) t) refl)
+  item-good (item.Byte a) h u t = one-good (test (item.Byte a)) (both (plain-good (item.Byte a) t) refl)
   item-good (item.Pattern p) h u t = pattern-good p h u t
 
 after-bytes : (k : Kind) (b : List ℕ) → all? isByte b ≡ true → all? isByte (afterItem k b) ≡ true

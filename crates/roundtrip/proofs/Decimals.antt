@@ -8,11 +8,10 @@ use native.Mathlib.Nat.{le-refl}
 use lib.ListN.{length, length-append}
 use lib.Dec.{ltb, leb}
 use borrow.Author.Tests.{le-leb, lt-ltb, ltb-true, ltb-false}
-use Rattle.forms.specs.Bytes.{if_then_else_}
 use Rattle.forms.specs.Form.{has, none}
 use Rattle.forms.proofs.Bools.{by-cases}
 use Rattle.definitions.specs.Lists.{all?}
-use Rattle.definitions.specs.Numbers.{decimalDigits, digitValue, valueOf, number, eitherBase, numeral}
+use Rattle.definitions.specs.Numbers.{decimalDigits, digitValue, valueOf, numberThat, number, eitherBase, numeral}
 use Rattle.definitions.specs.Canonical.{digitsOf, decimal}
 use Rattle.roundtrip.proofs.AllTests.{all-none, all-more, all-append}
 use Rattle.roundtrip.proofs.Making.{Of, retexts, revalues, fmap-of, bound-of, preceded-of, both-of, alt-left, alt-right, many-of, literal-of}
@@ -28,19 +27,14 @@ digit-value : (d : ℕ) → d ≤ 9 → digitValue (48 + d) ≡ d
 unfolding digitValue
 digit-value d h = rw (le-leb (48 + d) 57 (omega (arith, h))) (omega arith)
 
-all-if : (t : Bool) (x y : List ℕ) → (t ≡ true → all? (has decimalDigits) x ≡ true) → all? (has decimalDigits) y ≡ true
-    → all? (has decimalDigits) (if t then x else y) ≡ true
-all-if true x y p q = p refl
-all-if false x y p q = q
-
 digits-are : (k n : ℕ) → all? (has decimalDigits) (digitsOf k n) ≡ true
 unfolding digitsOf
 digits-are zero n = all-none (has decimalDigits)
 digits-are (suc k) n =
-    all-if (ltb n 10) ((48 + n) ∷ []) (digitsOf k (n / 10) ++ ((48 + n % 10) ∷ []))
-    (λ t. all-more (has decimalDigits) (48 + n) [] (digit-has 48 n (omega arith) (omega (arith, ltb-true n 10 t))) (all-none (has decimalDigits)))
-    (all-append (has decimalDigits) (digitsOf k (n / 10)) ((48 + n % 10) ∷ []) (digits-are k (n / 10))
-    (all-more (has decimalDigits) (48 + n % 10) [] (digit-has 48 (n % 10) (omega arith) (omega arith)) (all-none (has decimalDigits))))
+    by-cases (ltb n 10)
+    (λ t. rw t (all-more (has decimalDigits) (48 + n) [] (digit-has 48 n (omega arith) (omega (arith, ltb-true n 10 t))) (all-none (has decimalDigits))))
+    (λ t. rw t (all-append (has decimalDigits) (digitsOf k (n / 10)) ((48 + n % 10) ∷ []) (digits-are k (n / 10))
+    (all-more (has decimalDigits) (48 + n % 10) [] (digit-has 48 (n % 10) (omega arith) (omega arith)) (all-none (has decimalDigits)))))
 
 value-end : (a x : ℕ) (xs : List ℕ) → valueOf 10 a (xs ++ (x ∷ [])) ≡ valueOf 10 a xs * 10 + digitValue x
 unfolding valueOf
@@ -64,9 +58,12 @@ digits-some k n = by-cases (ltb n 10) (λ t. rw t (omega arith)) (λ t. rw t (om
 
 -- ---- decimal numbers
 
-pub number-of : (limit n : ℕ) → leb n limit ≡ true → Of (number limit) (decimal n) n
-number-of limit n t =
+pub number-that-of : (kept : ℕ → Bool) (n : ℕ) → kept n ≡ true → Of (numberThat kept) (decimal n) n
+number-that-of kept n t =
     bound-of t (revalues (digits-value n n (le-refl n)) (fmap-of (some-bytes decimalDigits (decimal n) (digits-some n n) (digits-are (suc n) n))))
+
+pub number-of : (limit n : ℕ) → leb n limit ≡ true → Of (number limit) (decimal n) n
+number-of limit n t = number-that-of (λ (k : ℕ). leb k limit) n t
 
 -- ---- in either base: a first digit other than 0, or 0 alone
 

@@ -15,7 +15,7 @@ use Rattle.definitions.specs.declared.table.HeaderField.{HeaderField}
 use Rattle.definitions.specs.declared.table.HeaderField.the-variants as headerField
 use Rattle.definitions.specs.OptionValues.{OptionValue}
 use Rattle.definitions.specs.Forms.{nameForm, protocolForm, flowForm, addressForm, sameIpForm, numberForm, ttlForm, fieldForm, ipIdForm}
-use Rattle.definitions.specs.Forms.{sizeForm, atForm, patternForm, contextForm, noCaseForm, distanceForm, withinForm}
+use Rattle.definitions.specs.Forms.{sizeForm, atForm, byteForm, patternForm, contextForm, noCaseForm, distanceForm, withinForm}
 use Rattle.definitions.specs.Options.{Option, row, optionTable}
 use Rattle.definitions.specs.Canonical.{sideName, numberName, fieldName}
 use Rattle.definitions.specs.Grammar.{OptionText, option}
@@ -100,22 +100,26 @@ pub at-row : Mem (row "data_at" atForm) optionTable
 unfolding optionTable
 at-row = at-place 16 (lit< tt)
 
+pub byte-row : Mem (row "byte_test" byteForm) optionTable
+unfolding optionTable
+byte-row = at-place 17 (lit< tt)
+
 pub pattern-row : Mem (row "pattern" patternForm) optionTable
 unfolding optionTable
-pattern-row = at-place 17 (lit< tt)
+pattern-row = at-place 18 (lit< tt)
 
 pub context-row : Mem (row "context" contextForm) optionTable
 unfolding optionTable
-context-row = at-place 18 (lit< tt)
+context-row = at-place 19 (lit< tt)
 
 pub no-case-row : Mem (row "no_case" noCaseForm) optionTable
 unfolding optionTable
-no-case-row = at-place 19 (lit< tt)
+no-case-row = at-place 20 (lit< tt)
 
 pub distance-row : Mem (row "distance" distanceForm) optionTable
 unfolding optionTable
-distance-row = at-place 20 (lit< tt)
+distance-row = at-place 21 (lit< tt)
 
 pub within-row : Mem (row "within" withinForm) optionTable
 unfolding optionTable
-within-row = at-place 21 (lit< tt)
+within-row = at-place 22 (lit< tt)

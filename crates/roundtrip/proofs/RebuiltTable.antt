@@ -92,6 +92,7 @@ module _ (al : List Address) (b : List ℕ) (rest : List OptionValue) (whole : l
   item-back (item.Field a) h t = plain-back (item.Field a) t
   item-back (item.Size a) h t = plain-back (item.Size a) t
   item-back (item.At a) h t = plain-back (item.At a) t
+  item-back (item.Byte a) h t = plain-back (item.Byte a) t
   item-back (item.Pattern p) h t =
       ap₂ (λ q l. slotOf (item.Pattern q) [] ∷ l) (pattern-back p h) (slots-past p rest) ∙ plain-back (item.Pattern p) t
 

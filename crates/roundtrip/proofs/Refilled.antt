@@ -59,6 +59,7 @@ unused-item (item.Ttl a) t = never (cc)
 unused-item (item.Field a) t = never (cc)
 unused-item (item.Size a) t = never (cc)
 unused-item (item.At a) t = never (cc)
+unused-item (item.Byte a) t = never (cc)
 unused-item (item.Pattern a) t = never (cc)
 
 -- not in use, with all its addresses

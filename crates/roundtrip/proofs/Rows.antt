@@ -20,11 +20,11 @@ use Rattle.definitions.specs.declared.table.HeaderField.{HeaderField}
 use Rattle.definitions.specs.declared.table.HeaderField.the-variants as headerField
 use Rattle.definitions.specs.declared.table.Item.the-variants as item
 use Rattle.definitions.specs.declared.table.Address.{Address}
-use Rattle.definitions.specs.Limits.{maxByte, maxWord}
+use Rattle.definitions.specs.Limits.{maxByte, maxWord, maxLong}
 use Rattle.definitions.specs.OptionValues.{NoCase, OptionValue, Pattern, Modified}
 use Rattle.definitions.specs.Numbers.{numeral}
 use Rattle.definitions.specs.Forms.{spaces, gap, closed, valued, quotable, addresses, addressTest, test, negation, maxField, patternBytes, nameForm}
-use Rattle.definitions.specs.Forms.{protocolForm, flowForm, addressForm, sameIpForm, numberForm, ttlForm, fieldForm, ipIdForm, sizeForm, atForm}
+use Rattle.definitions.specs.Forms.{protocolForm, flowForm, addressForm, sameIpForm, numberForm, ttlForm, fieldForm, ipIdForm, sizeForm, atForm, byteForm}
 use Rattle.definitions.specs.Forms.{patternForm, contextForm, noCaseForm, distanceForm, withinForm}
 use Rattle.definitions.specs.Options.{Option, optionTable}
 use Rattle.definitions.specs.WellFormed.{itemFits}
@@ -147,6 +147,16 @@ at-gives : Gives atForm
 unfolding itemFits Means
 at-gives = known-says (λ p. refl) (λ x p m. both (number-within maxWord (m .0) (p .0) (m .3)) refl)
 
+byte-gives : Gives byteForm
+unfolding itemFits Means
+byte-gives =
+    known-says (λ p. refl)
+    (λ x p m.
+    let value = m .4 .4 .3 in
+    let offset = m .4 .4 .4 in
+    let small : leb (p .1 .1 .0) maxLong ≡ true = ap (λ n. leb n maxLong) (value .1) ∙ numeral-within maxLong (value .2 .0) (value .0 .0) (value .2 .3) in
+    both (both small (number-within maxWord (offset .0) (p .1 .1 .1 .0) (offset .3))) refl)
+
 context-gives : Gives contextForm
 context-gives = known-says (λ c. refl) (λ x c m. refl)
 
@@ -196,7 +206,7 @@ table-gives =
     and ip-id-gives and number-gives numberField.SourcePort refl and number-gives numberField.DestinationPort refl and number-gives numberField.Tos refl
     and ttl-gives
     and field-gives headerField.TotalLength and field-gives headerField.Id and field-gives headerField.Checksum and field-gives headerField.Ttl
-    and size-gives and at-gives and pattern-gives and context-gives and no-case-gives and distance-gives and within-gives and done
+    and size-gives and at-gives and byte-gives and pattern-gives and context-gives and no-case-gives and distance-gives and within-gives and done
 
 pub option-fits : {x : List ℕ} {e : OptionValue} → OptionText x e → Fitting x e
 option-fits (option o n y {e} m q w) = longer y (45 ∷ 45 ∷ (n ++ y)) e (omega (arith, length-append n y)) (row-gives m table-gives .given y e w)

@@ -52,6 +52,7 @@ test-slot (item.Ttl a) al t f = plain-slot (item.Ttl a) al t
 test-slot (item.Field a) al t f = plain-slot (item.Field a) al t
 test-slot (item.Size a) al t f = plain-slot (item.Size a) al t
 test-slot (item.At a) al t f = plain-slot (item.At a) al t
+test-slot (item.Byte a) al t f = plain-slot (item.Byte a) al t
 test-slot (item.Pattern p) al t f = never (cc)
 
 -- ---- patterns

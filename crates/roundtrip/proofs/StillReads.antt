@@ -66,6 +66,7 @@ item-stays (item.Ttl a) al t = refl
 item-stays (item.Field a) al t = refl
 item-stays (item.Size a) al t = refl
 item-stays (item.At a) al t = refl
+item-stays (item.Byte a) al t = refl
 item-stays (item.Pattern p) al t = refl
 
 value-stays : (e : OptionValue) → optionFits e ≡ true → renewedValue e ≡ e

@@ -1,5 +1,5 @@
 -- An option that fits is written as one space and an option's text of that option. For each row the text of the value is put together as its form is.
-use mathlib.Core.Path.{_≡_, sym, ap, _∙_}
+use mathlib.Core.Path.{_≡_, refl, sym, ap, _∙_}
 use mathlib.Core.Bool.{Bool, true, false, not, _&&_, _||_}
 use mathlib.Core.List.{List, [], _∷_, _++_, append-assoc}
 use Prim.Native.Nat.{ℕ, suc}
@@ -24,6 +24,11 @@ use Rattle.definitions.specs.declared.table.TtlTest.{TtlTest}
 use Rattle.definitions.specs.declared.table.FieldTest.{FieldTest}
 use Rattle.definitions.specs.declared.table.SizeTest.{SizeTest}
 use Rattle.definitions.specs.declared.table.AtTest.{AtTest}
+use Rattle.definitions.specs.declared.table.ByteTest.{ByteTest}
+use Rattle.definitions.specs.declared.table.Width.{Width}
+use Rattle.definitions.specs.declared.table.Width.the-variants.{One, Two, Four}
+use Rattle.definitions.specs.declared.table.ByteOperator.{ByteOperator}
+use Rattle.definitions.specs.declared.table.ByteOperator.the-variants as byteOperator
 use Rattle.definitions.specs.declared.table.SizeField.{SizeField}
 use Rattle.definitions.specs.declared.table.SizeField.the-variants as sizeField
 use Rattle.definitions.specs.declared.table.Context as contexts
@@ -34,14 +39,16 @@ use Rattle.definitions.specs.declared.table.WithinValue.{WithinValue}
 use Rattle.definitions.specs.declared.table.Item.{Item}
 use Rattle.definitions.specs.declared.table.Item.the-variants as item
 use Rattle.definitions.specs.declared.table.Address.{Address}
-use Rattle.definitions.specs.Limits.{maxByte, maxWord}
+use Rattle.definitions.specs.Limits.{maxByte, maxWord, maxLong}
 use Rattle.definitions.specs.Lists.{none?}
 use Rattle.definitions.specs.OptionValues.{Context, NoCase, Distance, Within, OptionValue, Name, Protocol, Flow, Test, Pattern, Modified}
 use Rattle.definitions.specs.Numbers.{number, numeral}
 use Rattle.definitions.specs.Forms.{quotable, spaces, comma, negation, addressTest, test, lessOrGreater, comparison, maxField, maxNumber, referenceWord, signed}
+use Rattle.definitions.specs.Forms.{width, byteComparison, flags, byteTest}
+use Rattle.definitions.specs.ByteCounts.{isByteCount, byteCount, widthOf}
 use Rattle.definitions.specs.Items.{addressed, kindOf}
 use Rattle.definitions.specs.References.{sameReference}
-use Rattle.definitions.specs.Canonical.{decimal, textIf, negatedText, orderText, operatorText, fieldText, sizeFieldText, contextText, referenceText}
+use Rattle.definitions.specs.Canonical.{decimal, textIf, negatedText, orderText, operatorText, fieldText, sizeFieldText, byteOperatorText, comparisonText, byteText, contextText, referenceText}
 use Rattle.definitions.specs.Canonical.{testText, modifierText, optionText}
 use Rattle.definitions.specs.WellFormed.{itemFits}
 use Rattle.laws.proofs.OldKind.{number-known}
@@ -49,10 +56,10 @@ use Rattle.syntax.proofs.Truths.{impossible}
 use Rattle.roundtrip.proofs.AllTests.{halves}
 use Rattle.roundtrip.proofs.Addressed.{addresses-of}
 use Rattle.roundtrip.proofs.Blocks.{pattern-of}
-use Rattle.roundtrip.proofs.Decimals.{number-of, numeral-of}
+use Rattle.roundtrip.proofs.Decimals.{number-that-of, number-of, numeral-of}
 use Rattle.roundtrip.proofs.Fits.{number-limited, flowFits, testFits, optionFits, optionWritable}
 use Rattle.roundtrip.proofs.Listed.{Written, row-written, name-row, protocol-row, flow-row, side-row, same-ip-row, number-row, ttl-row}
-use Rattle.roundtrip.proofs.Listed.{field-row, size-row, at-row, pattern-row, context-row, no-case-row, distance-row, within-row}
+use Rattle.roundtrip.proofs.Listed.{field-row, size-row, at-row, byte-row, pattern-row, context-row, no-case-row, distance-row, within-row}
 use Rattle.roundtrip.proofs.Making.{Of, retexts, revalues, pure-of, fmap-of, bound-of, preceded-of, terminated-of, both-of}
 use Rattle.roundtrip.proofs.Making.{alt-left, alt-right, many-of, literal-of, literalAs-of}
 use Rattle.roundtrip.proofs.Making.{words, some-bytes, closes, values}
@@ -130,6 +137,24 @@ relative-of : (r : Bool) → Of (comma false (keyword (text "relative") true)) (
 relative-of true = alt-left (preceded-of (literal-of 44) (words (text "relative") true))
 relative-of false = alt-right pure-of
 
+width-of : (w : Width) → Of width (decimal (byteCount w)) w
+width-of One = fmap-of {h = widthOf} {a = 1} (number-that-of isByteCount 1 refl)
+width-of Two = fmap-of {h = widthOf} {a = 2} (number-that-of isByteCount 2 refl)
+width-of Four = fmap-of {h = widthOf} {a = 4} (number-that-of isByteCount 4 refl)
+
+byte-operator-of : (o : ByteOperator) → Of byteComparison (byteOperatorText o) o
+byte-operator-of byteOperator.Greater = alt-left (literalAs-of 62 byteOperator.Greater)
+byte-operator-of byteOperator.Less = alt-right (alt-left (literalAs-of 60 byteOperator.Less))
+byte-operator-of byteOperator.Equal = alt-right (alt-right (alt-left (literalAs-of 61 byteOperator.Equal)))
+byte-operator-of byteOperator.Unequal = alt-right (alt-right (alt-right (literalAs-of 33 byteOperator.Unequal)))
+
+flags-of : (relative little : Bool) → Of flags (textIf relative (text ",relative") ++ textIf little (text ",little")) (relative, little)
+flags-of false false = alt-right pure-of
+flags-of false true = alt-left (preceded-of (literal-of 44) (alt-right (words (text "little") (false, true))))
+flags-of true false = alt-left (preceded-of (literal-of 44) (alt-left (both-of (words (text "relative") true) (alt-right pure-of))))
+flags-of true true =
+    alt-left (preceded-of (literal-of 44) (alt-left (both-of (words (text "relative") true) (alt-left (preceded-of (literal-of 44) (words (text "little") true))))))
+
 -- a test without addresses
 alone : (it : Item) (x : List ℕ) (al : List Address) → (itemFits it && none? al) ≡ true → (itemFits it ≡ true → Written x (test it)) → Written x (Test it al)
 alone it x [] t k = k (both-left (itemFits it) true t)
@@ -184,6 +209,19 @@ at-written a f = row-written at-row
     (values (fmap-of {h = λ (p : ℕ × Bool). test (item.At (record { number = p .0; relative = p .1 }))}
     (both-of (number-of maxWord (a .number) f) (relative-of (a .relative)))))
 
+byte-written : (a : ByteTest) → itemFits (item.Byte a) ≡ true → Written (testText (item.Byte a) []) (test (item.Byte a))
+unfolding testText itemFits byteText comparisonText
+byte-written a f =
+    let h = halves f in
+    row-written byte-row
+    (values {x = byteText a}
+    (fmap-of {h = byteTest}
+    (retexts (simp append-assoc)
+    (both-of (terminated-of (width-of (a .width)) (literal-of 44))
+    (both-of (terminated-of (byte-operator-of (a .operator)) (literal-of 44))
+    (both-of (terminated-of (numeral-of maxLong (a .value) (h .0)) (literal-of 44))
+    (both-of (number-of maxWord (a .offset) (h .1)) (flags-of (a .relative) (a .little)))))))))
+
 pub test-written : (it : Item) (al : List Address) → testFits (kindOf it) it al ≡ true → Written (testText it al) (Test it al)
 unfolding testText
 test-written item.Unused al t = impossible (cc)
@@ -194,6 +232,7 @@ test-written (item.Ttl a) al t = alone (item.Ttl a) (testText (item.Ttl a) []) a
 test-written (item.Field a) al t = alone (item.Field a) (testText (item.Field a) []) al t (field-written a)
 test-written (item.Size a) al t = alone (item.Size a) (testText (item.Size a) []) al t (size-written a)
 test-written (item.At a) al t = alone (item.At a) (testText (item.At a) []) al t (at-written a)
+test-written (item.Byte a) al t = alone (item.Byte a) (testText (item.Byte a) []) al t (byte-written a)
 test-written (item.Pattern p) al t = impossible (cc)
 
 -- ---- patterns and their modifiers

@@ -62,6 +62,13 @@ module _ {A : Type 0} {f g : Form A} {s : List ℕ} {c d : Cursor} {v : A} {t : 
   pub second-reads : t ≡ nextIn (firstSet f) s c → t ≡ false → Reads g s c v d → Reads (alt f g) s c v d
   second-reads e y r = record { reads = r .reads ∙ second-from f g s c (sym e ∙ y); inside = r .inside }
 
+  -- and back: where the byte decides, the reading is that of the one form
+  pub first-told : t ≡ nextIn (firstSet f) s c → t ≡ true → Reads (alt f g) s c v d → Reads f s c v d
+  first-told e y r = record { reads = r .reads ∙ sym (first-from f g s c (sym e ∙ y)); inside = r .inside }
+
+  pub second-told : t ≡ nextIn (firstSet f) s c → t ≡ false → Reads (alt f g) s c v d → Reads g s c v d
+  second-told e y r = record { reads = r .reads ∙ sym (second-from f g s c (sym e ∙ y)); inside = r .inside }
+
 -- ---- three in a row are chosen from the left
 
 module _ {A : Type 0} (f g h : Form A) (s : List ℕ) where

@@ -1,6 +1,6 @@
 -- How readings go together: a reading of a form is put together from readings of its parts, cursor by cursor.
 use mathlib.Core.Path.{_≡_, refl, sym, ap, _∙_, subst}
-use mathlib.Core.Bool.{Bool, true, false}
+use mathlib.Core.Bool.{Bool, true, false, true≢false}
 use mathlib.Core.List.{List}
 use Prim.Native.Nat.{ℕ, _+_, _-_, _≤_, _<_}
 use native.Mathlib.Omega.{arith}
@@ -164,6 +164,23 @@ limit-reads {A} {f} {s} {c} {d} {v} t i r =
       reads = by-limit t s v (placeOf c) d ∙ ap (bounded t (λ a. placeOf c)) (r .reads) ∙ limit-from t s f c i;
       inside = limit-inside t s (t v) (placeOf c) d (r .inside);
     }
+
+-- a bound inside a narrower one at the same place plays no part
+module _ {A : Type 0} {t u : A → Bool} (narrower : (a : A) → t a ≡ true → u a ≡ true) (s : List ℕ) where
+  narrow-bounded : (at : ℕ) (r : Read A) → bounded t (λ a. at) (bounded u (λ a. at) r) ≡ bounded t (λ a. at) r
+  narrow-bounded at (Parsed a n) =
+      by-cases (u a) (λ e. rw e) (λ e. by-cases (t a) (λ k. absurd (true≢false (sym (narrower a k) ∙ e))) (λ k. rw (e, k)))
+  narrow-bounded at (OutOfRange p n) = refl
+  narrow-bounded at (Failed p) = refl
+
+  narrow-at : (f : Form A) (at : ℕ) → at ≤ length s
+      → readAt (bound t (λ (a : A). 0) (bound u (λ (a : A). 0) f)) s at ≡ readAt (bound t (λ (a : A). 0) f) s at
+  narrow-at f at h =
+      first-at t s (bound u (λ (a : A). 0) f) at h ∙ ap (bounded t (λ a. at)) (first-at u s f at h) ∙ narrow-bounded at (readAt f s at) ∙ sym (first-at t s f at h)
+
+pub narrow-reads : {A : Type 0} {f : Form A} {s : List ℕ} {c d : Cursor} {v : A} {t u : A → Bool} → ((a : A) → t a ≡ true → u a ≡ true) → Inside s c
+    → Reads (bound u (λ (a : A). 0) f) s c v d → Reads (bound t (λ (a : A). 0) f) s c v (limitedBy (t v) (placeOf c) d)
+narrow-reads {A} {f} {s} {c} {d} {v} {t} {u} narrower i r = alike-reads (λ n h. narrow-at narrower s f n h) i (limit-reads t i r)
 
 -- ---- a scanner from a place on makes one from any cursor on
 

@@ -1,10 +1,12 @@
 // Words from a cursor on, their letter case ignored.
 ghost use mathlib.Core.Bool.{true, false};
 ghost use Prim.Native.Nat.{_≤_};
-ghost use lib.ListN.{length};
+ghost use lib.ListN.{length, getD};
+ghost use mathlib.Core.Path.{_≡_};
 ghost use Rattle.forms.specs.Pieces.{or, keyword, word};
 ghost use Rattle.definitions.specs.Forms.{comma};
-ghost use Rattle.scan_cursors.specs.Reads.{Inside, Reads};
+ghost use Rattle.scan_bytes.specs.Classes.{caseClass};
+ghost use Rattle.scan_cursors.specs.Reads.{Inside, nextIn, Reads};
 use crate::literals::next_is;
 use crate::literals::next_is_letter;
 use crate::literals::then_literal;
@@ -30,10 +32,10 @@ pub struct EitherAt {
     pub cursor: Cursor,
 }
 
-// Either of two words: the first letter of the one decides which must stand.
+// Either of two words: the first letter of the one decides which must stand, also where a number before it was beyond its limit.
 pub fn then_either_word(s: &[u8], c: Cursor, one: &[u8], other: &[u8]) -> EitherAt
     requires { ⌜ Inside (now s) c × (1 ≤ length (now one)) ⌝ }
-    ensures { λ r. ⌜ Reads (or (keyword (now (one .entry)) true) (keyword (now (other .entry)) false)) (now (s .entry)) c (r .first) (r .cursor) ⌝ }
+    ensures { λ r. ⌜ Reads (or (keyword (now (one .entry)) true) (keyword (now (other .entry)) false)) (now (s .entry)) c (r .first) (r .cursor) × (r .first ≡ nextIn (caseClass (getD (now (one .entry)) 0 0)) (now (s .entry)) c) ⌝ }
 {
     let letter = one[0];
     if next_is_letter(s, c, letter) {

@@ -39,7 +39,7 @@ use Rattle.search_items.specs.Items.{Small, ReadyItems, Trying}
 -- ---- what is wanted
 
 abbrev pub NoPattern : Item → Type 0
-NoPattern it = OneOf (0 ∷ 1 ∷ 2 ∷ 3 ∷ 4 ∷ 5 ∷ 6 ∷ 7 ∷ []) (tagOf item-type.the-type it)
+NoPattern it = OneOf (0 ∷ 1 ∷ 2 ∷ 3 ∷ 4 ∷ 5 ∷ 6 ∷ 7 ∷ 8 ∷ []) (tagOf item-type.the-type it)
 
 module _ (all : List Slot) (sl : Slot) (sls : List Slot) (u : all ≡ sl ∷ sls) (b : List ℕ) where
   pub constraints-test : NoPattern (sl .item) → constraints all b ≡ tested (sl .item) (sl .addresses) ∷ constraints sls b

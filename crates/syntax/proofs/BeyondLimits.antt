@@ -20,7 +20,7 @@ use Rattle.definitions.specs.Limits.{Limits}
 use Rattle.definitions.specs.OptionValues.{OptionValue}
 use Rattle.definitions.specs.Options.{listed}
 use Rattle.definitions.specs.Reading.{atDash, atLetter, readPlacing, read}
-use Rattle.definitions.specs.WrongPlaces.{span, OfForm, Limited, decimal, hex, name, BeyondLimit}
+use Rattle.definitions.specs.WrongPlaces.{span, OfForm, Limited, decimal, hex, count, name, BeyondLimit}
 use Rattle.laws.proofs.Placing.{OptionAnswers, limit-cause}
 use Rattle.syntax.proofs.Frame.{after}
 use Rattle.syntax.proofs.OptionAt.{Named, named-at, span-of}
@@ -36,6 +36,7 @@ broken-split s o (Stop r) p n e = never (cc)
 pub skip-within : {x : List ℕ} {n : ℕ} {k : Bool} → Limited x n k → n ≤ length x
 skip-within (decimal limit digits e d) = omega arith
 skip-within (hex limit x digits l e d) = omega arith
+skip-within (count digits e d) = omega arith
 skip-within (name bytes) = omega arith
 
 module _ (s : List ℕ) (dash p next : ℕ) (i : Named s dash (OutOfRange p next)) (y r : List ℕ) (v : OptionValue)

@@ -22,7 +22,7 @@ use Rattle.definitions.specs.Limits.{Limits}
 use Rattle.definitions.specs.Lists.{none?}
 use Rattle.definitions.specs.Options.{Option, inName, nameLength}
 use Rattle.definitions.specs.Reading.{atDash, atLetter, readPlacing, read}
-use Rattle.definitions.specs.WrongPlaces.{span, NamedAt, OfForm, BeginsForm, WrongByte, Limited, decimal, hex, name, BeyondLimit}
+use Rattle.definitions.specs.WrongPlaces.{span, NamedAt, OfForm, BeginsForm, WrongByte, Limited, decimal, hex, count, name, BeyondLimit}
 use Rattle.list_laws.proofs.Runs.{run-le}
 use Rattle.laws.proofs.Placing.{form-cause, limit-cause}
 use Rattle.syntax.proofs.Rows.{form-alone}
@@ -76,6 +76,7 @@ wrong-byte-exactly lim s p = (
 
 part-full : {x : List ℕ} {n : ℕ} {k : Bool} → Limited x n k → 0 < length x
 part-full (decimal limit digits e d) = some-byte digits (λ z. let q : none? {A = ℕ} [] ≡ false = rw z at e in cc)
+part-full (count digits e d) = some-byte digits (λ z. let q : none? {A = ℕ} [] ≡ false = rw z at e in cc)
 part-full (hex limit x digits l e d) = omega arith
 part-full (name bytes) = omega arith
 

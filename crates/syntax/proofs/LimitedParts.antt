@@ -1,7 +1,7 @@
--- What the limits of the options are on (`each-limited`): numbers in decimal, placed at the first digit, numbers in hex, placed at the first digit after
--- `0x`, and a name, placed at its first quote. Each row of the table is put together from these.
+-- What the limits of the options are on (`each-limited`): numbers in decimal and byte counts, placed at the first digit, numbers in hex, placed at the first
+-- digit after `0x`, and a name, placed at its first quote. Each row of the table is put together from these.
 use mathlib.Core.Path.{_≡_, refl, sym, ap, subst, _∙_}
-use mathlib.Core.Bool.{true, false}
+use mathlib.Core.Bool.{Bool, true, false}
 use mathlib.Core.List.{List, [], _∷_, _++_, List·Memᴰ as Mem, List·Memᴰ·head as first-one, List·Memᴰ·tail as later-one}
 use mathlib.Core.Logic.{inl, inr}
 use Prim.Native.Nat.{ℕ, _+_}
@@ -19,13 +19,14 @@ use Rattle.definitions.specs.declared.table.Side.the-variants.{Source, Destinat
 use Rattle.definitions.specs.declared.table.HeaderField.{HeaderField}
 use Rattle.definitions.specs.declared.table.HeaderField.the-variants.{TotalLength, Id, Checksum, Ttl}
 use Rattle.definitions.specs.declared.table.Address.{Address}
-use Rattle.definitions.specs.Limits.{maxByte, maxWord, maxPrefix}
+use Rattle.definitions.specs.Limits.{maxByte, maxWord, maxLong, maxPrefix}
 use Rattle.definitions.specs.Lists.{all?, none?}
-use Rattle.definitions.specs.Numbers.{decimalDigits, hexDigits, digitValue, valueOf, number, eitherBase, numeral}
+use Rattle.definitions.specs.Numbers.{decimalDigits, hexDigits, digitValue, valueOf, numberThat, number, eitherBase, numeral}
+use Rattle.definitions.specs.ByteCounts.{isByteCount}
 use Rattle.definitions.specs.OptionValues.{OptionValue}
-use Rattle.definitions.specs.Forms.{valued, quotable, nameForm, address, dotted, addressForm, maxField, fieldForm}
+use Rattle.definitions.specs.Forms.{valued, quotable, nameForm, address, dotted, addressForm, maxField, fieldForm, byteForm}
 use Rattle.definitions.specs.Options.{Option, optionTable}
-use Rattle.definitions.specs.WrongPlaces.{Limited, decimal, hex, name}
+use Rattle.definitions.specs.WrongPlaces.{Limited, decimal, hex, count, name}
 
 -- ---- bytes of a class
 
@@ -85,11 +86,17 @@ hexAfter = preceded (byte ((120, 120) ∷ (88, 88) ∷ [])) (fmap (λ (l : List 
 abbrev decimalAfter : Form (ℕ × ℕ)
 decimalAfter = fmap {B = ℕ × ℕ} (λ (l : List ℕ). (0, valueOf 10 0 l)) (many (byte decimalDigits))
 
-each-number : (limit : ℕ) → Each Limited ℕ (number limit)
+-- a number of which something is asked that is a limit of its digits
+each-number-that : (kept : ℕ → Bool)
+    → ((digits : List ℕ) → none? digits ≡ false → all? (has decimalDigits) digits ≡ true → Limited digits 0 (kept (valueOf 10 0 digits)))
+    → Each Limited ℕ (numberThat kept)
 unfolding Means
-each-number limit =
-    on {p = λ (n : ℕ). leb n limit} {j = λ (n : ℕ). 0} {f = fmap (valueOf 10 0) (some (byte decimalDigits))}
-    (λ x v m. let i = some-bytes decimalDigits x (m .0) (m .2) in rw (m .1, i .0) (decimal limit (m .0) (i .1) (i .2))) (unbounded refl)
+each-number-that kept limited =
+    on {p = kept} {j = λ (n : ℕ). 0} {f = fmap (valueOf 10 0) (some (byte decimalDigits))}
+    (λ x v m. let i = some-bytes decimalDigits x (m .0) (m .2) in rw (m .1, i .0) (limited (m .0) (i .1) (i .2))) (unbounded refl)
+
+each-number : (limit : ℕ) → Each Limited ℕ (number limit)
+each-number limit = each-number-that (λ (n : ℕ). leb n limit) (decimal limit)
 
 -- the two ways to go on after a 0, and the one without
 module _ (limit : ℕ) where
@@ -169,6 +176,13 @@ each-field f =
     (either (made (both (unbounded refl) (made (both (unbounded refl) (made (both (each-numeral (maxField f)) (unbounded refl))))))) (unbounded refl))
     (both (unbounded refl) (each-numeral (maxField f)))))
 
+each-byte-test : Each Limited OptionValue byteForm
+each-byte-test =
+    each-valued (made (both (made (both (made (each-number-that isByteCount count)) (unbounded refl)))
+    (both (unbounded refl)
+    (both (made (both (each-numeral maxLong) (unbounded refl)))
+    (both (each-number maxWord) (unbounded refl))))))
+
 -- a row's form, and the others'
 infixr 5 _also_
 data AllLimited : List Option → Type 1 where
@@ -195,6 +209,7 @@ rows-limited =
     also each-field Ttl
     also each-valued (made (both (unbounded refl) (both (each-number maxWord) (unbounded refl))))
     also each-valued (made (both (each-number maxWord) (unbounded refl)))
+    also each-byte-test
     also unbounded refl
     also unbounded refl
     also unbounded refl

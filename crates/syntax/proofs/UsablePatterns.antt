@@ -99,6 +99,7 @@ table-rows =
     and by-value (λ f. refl)
     and by-value (λ z. refl)
     and by-value (λ a. refl)
+    and by-value (λ b. refl)
     and by-value (λ p. refl)
     and by-value (λ c. refl)
     and by-itself refl

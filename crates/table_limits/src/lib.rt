@@ -4,6 +4,7 @@ ghost use lib.Dec.{leb};
 ghost use lib.IntN.{natAbs};
 ghost use Rattle.forms.specs.Bytes.{between};
 ghost use Rattle.definitions.specs.Limits.{maxWord, maxAddresses};
+ghost use Rattle.definitions.specs.ByteCounts.{byteCount};
 ghost use Rattle.definitions.specs.Forms.{maxField};
 ghost use Rattle.definitions.specs.WellFormed.{addressFits, addressUnused, distanceFits, itemFits};
 use definitions::limits::ADDRESSES;
@@ -19,6 +20,7 @@ use definitions::table::Item;
 use definitions::table::NumberField;
 use definitions::table::NumberTest;
 use definitions::table::Pattern;
+use definitions::table::Width;
 
 // An address test has 1 to 8 addresses.
 pub fn count_fits(count: usize) -> bool
@@ -66,6 +68,17 @@ pub fn field_fits(a: FieldTest) -> bool
         a.number as u64 <= most
     } else {
         false
+    }
+}
+
+// How many bytes a byte test reads.
+pub fn byte_count(width: Width) -> u64
+    ensures { λ r. ⌜ r ≡ byteCount width ⌝ }
+{
+    match width {
+        Width::One => 1,
+        Width::Two => 2,
+        Width::Four => 4,
     }
 }
 

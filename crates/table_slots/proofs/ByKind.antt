@@ -19,20 +19,21 @@ use Rattle.definitions.proofs.table.Item as item-type
 use Rattle.forms.proofs.Bools.{both-right}
 
 pub no-address : (P : Kind → Type 0) → P unused → ((q : Pattern) → P (patterned q)) → P plainTest → (it : Item)
-    → OneOf (0 ∷ 2 ∷ 3 ∷ 4 ∷ 5 ∷ 6 ∷ 7 ∷ 8 ∷ []) (tagOf item-type.the-type it) → P (kindOf it)
+    → OneOf (0 ∷ 2 ∷ 3 ∷ 4 ∷ 5 ∷ 6 ∷ 7 ∷ 8 ∷ 9 ∷ []) (tagOf item-type.the-type it) → P (kindOf it)
 no-address P u q p item.Unused k = u
-no-address P u q p (item.Address t) k = absurd (miss (0 ∷ 2 ∷ 3 ∷ 4 ∷ 5 ∷ 6 ∷ 7 ∷ 8 ∷ []) 1 tt k)
+no-address P u q p (item.Address t) k = absurd (miss (0 ∷ 2 ∷ 3 ∷ 4 ∷ 5 ∷ 6 ∷ 7 ∷ 8 ∷ 9 ∷ []) 1 tt k)
 no-address P u q p item.SameIp k = p
 no-address P u q p (item.Number t) k = p
 no-address P u q p (item.Ttl t) k = p
 no-address P u q p (item.Field t) k = p
 no-address P u q p (item.Size t) k = p
 no-address P u q p (item.At t) k = p
+no-address P u q p (item.Byte t) k = p
 no-address P u q p (item.Pattern t) k = q t
 
 pub in-use : (P : Kind → Type 0) → ((a : AddressTest) → P (addressed a)) → ((q : Pattern) → P (patterned q)) → P plainTest → (it : Item)
-    → OneOf (1 ∷ 2 ∷ 3 ∷ 4 ∷ 5 ∷ 6 ∷ 7 ∷ 8 ∷ []) (tagOf item-type.the-type it) → P (kindOf it)
-in-use P a q p item.Unused k = absurd (miss (1 ∷ 2 ∷ 3 ∷ 4 ∷ 5 ∷ 6 ∷ 7 ∷ 8 ∷ []) 0 tt k)
+    → OneOf (1 ∷ 2 ∷ 3 ∷ 4 ∷ 5 ∷ 6 ∷ 7 ∷ 8 ∷ 9 ∷ []) (tagOf item-type.the-type it) → P (kindOf it)
+in-use P a q p item.Unused k = absurd (miss (1 ∷ 2 ∷ 3 ∷ 4 ∷ 5 ∷ 6 ∷ 7 ∷ 8 ∷ 9 ∷ []) 0 tt k)
 in-use P a q p (item.Address t) k = a t
 in-use P a q p item.SameIp k = p
 in-use P a q p (item.Number t) k = p
@@ -40,6 +41,7 @@ in-use P a q p (item.Ttl t) k = p
 in-use P a q p (item.Field t) k = p
 in-use P a q p (item.Size t) k = p
 in-use P a q p (item.At t) k = p
+in-use P a q p (item.Byte t) k = p
 in-use P a q p (item.Pattern t) k = q t
 
 pub few-addresses : (it : Item) → itemFits it ≡ true → addressCount (kindOf it) ≤ maxAddresses
@@ -52,4 +54,5 @@ few-addresses (item.Ttl t) e = omega arith
 few-addresses (item.Field t) e = omega arith
 few-addresses (item.Size t) e = omega arith
 few-addresses (item.At t) e = omega arith
+few-addresses (item.Byte t) e = omega arith
 few-addresses (item.Pattern t) e = omega arith

@@ -20,6 +20,7 @@ pub fn item_fits(it: Item) -> bool
         Item::Field(a) => field_fits(a),
         Item::Size(_) => true,
         Item::At(_) => true,
+        Item::Byte(_) => true,
         Item::Pattern(p) => pattern_fits(p),
     }
 }

@@ -1,7 +1,8 @@
 // Keywords, as canonical text has them; what it leaves out is empty. They stand in one table, and one function puts any of them.
-ghost use Rattle.definitions.specs.Canonical.{sideName, numberName, orderText, fieldName, operatorText, sizeFieldText, referenceText};
+ghost use Rattle.definitions.specs.Canonical.{sideName, numberName, orderText, fieldName, operatorText, byteOperatorText, sizeFieldText, referenceText};
 ghost use Rattle.write_keywords.specs.Keywords.{Listed, spelled, Spells, flowKeyword, contextKeyword};
 ghost use Rattle.write_bytes.specs.Puts.{Puts};
+use definitions::table::ByteOperator;
 use definitions::table::Context;
 use definitions::table::Flow;
 use definitions::table::HeaderField;
@@ -100,6 +101,18 @@ pub fn operator_keyword(o: Operator) -> Keyword
         Operator::Greater => Keyword(84, 85),
         Operator::AtMost => Keyword(82, 84),
         Operator::AtLeast => Keyword(84, 86),
+    }
+}
+
+// The operator of a byte test.
+pub fn byte_operator_keyword(o: ByteOperator) -> Keyword
+    ensures { λ k. ⌜ Spells k (byteOperatorText o) ⌝ }
+{
+    match o {
+        ByteOperator::Greater => Keyword(84, 85),
+        ByteOperator::Less => Keyword(82, 83),
+        ByteOperator::Equal => Keyword(81, 82),
+        ByteOperator::Unequal => Keyword(80, 81),
     }
 }
 

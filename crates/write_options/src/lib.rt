@@ -12,6 +12,7 @@ use definitions::limits::NAME_BYTES;
 use definitions::table::Item;
 use definitions::table::Slot;
 use definitions::table::Table;
+use write_byte_tests::put_byte_test;
 use write_bytes::limits::at_most;
 use write_bytes::put;
 use write_bytes::put_decimal;
@@ -59,6 +60,7 @@ fn put_slot(out: &mut [u8], at: usize, slot: Slot, b: &[u8]) -> usize
         Item::Field(t) => put_field_test(out, at, t),
         Item::Size(t) => put_size_test(out, at, t),
         Item::At(t) => put_at_test(out, at, t),
+        Item::Byte(t) => put_byte_test(out, at, t),
         Item::Pattern(p) => put_pattern(out, at, p, b),
     }
 }

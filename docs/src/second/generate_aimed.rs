@@ -1,5 +1,6 @@
 //! Tables aimed at one message, so that most of them are met or nearly met.
 
+use crate::generate_byte_test;
 use crate::generate_item::sign;
 use crate::message::{pair, Message};
 use crate::random::Random;
@@ -23,7 +24,12 @@ pub fn table(random: &mut Random, message: &Message, alphabet: &[u8], patterns: 
                 let end = start + pattern.bytes.len() as u64;
                 last = Some(Placed { field: pattern.context, start, end });
             }
+            let positive = !pattern.negated;
             items.push(Item::Pattern(pattern));
+            if positive && random.chance(12) {
+                let test = generate_byte_test::near(random, message, last.as_ref());
+                items.push(Item::Test(test));
+            }
         } else {
             items.push(Item::Test(aimed_test(random, message, last.as_ref())));
         }
@@ -40,8 +46,12 @@ pub fn table(random: &mut Random, message: &Message, alphabet: &[u8], patterns: 
 fn aimed_test(random: &mut Random, message: &Message, last: Option<&Placed>) -> Test {
     let mut test = near_test(random, message, last);
     for _ in 0..8 {
-        // Half of the data_at that do not hold stay: they show the other side of the number.
-        let percent = if matches!(test, Test::DataAt { .. }) { 50 } else { 8 };
+        // Many that count bytes and do not hold stay: they show the other side of the number.
+        let percent = match test {
+            Test::DataAt { .. } => 50,
+            Test::ByteTest { .. } => 40,
+            _ => 8,
+        };
         if tests::holds(&test, message, last) || random.chance(percent) {
             break;
         }
@@ -53,7 +63,7 @@ fn aimed_test(random: &mut Random, message: &Message, last: Option<&Placed>) -> 
 /// A test whose number lies at or near the message's own.
 fn near_test(random: &mut Random, message: &Message, last: Option<&Placed>) -> Test {
     let datagram = message.datagram;
-    match random.below(12) {
+    match random.below(18) {
         0 | 1 => {
             let side = random.pick(&[Side::Source, Side::Destination]);
             let start = if side == Side::Source { 12 } else { 16 };
@@ -94,7 +104,7 @@ fn near_test(random: &mut Random, message: &Message, last: Option<&Placed>) -> T
             let length = message.field(field).map_or(0, <[u8]>::len) as u64;
             Test::DataSize { compare: sign(random), value: near(random, length), field }
         }
-        _ => {
+        10 | 11 => {
             let relative = random.chance(60);
             let start = last.filter(|_| relative);
             let field = start.map_or(Field::Packet, |last| last.field);
@@ -103,6 +113,7 @@ fn near_test(random: &mut Random, message: &Message, last: Option<&Placed>) -> T
             let at = random.below(following + 2);
             Test::DataAt { at: random.pick(&[following, following + 1, at, at / 2]), relative }
         }
+        _ => generate_byte_test::near(random, message, last),
     }
 }
 

@@ -1,5 +1,6 @@
 //! Patterns and tests of every kind, with numbers at and near their limits.
 
+use crate::generate_byte_test;
 use crate::random::Random;
 use crate::table::*;
 use crate::words::{CONTEXTS, OPERATORS, REFERENCES, SIZED_FIELDS};
@@ -17,7 +18,7 @@ pub fn number(random: &mut Random, limit: u64) -> u64 {
 }
 
 pub fn test(random: &mut Random) -> Test {
-    match random.below(12) {
+    match random.below(15) {
         0 | 1 => addresses(random, 4),
         2 => Test::SameIp,
         3 if random.chance(70) => Test::ip_id(number(random, 65535)),
@@ -42,7 +43,8 @@ pub fn test(random: &mut Random) -> Test {
             let field = random.pick(&SIZED_FIELDS).1;
             Test::DataSize { compare: sign(random), value: number(random, 65535), field }
         }
-        _ => Test::DataAt { at: number(random, 65535), relative: random.chance(50) },
+        10 | 11 => Test::DataAt { at: number(random, 65535), relative: random.chance(50) },
+        _ => generate_byte_test::any(random),
     }
 }
 

@@ -116,6 +116,13 @@ fn write_test(text: &mut Vec<u8>, test: &Test) {
             let relative = if *relative { ",relative" } else { "" };
             (OptionName::DataAt, format!("{at}{relative}"))
         }
+        Test::ByteTest { count, compare, value, offset, relative, little } => {
+            let operator = word(&BYTE_OPERATORS, *compare);
+            let relative = if *relative { ",relative" } else { "" };
+            let little = if *little { ",little" } else { "" };
+            let value = format!("{count},{operator},{value},{offset}{relative}{little}");
+            (OptionName::ByteTest, value)
+        }
     };
     option(text, word(&OPTIONS, kind), value.as_bytes());
 }

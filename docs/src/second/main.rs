@@ -20,6 +20,7 @@ mod words;
 
 mod damage;
 mod generate_aimed;
+mod generate_byte_test;
 mod generate_case;
 mod generate_item;
 mod generate_packet;
@@ -28,6 +29,7 @@ mod generate_text;
 mod odd;
 mod random;
 mod selftest;
+mod selftest_bytes;
 mod slips;
 mod spell;
 

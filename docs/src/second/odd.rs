@@ -3,7 +3,7 @@
 use crate::random::Random;
 
 /// Options whose number `#` has this limit.
-const NUMBERED: [(&str, u128); 37] = [
+const NUMBERED: [(&str, u128); 43] = [
     ("--protocol #;", 255),
     ("--src_addr #.2.3.4;", 255),
     ("--dst_addr !1.2.#.4;", 255),
@@ -41,16 +41,24 @@ const NUMBERED: [(&str, u128); 37] = [
     ("--ip_id #x;", 65535),
     ("--ip_tos 0x#;", 255),
     ("--distance #;", 65535),
+    ("--byte_test #,>,1,0;", 4),
+    ("--byte_test #,=,4294967296,0;", 2),
+    ("--byte_test 2,<,#,0;", 0xFFFF_FFFF),
+    ("--byte_test 4,=,#,65536,little;", 0xFFFF_FFFF),
+    ("--byte_test 1,!,7,#,relative;", 65535),
+    ("--byte_test 1,!,7,#,little,relative;", 65535),
 ];
 
-const HEX_NUMBERED: [(&str, u128); 4] = [
+const HEX_NUMBERED: [(&str, u128); 6] = [
     ("--ip.id & 0x# = 0X0;", 65535),
     ("--ip.ttl = 0X#;", 255),
     ("--ip.checksum&0x#!=1;", 65535),
     ("--ip.total_length >= 0x#;", 65535),
+    ("--byte_test 4,>,0x#,0;", 0xFFFF_FFFF),
+    ("--byte_test 1,!,0X#,9,relative,little;", 0xFFFF_FFFF),
 ];
 
-const SPELLED: [&str; 116] = [
+const SPELLED: [&str; 136] = [
     "--;",
     "-- name \"n\";",
     "--- ;",
@@ -167,6 +175,26 @@ const SPELLED: [&str; 116] = [
     "--within -1;",
     "--within 5,match,reverse;",
     "--distance 5,reverse;",
+    "--byte_test;",
+    "--byte_test 2,>,1,0;",
+    "--byte_test 2,>,1,0,LITTLE;",
+    "--byte_test 2,>,1,0,little,relative;",
+    "--byte_test 2,>,1,0,relative,relative;",
+    "--byte_test 2, >,1,0;",
+    "--byte_test 2,>,1,0 ,relative;",
+    "--byte_test 2,>=,1,0;",
+    "--byte_test 2,!=,1,0;",
+    "--byte_test 2,&,1,0;",
+    "--byte_test 3,>,1,0;",
+    "--byte_test 3,>,1;",
+    "--byte_test 0x2,>,1,0;",
+    "--byte_test 2,>,1,0x4;",
+    "--byte_test 2,>,0x,0;",
+    "--byte_test 2,>,1,-4,relative;",
+    "--byte_test 2,>,1,0,big;",
+    "--byte_test 4,>,$PKT_SIZE,4,relative;",
+    "--byte_test2,>,1,0;",
+    "--byte_jump 2,6;",
 ];
 
 const MODIFIED: [&str; 22] = [

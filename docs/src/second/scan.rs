@@ -80,7 +80,7 @@ impl<'a> Scan<'a> {
         self.digits(10, limit)
     }
 
-    /// Decimal, or `0x` or `0X` and hex digits: the four field tests only.
+    /// Decimal, or `0x` or `0X` and hex digits: the four field tests and a byte test's value.
     pub fn number_or_hex(&mut self, limit: u64) -> Option<u64> {
         if let [b'0', b'x' | b'X', ..] = self.text[self.at..] {
             self.at += 2;

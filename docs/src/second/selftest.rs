@@ -9,9 +9,9 @@ use crate::placements::ask;
 use crate::random::Random;
 use crate::reader::read;
 use crate::search::{lies_at, Placed};
+use crate::selftest_bytes;
 use crate::spell::Spell;
 use crate::table::*;
-use crate::tests;
 use std::io::{Error, Result as Written, Write};
 
 pub fn run(seed: u64, count: u64, mut output: impl Write) -> Written<()> {
@@ -103,7 +103,7 @@ fn meets(table: &Table, message: &Message, starts: &[u64]) -> bool {
     let mut holds = flow && table.protocol == u64::from(message.protocol());
     for item in &table.items {
         holds &= match item {
-            Item::Test(test) => tests::holds(test, message, last.as_ref()),
+            Item::Test(test) => selftest_bytes::holds(test, message, last.as_ref()),
             Item::Pattern(pattern) => {
                 let field = message.field(pattern.context);
                 let end = last.as_ref().map(|placed| placed.end);

@@ -86,5 +86,11 @@ fn values(option: OptionName) -> &'static [&'static str] {
         OptionName::NoCase => &[";", "  ;"],
         OptionName::Distance => &[" -65535,match;", " 10,packet,reverse;", "  0,CONTEXT ;"],
         OptionName::Within => &[" 65535,match;", " 10,packet ;", " 5,context;"],
+        OptionName::ByteTest => &[
+            " 2,>,0x1F,65535,relative,little;",
+            "  04,!,4294967295,0,LITTLE ;",
+            " 1,<,0XffFFffff,12;",
+            " 2,=,700,3,Relative;",
+        ],
     }
 }

@@ -248,6 +248,15 @@ impl<'a> Spell<'a> {
                 let relative = if *relative { self.word(",relative") } else { String::new() };
                 (OptionName::DataAt, self.number(*at) + &relative)
             }
+            Test::ByteTest { count, compare, value, offset, relative, little } => {
+                let count = self.number(*count);
+                let operator = word(&BYTE_OPERATORS, *compare);
+                let (value, offset) = (self.number_or_hex(*value), self.number(*offset));
+                let relative = if *relative { self.word(",relative") } else { String::new() };
+                let little = if *little { self.word(",little") } else { String::new() };
+                let value = format!("{count},{operator},{value},{offset}{relative}{little}");
+                (OptionName::ByteTest, value)
+            }
         };
         self.option(word(&OPTIONS, kind), &value)
     }

@@ -101,6 +101,15 @@ pub enum Test {
         at: u64,
         relative: bool,
     },
+    /// `>`, `<`, `=` or `!=` (written `!`) only; the count is 1, 2 or 4.
+    ByteTest {
+        count: u64,
+        compare: Compare,
+        value: u64,
+        offset: u64,
+        relative: bool,
+        little: bool,
+    },
 }
 
 #[derive(Clone, Copy, Debug, PartialEq, Eq)]

@@ -1,4 +1,4 @@
-//! When a test holds (document 01, "Meaning").
+//! When a test holds (document 01, "Meaning"; document 02, T-01 and T-04).
 
 use crate::message::{pair, Message, TCP, UDP};
 use crate::search::Placed;
@@ -21,7 +21,17 @@ pub fn holds(test: &Test, message: &Message, last: Option<&Placed>) -> bool {
         Test::DataSize { compare, value, field } => {
             message.field(*field).is_some_and(|bytes| compare.holds(bytes.len() as u64, *value))
         }
-        Test::DataAt { at, relative } => data_at(*at, *relative, message, last),
+        // At least N bytes follow.
+        Test::DataAt { at, relative } => {
+            following(*relative, message, last).is_some_and(|bytes| bytes.len() as u64 >= *at)
+        }
+        // If one byte lies past the end it doesn't hold, not even `!`.
+        Test::ByteTest { count, compare, value, offset, relative, little } => {
+            let bytes = following(*relative, message, last);
+            let bytes = bytes.and_then(|bytes| bytes.get(*offset as usize..));
+            let bytes = bytes.and_then(|bytes| bytes.get(..*count as usize));
+            bytes.is_some_and(|bytes| compare.holds(number(bytes, *little), *value))
+        }
     }
 }
 
@@ -59,13 +69,26 @@ fn header(message: &Message, field: HeaderField) -> u64 {
     }
 }
 
-/// At least N bytes follow the starting point (document 02, T-04): the payload's start, or
-/// with relative the end of the last positive pattern before, in its field, if there is one.
-fn data_at(at: u64, relative: bool, message: &Message, last: Option<&Placed>) -> bool {
+/// What follows the starting point of data_at and byte_test: the payload's start, or with
+/// relative the end of the last positive pattern before, in its field, if there is one.
+pub fn following<'a>(
+    relative: bool,
+    message: &Message<'a>,
+    last: Option<&Placed>,
+) -> Option<&'a [u8]> {
     let (field, from) = match last {
         Some(placed) if relative => (placed.field, placed.end),
         _ => (Field::Packet, 0),
     };
-    let following = message.field(field).and_then(|bytes| bytes.get(from as usize..));
-    following.is_some_and(|bytes| bytes.len() as u64 >= at)
+    message.field(field).and_then(|bytes| bytes.get(from as usize..))
+}
+
+/// The number of these bytes, big end first or little end first; it has no sign.
+pub fn number(bytes: &[u8], little: bool) -> u64 {
+    let add = |number: u64, byte: &u8| number * 256 + u64::from(*byte);
+    if little {
+        bytes.iter().rev().fold(0, add)
+    } else {
+        bytes.iter().fold(0, add)
+    }
 }

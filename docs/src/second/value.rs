@@ -1,4 +1,4 @@
-//! The value of each option (document 01, the table of section "Text").
+//! The value of each option (document 01, the table of section "Text"; document 02, T-01).
 
 use crate::scan::Scan;
 use crate::table::*;
@@ -73,6 +73,7 @@ fn value(option: OptionName, scan: &mut Scan) -> Option<Parsed> {
         OptionName::NoCase => Parsed::NoCase,
         OptionName::Distance => Parsed::Distance(distance(scan)?),
         OptionName::Within => Parsed::Within(within(scan)?),
+        OptionName::ByteTest => Parsed::Test(byte_test(scan)?),
     };
     Some(parsed)
 }
@@ -151,6 +152,32 @@ fn data_at(scan: &mut Scan) -> Option<Test> {
         scan.listed(&[("relative", ())])?;
     }
     Some(Test::DataAt { at, relative })
+}
+
+/// Any count of bytes is of the form; another than 1, 2 or 4 is beyond its limit.
+fn byte_test(scan: &mut Scan) -> Option<Test> {
+    let first_digit = scan.at();
+    let count = scan.number(4)?;
+    if matches!(count, 0 | 3) {
+        scan.note_beyond(first_digit);
+    }
+    scan.due(b',')?;
+    let compare = scan.listed(&BYTE_OPERATORS)?;
+    scan.due(b',')?;
+    let value = scan.number_or_hex(0xFFFF_FFFF)?;
+    scan.due(b',')?;
+    let offset = scan.number(65535)?;
+    let (mut relative, mut little) = (false, false);
+    if scan.eat(b',') {
+        little = scan.listed(&[("relative", false), ("little", true)])?;
+        relative = !little;
+        // Only behind `relative` may another word stand.
+        if relative && scan.eat(b',') {
+            scan.listed(&[("little", ())])?;
+            little = true;
+        }
+    }
+    Some(Test::ByteTest { count, compare, value, offset, relative, little })
 }
 
 /// `" ; \ | :` are written only in hex blocks.

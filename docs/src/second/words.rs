@@ -1,4 +1,4 @@
-//! The listed option names and keywords (document 01, table of section "Text").
+//! The listed option names and keywords (document 01, table of section "Text"; document 02).
 //!
 //! Reader and writer share these lists, so that each word is spelled once.
 
@@ -22,9 +22,10 @@ pub enum OptionName {
     NoCase,
     Distance,
     Within,
+    ByteTest,
 }
 
-pub const OPTIONS: [(&str, OptionName); 22] = [
+pub const OPTIONS: [(&str, OptionName); 23] = [
     ("name", OptionName::Name),
     ("protocol", OptionName::Protocol),
     ("flow", OptionName::Flow),
@@ -47,6 +48,7 @@ pub const OPTIONS: [(&str, OptionName); 22] = [
     ("no_case", OptionName::NoCase),
     ("distance", OptionName::Distance),
     ("within", OptionName::Within),
+    ("byte_test", OptionName::ByteTest),
 ];
 
 pub const PROTOCOLS: [(&str, u64); 3] = [("tcp", 6), ("udp", 17), ("icmp", 1)];
@@ -81,6 +83,14 @@ pub const OPERATORS: [(&str, Compare); 6] = [
     ("=", Compare::Equal),
     ("<", Compare::Less),
     (">", Compare::Greater),
+];
+
+/// The operators of byte_test; its `!` is the `!=` of the field tests.
+pub const BYTE_OPERATORS: [(&str, Compare); 4] = [
+    (">", Compare::Greater),
+    ("<", Compare::Less),
+    ("=", Compare::Equal),
+    ("!", Compare::NotEqual),
 ];
 
 /// What a word means; option names and keywords ignore letter case.

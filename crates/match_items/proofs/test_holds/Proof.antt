@@ -48,8 +48,14 @@ enum-known-item-6 c = c .match .keys8
 at-holds-requires : tie.Need-at-holds-requires
 at-holds-requires c κs = tt
 
+enum-known-item-7 : tie.Need-enum-known-item-7
+enum-known-item-7 c = c .match .keys9
+
+byte-holds-requires : tie.Need-byte-holds-requires
+byte-holds-requires c κs = tt
+
 enum-told-3 : tie.Need-enum-told-3
-enum-told-3 c = c .match .keys9
+enum-told-3 c = c .match .keys10
 
 returns : tie.Need-returns
 unfolding testHolds
@@ -85,7 +91,11 @@ returns-8 c = rw (c .before .before .item6 .given .1) (c .at-holds .ensures (c .
 
 returns-9 : tie.Need-returns-9
 unfolding testHolds
-returns-9 c = rw (c .enum-told3 .given .1)
+returns-9 c = rw (c .before .before .item7 .given .1) (c .byte-holds .ensures (c .before .before .before .before .before .before .args .f))
+
+returns-10 : tie.Need-returns-10
+unfolding testHolds
+returns-10 c = rw (c .enum-told3 .given .1)
 
 pub test-holds-spec : {M : Type 1} → statement M
 test-holds-spec =
@@ -106,6 +116,8 @@ test-holds-spec =
     size-holds-requires
     enum-known-item-6
     at-holds-requires
+    enum-known-item-7
+    byte-holds-requires
     enum-told-3
     returns
     returns-2
@@ -115,4 +127,5 @@ test-holds-spec =
     returns-6
     returns-7
     returns-8
-    returns-9)
+    returns-9
+    returns-10)

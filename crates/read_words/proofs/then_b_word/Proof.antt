@@ -26,7 +26,7 @@ returns c =
     let w = e .before .before .before in
     let start = w .then-word .ensures in
     preceded-reads (w .before .before .before .pre) start
-    (either-first (text "ody") (text "anner") _ _ (start .inside) (e .then-either-word .ensures) (c .if1 .taken))
+    (either-first (text "ody") (text "anner") _ _ (start .inside) (e .then-either-word .ensures .0) (c .if1 .taken))
 
 returns-2 : tie.Need-returns-2
 returns-2 c =
@@ -34,7 +34,7 @@ returns-2 c =
     let w = e .before .before .before in
     let start = w .then-word .ensures in
     preceded-reads (w .before .before .before .pre) start
-    (either-second (text "ody") (text "anner") _ _ (start .inside) (e .then-either-word .ensures) (c .if1 .left))
+    (either-second (text "ody") (text "anner") _ _ (start .inside) (e .then-either-word .ensures .0) (c .if1 .left))
 
 pub then-b-word-spec : {M : Type 1} → statement M
 then-b-word-spec =

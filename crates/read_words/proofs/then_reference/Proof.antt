@@ -35,7 +35,7 @@ returns-2 c =
     let k = e .before .before .before in
     let i = k .before .before .before .pre in
     second-reads (k .before .next-is-letter .ensures) (k .if1 .left)
-    (either-first (text "packet") (text "context") _ _ i (e .then-either-word .ensures) (c .if2 .taken))
+    (either-first (text "packet") (text "context") _ _ i (e .then-either-word .ensures .0) (c .if2 .taken))
 
 returns-3 : tie.Need-returns-3
 returns-3 c =
@@ -43,7 +43,7 @@ returns-3 c =
     let k = e .before .before .before in
     let i = k .before .before .before .pre in
     second-reads (k .before .next-is-letter .ensures) (k .if1 .left)
-    (either-second (text "packet") (text "context") _ _ i (e .then-either-word .ensures) (c .if2 .left))
+    (either-second (text "packet") (text "context") _ _ i (e .then-either-word .ensures .0) (c .if2 .left))
 
 pub then-reference-spec : {M : Type 1} → statement M
 then-reference-spec =

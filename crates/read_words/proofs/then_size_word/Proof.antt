@@ -55,7 +55,7 @@ returns-3 c =
     let i = k1 .before .before .before .pre in
     second-reads (k1 .before .next-is-letter .ensures) (k1 .if1 .left)
     (second-reads (k2 .before .next-is-letter2 .ensures) (k2 .if2 .left)
-    (either-first (text "header") (text "body") _ _ i (e .then-either-word .ensures) (c .if3 .taken)))
+    (either-first (text "header") (text "body") _ _ i (e .then-either-word .ensures .0) (c .if3 .taken)))
 
 returns-4 : tie.Need-returns-4
 returns-4 c =
@@ -65,7 +65,7 @@ returns-4 c =
     let i = k1 .before .before .before .pre in
     second-reads (k1 .before .next-is-letter .ensures) (k1 .if1 .left)
     (second-reads (k2 .before .next-is-letter2 .ensures) (k2 .if2 .left)
-    (either-second (text "header") (text "body") _ _ i (e .then-either-word .ensures) (c .if3 .left)))
+    (either-second (text "header") (text "body") _ _ i (e .then-either-word .ensures .0) (c .if3 .left)))
 
 pub then-size-word-spec : {M : Type 1} → statement M
 then-size-word-spec =

@@ -58,6 +58,12 @@ put-at-test-requires c κs = tt
 enum-known-item-7 : tie.Need-enum-known-item-7
 enum-known-item-7 c = search needs
 
+put-byte-test-requires : tie.Need-put-byte-test-requires
+put-byte-test-requires c κs = tt
+
+enum-known-item-8 : tie.Need-enum-known-item-8
+enum-known-item-8 c = search needs
+
 put-pattern-requires : tie.Need-put-pattern-requires
 put-pattern-requires c κs = tt
 
@@ -142,10 +148,20 @@ returns-9 c =
     let c2 = c .before .before in
     let c5 = c2 .before .before .before in
     let c10 = c5 .before .before .before .before .before in
-    told (pattern-text (c10 .args .slot) (c10 .args .b .now) (c5 .item7 .given .0 .0) (c5 .item7 .given .1)) (c2 .put-pattern .ensures)
+    told (plain-text (c10 .args .slot) (c10 .args .b .now) (item.Byte (c5 .item7 .given .0 .0)) refl (c5 .item7 .given .1)) (c2 .put-byte-test .ensures)
 
 same-length-8 : tie.Need-same-length-8
 same-length-8 c = same (returns-9 c)
+
+returns-10 : tie.Need-returns-10
+returns-10 c =
+    let c2 = c .before .before in
+    let c5 = c2 .before .before .before in
+    let c10 = c5 .before .before .before .before .before in
+    told (pattern-text (c10 .args .slot) (c10 .args .b .now) (c5 .item8 .given .0 .0) (c5 .item8 .given .1)) (c2 .put-pattern .ensures)
+
+same-length-9 : tie.Need-same-length-9
+same-length-9 c = same (returns-10 c)
 
 pub put-slot-spec : {M : Type 1} → statement M
 put-slot-spec =
@@ -168,6 +184,8 @@ put-slot-spec =
     enum-known-item-6
     put-at-test-requires
     enum-known-item-7
+    put-byte-test-requires
+    enum-known-item-8
     put-pattern-requires
     returns
     same-length
@@ -185,4 +203,6 @@ put-slot-spec =
     same-length-7
     returns-8
     same-length-8
-    returns-9)
+    returns-9
+    same-length-9
+    returns-10)

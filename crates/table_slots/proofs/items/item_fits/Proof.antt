@@ -3,7 +3,7 @@ use Prim.Native.Nat.{_≤_}
 use native.Mathlib.Omega.{arith}
 use borrow.Author.Tests.{le-leb}
 use borrow.Author.Needs.{needs}
-use Rattle.definitions.specs.Limits.{maxByte, maxWord}
+use Rattle.definitions.specs.Limits.{maxByte, maxWord, maxLong}
 use Rattle.definitions.specs.WellFormed.{itemFits}
 use Rattle.table_slots.proofs.items.item_fits.Statement.{statement}
 use Rattle.table_slots.proofs.items.item_fits.Tie as tie
@@ -40,6 +40,9 @@ enum-told-4 c = search needs
 
 enum-told-5 : tie.Need-enum-told-5
 enum-told-5 c = search needs
+
+enum-told-6 : tie.Need-enum-told-6
+enum-told-6 c = search needs
 
 enum-known-it-4 : tie.Need-enum-known-it-4
 enum-known-it-4 c = search needs
@@ -93,7 +96,16 @@ returns-8 c =
 
 returns-9 : tie.Need-returns-9
 unfolding itemFits
-returns-9 c = rw (c .before .before .it4 .given .1) (c .pattern-fits .ensures)
+returns-9 c =
+    let t = c .enum-told6 .given .0 .0 in
+    let g = rw (c .enum-told6 .given .1) at (c .before .before .good .0 .1 .1) in
+    let value : t .value ≤ maxLong = omega (arith, g) in
+    let offset : t .offset ≤ maxWord = omega (arith, g) in
+    rw (c .enum-told6 .given .1, le-leb (t .value) maxLong value, le-leb (t .offset) maxWord offset)
+
+returns-10 : tie.Need-returns-10
+unfolding itemFits
+returns-10 c = rw (c .before .before .it4 .given .1) (c .pattern-fits .ensures)
 
 pub item-fits-spec : {M : Type 1} → statement M
 item-fits-spec =
@@ -110,6 +122,7 @@ item-fits-spec =
     field-fits-requires
     enum-told-4
     enum-told-5
+    enum-told-6
     enum-known-it-4
     pattern-fits-requires
     returns
@@ -120,4 +133,5 @@ item-fits-spec =
     returns-6
     returns-7
     returns-8
-    returns-9)
+    returns-9
+    returns-10)

@@ -1,7 +1,7 @@
 -- Each return rewrites with the test and the constructor that led there.
 use borrow.Author.Tests.{not-true, not-false}
-use Rattle.match_length_tests.proofs.at_start.Statement.{statement}
-use Rattle.match_length_tests.proofs.at_start.Tie as tie
+use Rattle.match_origins.proofs.at_context.Statement.{statement}
+use Rattle.match_origins.proofs.at_context.Tie as tie
 
 returns : tie.Need-returns
 returns c = rw (not-true (c .before .args .relative) (c .if1 .taken))
@@ -18,5 +18,5 @@ returns-2 c = rw (not-false (c .before .before .before .args .relative) (c .befo
 returns-3 : tie.Need-returns-3
 returns-3 c = rw (not-false (c .before .before .before .before .args .relative) (c .before .before .before .if1 .left), c .before .last .given .1)
 
-pub at-start-spec : {M : Type 1} → statement M
-at-start-spec = tie.close (tie.spec returns enum-told enum-known-last returns-2 returns-3)
+pub at-context-spec : {M : Type 1} → statement M
+at-context-spec = tie.close (tie.spec returns enum-told enum-known-last returns-2 returns-3)
