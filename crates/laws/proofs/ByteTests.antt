@@ -1,23 +1,24 @@
 -- byte_test. It holds exactly if its field is present, every byte that it reads lies in it, and their number stands to the value as the operator says
 -- (`byte-test-exactly`); so past the end none holds, `!` as little as the others (`byte-test-past`). Of a field's bytes it depends on those that it reads alone
--- (`byte-test-reads`). Document 02, T-01.
-use mathlib.Core.Path.{_≡_, sym, ap, _∙_}
+-- (`byte-test-reads`), and `little` changes nothing with one (`little-alone`). Document 02, T-01.
+use mathlib.Core.Path.{_≡_, refl, sym, ap, _∙_}
 use mathlib.Core.Logic.{_↔_}
-use mathlib.Core.Bool.{Bool, true, false, not, _&&_, true≢false, false≢true}
-use mathlib.Core.List.{List}
+use mathlib.Core.Bool.{Bool, true, false, not, _&&_, false≢true}
+use mathlib.Core.List.{List, [], _∷_}
 use Prim.Native.Nat.{ℕ, _+_, _≤_, _<_}
 use native.Mathlib.Omega.{arith}
 use lib.ListN.{length, take, drop}
 use lib.Dec.{eqb, leb}
-use borrow.Author.Tests.{eqb-true, eqb-false, eq-eqb, ne-eqb, leb-true, le-leb, lt-leb, ltb-true, lt-ltb}
+use borrow.Author.Tests.{eqb-true, eq-eqb, ne-eqb, leb-true, le-leb, ltb-true, lt-ltb}
 use Rattle.forms.proofs.Bools.{by-cases, both-left, both-right}
 use Rattle.definitions.specs.declared.table.ByteOperator.{ByteOperator}
 use Rattle.definitions.specs.declared.table.ByteOperator.the-variants.{Greater, Less, Equal, Unequal}
 use Rattle.definitions.specs.declared.table.ByteTest.{ByteTest}
 use Rattle.definitions.specs.declared.packets.LastMatch.{LastMatch}
 use Rattle.definitions.specs.ByteCounts.{byteCount}
+use Rattle.definitions.specs.Packet.{bigEndian}
 use Rattle.definitions.specs.Fields.{View}
-use Rattle.definitions.specs.Tests.{operatorHolds, atContext, atStart, comparedBy, numberAt, bytesHold, byteHolds}
+use Rattle.definitions.specs.Tests.{operatorHolds, atContext, atStart, comparedBy, bigEndFirst, numberAt, bytesHold, byteHolds}
 
 -- ---- the operators
 
@@ -78,3 +79,12 @@ pub byte-test-reads : (t : ByteTest) (at : ℕ) (d d′ : List ℕ) → length d
     → take (byteCount (t .width)) (drop at d) ≡ take (byteCount (t .width)) (drop at d′) → bytesHold t at d ≡ bytesHold t at d′
 unfolding bytesHold numberAt
 byte-test-reads t at d d′ n e = rw (n, e)
+
+-- of one byte either end is the same
+pub little-alone : (d : List ℕ) (at : ℕ) → numberAt true 1 d at ≡ numberAt false 1 d at
+unfolding numberAt
+little-alone d at = go (drop at d)
+  where
+    go : (l : List ℕ) → bigEndian 1 (bigEndFirst true (take 1 l)) 0 ≡ bigEndian 1 (bigEndFirst false (take 1 l)) 0
+    go [] = refl
+    go (b ∷ l) = refl

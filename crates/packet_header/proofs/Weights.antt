@@ -1,5 +1,6 @@
 -- THE NUMBER OF SOME BYTES, over their width and over the end that comes first: the byte at place i from its little end has the weight 256 ^ i
--- (`number-weighs`); so it is below 256 to the width (`number-below`). What header fields are read by, and byte_test (document 02, T-01).
+-- (`number-weighs`); so it is below 256 to the width (`number-below`). Header fields are such numbers, big end first (`header-number`), and byte_test compares
+-- them (document 02, T-01).
 use mathlib.Core.Path.{_≡_, refl, sym, ap, _∙_}
 use mathlib.Core.Bool.{Bool, true, false}
 use mathlib.Core.List.{List, reverse}
@@ -11,7 +12,7 @@ use lib.Seq.{getD-take, getD-drop}
 use borrow.Author.Tests.{ltb-true, ltb-false}
 use Rattle.definitions.specs.Packet.{bigEndian}
 use Rattle.definitions.specs.Tests.{bigEndFirst, numberAt}
-use Rattle.packet_header.proofs.Widths.{be-below}
+use Rattle.packet_header.proofs.Widths.{be-below, be-take, be-drop}
 use Rattle.packet_header.proofs.Reversed.{reverse-read, reverse-bytes}
 
 -- ---- what the statement says
@@ -42,6 +43,10 @@ be-weighs (suc n) l =
     let rest : weighed n (λ i. getD l (n - suc i) 0) ≡ weighed n (λ i. getD l (suc n - suc (suc i)) 0) =
     weighed-alike n _ _ (λ i k. ap (λ j. getD l j 0) (omega arith)) in
     omega (arith, be-weighs n l, last, rest)
+
+pub header-number : (n : ℕ) (d : List ℕ) (at : ℕ) → numberAt false n d at ≡ bigEndian n d at
+unfolding numberAt
+header-number n d at = be-take n n (drop at d) 0 (omega arith) ∙ be-drop n at d 0 ∙ ap (bigEndian n d) (omega arith)
 
 module _ (n : ℕ) (d : List ℕ) (at : ℕ) (inside : at + n ≤ length d) where
   part-length : length (take n (drop at d)) ≡ n

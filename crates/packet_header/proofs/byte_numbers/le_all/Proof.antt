@@ -1,5 +1,5 @@
 -- The loop has read the last bytes down to place i: the first of the reversed bytes. Four bytes at most are below 2 ^ 32, so nothing wraps.
-use Prim.Native.Nat.{ℕ, suc, _+_, _-_, _≤_, _<_}
+use Prim.Native.Nat.{ℕ, _-_, _≤_, _<_}
 use mathlib.Core.Path.{_≡_, ap, _∙_}
 use mathlib.Core.List.{reverse}
 use lib.ListN.{length, getD}
