@@ -8,7 +8,7 @@ use lib.ListN.{length}
 use lib.Dec.{eqb}
 use borrow.Author.Tests.{eq-eqb, ne-eqb}
 use Rattle.definitions.specs.Lists.{none?}
-use Rattle.line_parts.specs.Parts.{contains, partBefore, partAfter}
+use Rattle.definitions.specs.Parts.{contains, partBefore, partAfter}
 use Rattle.case_columns.specs.Queries.{isEnclosed}
 
 none-by : (l : List ℕ) → eqb (length l) 0 ≡ none? l

@@ -6,7 +6,7 @@ use Prim.Native.Nat.{ℕ}
 use Rattle.forms.specs.Bytes.{if_then_else_, text}
 use Rattle.forms.proofs.Bools.{by-cases}
 use Rattle.definitions.specs.Lists.{sameBytes}
-use Rattle.line_parts.specs.Parts.{partBefore, partAfter}
+use Rattle.definitions.specs.Parts.{partBefore, partAfter}
 use Rattle.case_columns.specs.declared.Queried.{Queried}
 use Rattle.case_columns.specs.Queries.{Query, all, first, next, isEnclosed, isQuery, queryOf, isKind, queryBy}
 use Rattle.case_columns.specs.Queries.{queriedBy, noQuery, parsedStarts, parsedNext, parsedQuery}

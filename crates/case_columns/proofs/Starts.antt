@@ -13,11 +13,12 @@ use Rattle.definitions.specs.Lists.{all?, none?, padded}
 use Rattle.definitions.specs.Starts.{startAt}
 use Rattle.definitions.specs.Answers.{placementOf}
 use Rattle.list_laws.proofs.Padded.{padded-one}
-use Rattle.line_parts.specs.Parts.{partBefore, parts}
+use Rattle.definitions.specs.Parts.{partBefore, parts}
 use Rattle.line_parts.proofs.PartsFrom.{partsFrom, from-start, from-step, from-end}
 use Rattle.line_numbers.specs.declared.decimals.NumberResult.{NumberResult}
 use Rattle.line_numbers.specs.declared.decimals.NumberResult.the-variants as number
-use Rattle.line_numbers.specs.Decimals.{isNumber, parsedNumber}
+use Rattle.definitions.specs.Numbers.{isNumber}
+use Rattle.line_numbers.specs.Decimals.{parsedNumber}
 use Rattle.line_numbers.proofs.Results.{failed-number, parsed-number, number-value}
 use Rattle.case_columns.specs.declared.Queried.{Queried}
 use Rattle.case_columns.specs.declared.Kind.the-variants.{Next}

@@ -9,11 +9,10 @@ use Rattle.definitions.specs.declared.packets.Placement.{Placement}
 use Rattle.definitions.specs.declared.packets.Start.{Start}
 use Rattle.definitions.specs.Limits.{maxPatterns}
 use Rattle.definitions.specs.Lists.{all?, none?, sameBytes}
-use Rattle.definitions.specs.Numbers.{valueOf}
+use Rattle.definitions.specs.Numbers.{valueOf, isNumber}
 use Rattle.definitions.specs.Starts.{startAt}
 use Rattle.definitions.specs.Answers.{placementOf}
-use Rattle.line_parts.specs.Parts.{contains, partBefore, partAfter, parts}
-use Rattle.line_numbers.specs.Decimals.{isNumber}
+use Rattle.definitions.specs.Parts.{contains, partBefore, partAfter, parts}
 use Rattle.case_columns.specs.declared.Kind.{Kind}
 use Rattle.case_columns.specs.declared.Kind.the-variants.{All, First, Next, Bad}
 use Rattle.case_columns.specs.declared.Queried.{Queried}

@@ -1,6 +1,6 @@
 -- The columns of a line together: the room that pairs need, each way in which a line is bad, and the line as its columns.
 use mathlib.Core.Path.{_≡_, refl, sym, ap, _∙_}
-use mathlib.Core.Bool.{Bool, true, false, _&&_, and-false}
+use mathlib.Core.Bool.{true, false, _&&_, and-false}
 use mathlib.Core.List.{List}
 use Prim.Native.Nat.{ℕ, _*_, _≤_, _<_}
 use native.Mathlib.Omega.{arith}
@@ -16,13 +16,11 @@ use Rattle.definitions.specs.declared.answers.Reading.{Reading}
 use Rattle.definitions.specs.Limits.{documentLimits}
 use Rattle.definitions.specs.Reading.{read}
 use Rattle.definitions.specs.Cases.{pairs}
-use Rattle.line_parts.specs.Parts.{contains, partBefore, partAfter, afterParts}
-use Rattle.line_parts.proofs.Delimiters.{part-le}
-use Rattle.line_numbers.specs.HexPairs.{isHex}
+use Rattle.definitions.specs.Parts.{contains, partBefore, partAfter, afterParts}
+use Rattle.line_parts.proofs.Delimiters.{after-next, part-is, part-within}
 use Rattle.line_packets.specs.declared.packets.PacketColumns.{PacketColumns}
-use Rattle.line_packets.specs.Directions.{isDirection}
-use Rattle.line_fields.specs.FieldMaps.{isMap}
 use Rattle.line_packets.specs.Packets.{isPacket, packetOf}
+use Rattle.line_packets.proofs.FourColumns.{packet-and}
 use Rattle.case_columns.specs.Queries.{Query, isQuery, queryOf}
 use Rattle.case_lines.specs.CaseLines.{maxLine, isCase, caseOf}
 use Rattle.case_lines.specs.CaseAnswers.{queryText, unreadText, outcomeText, readingText, caseAnswer}
@@ -52,16 +50,10 @@ refused-is u v {r = r} dir m a g h =
 
 -- ---- the columns
 
-and-last : (b c e g h : Bool) → (b && (c && (e && (g && h)))) ≡ ((b && (c && (e && g))) && h)
-and-last true true true g h = refl
-and-last true true false g h = refl
-and-last true false e g h = refl
-and-last false c e g h = refl
-
 module _ (o p f d a s : List ℕ) where
   are-columns : areColumns o p f d a s ≡ (isPacket o p f d && isQuery a)
-  unfolding areColumns isPacket
-  are-columns = and-last (isDirection o) (isHex p) (isMap f) (isHex d) (isQuery a)
+  unfolding areColumns
+  are-columns = packet-and o p f d (isQuery a)
 
   pub no-query : isQuery a ≡ false → columnsText o p f d a s ≡ text "bad"
   unfolding columnsText
@@ -87,39 +79,44 @@ module _
     (l r1 r2 r3 r4 : List ℕ) (h : length l ≤ maxLine)
     (q1 : r1 ≡ partAfter 9 l) (q2 : r2 ≡ partAfter 9 r1) (q3 : r3 ≡ partAfter 9 r2) (q4 : r4 ≡ partAfter 9 r3)
   where
-    two : r2 ≡ partAfter 9 (partAfter 9 l)
-    two = q2 ∙ ap (partAfter 9) q1
+    zero : l ≡ afterParts 9 0 l
+    unfolding afterParts
+    zero = refl
 
-    three : r3 ≡ partAfter 9 (partAfter 9 (partAfter 9 l))
-    three = q3 ∙ ap (partAfter 9) two
+    one : r1 ≡ afterParts 9 1 l
+    one = after-next 9 0 l zero q1
 
-    four : r4 ≡ partAfter 9 (partAfter 9 (partAfter 9 (partAfter 9 l)))
-    four = q4 ∙ ap (partAfter 9) three
+    two : r2 ≡ afterParts 9 2 l
+    two = after-next 9 1 l one q2
+
+    three : r3 ≡ afterParts 9 3 l
+    three = after-next 9 2 l two q3
+
+    four : r4 ≡ afterParts 9 4 l
+    four = after-next 9 3 l three q4
 
     pub few-tabs : contains 9 r4 ≡ false → caseAnswer l ≡ text "bad"
-    unfolding caseAnswer isCase afterParts
+    unfolding caseAnswer isCase
     few-tabs e = rw (le-leb (length l) maxLine h, ap (contains 9) (sym four) ∙ e)
 
     pub packet-le : (x : List ℕ) → x ≡ partBefore 9 r1 → length x ≤ maxLine
-    unfolding afterParts
-    packet-le x e = omega (arith, ap length (e ∙ ap (partBefore 9) q1), part-le 9 1 l, h)
+    packet-le x e = omega (arith, part-within 9 1 l one e, h)
 
     pub decoded-le : (x : List ℕ) → x ≡ partBefore 9 r3 → length x ≤ maxLine
-    unfolding afterParts
-    decoded-le x e = omega (arith, ap length (e ∙ ap (partBefore 9) three), part-le 9 3 l, h)
+    decoded-le x e = omega (arith, part-within 9 3 l three e, h)
 
     pub as-columns :
         contains 9 r4 ≡ true → (o p f d a s : List ℕ) → o ≡ partBefore 9 l → p ≡ partBefore 9 r1 → f ≡ partBefore 9 r2
         → d ≡ partBefore 9 r3 → a ≡ partBefore 9 r4 → s ≡ partAfter 9 r4 → caseAnswer l ≡ columnsText o p f d a s
-    unfolding caseAnswer isCase caseOf afterParts columnsText areColumns
+    unfolding caseAnswer isCase caseOf columnsText areColumns
     as-columns e o p f d a s oe pe fe de ae se =
         rw (
           le-leb (length l) maxLine h,
           ap (contains 9) (sym four) ∙ e,
-          oe,
-          pe ∙ ap (partBefore 9) q1,
-          fe ∙ ap (partBefore 9) two,
-          de ∙ ap (partBefore 9) three,
-          ae ∙ ap (partBefore 9) four,
-          se ∙ ap (partAfter 9) four,
+          part-is 9 0 l zero oe,
+          part-is 9 1 l one pe,
+          part-is 9 2 l two fe,
+          part-is 9 3 l three de,
+          part-is 9 4 l four ae,
+          after-next 9 4 l four se,
         )

@@ -8,7 +8,7 @@ use lib.Dec.{leb}
 use Rattle.definitions.specs.declared.packets.Direction.{Direction}
 use Rattle.definitions.specs.declared.packets.FieldMap.{FieldMap}
 use Rattle.definitions.specs.Cases.{pairs}
-use Rattle.line_parts.specs.Parts.{contains, afterParts, part}
+use Rattle.definitions.specs.Parts.{contains, afterParts, part}
 use Rattle.line_numbers.specs.HexPairs.{isHex}
 use Rattle.line_packets.specs.Directions.{isDirection, directionOf}
 use Rattle.line_fields.specs.FieldMaps.{isMap, mapOf}

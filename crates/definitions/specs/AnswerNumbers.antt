@@ -1,5 +1,5 @@
--- EVERY ANSWER IN DOCUMENT 01'S NUMBERS: its refusal, 0 for none, and then its values. Sections "Numbers of refusal" and "Meaning", its last
--- paragraph. The contract of an entry says what it answers, and what that is in numbers.
+-- EVERY ANSWER IN THE DOCUMENTS' NUMBERS: its refusal, 0 for none, and then its values. Document 01, sections "Numbers of refusal" and "Meaning", its last
+-- paragraph; document 02, T-03. The contract of an entry says what it answers, and what that is in numbers.
 use Prim.Native.Nat.{ℕ}
 use mathlib.Core.List.{List, [], _∷_, map}
 use lib.ListN.{length, replicate}
@@ -17,6 +17,12 @@ use Rattle.definitions.specs.declared.answers.PacketAnswer.{PacketAnswer
 use Rattle.definitions.specs.declared.answers.PacketAnswer.the-variants.{Seen, Refused}
 use Rattle.definitions.specs.declared.answers.Verdict.{Verdict}
 use Rattle.definitions.specs.declared.answers.Answer.{Answer}
+use Rattle.definitions.specs.declared.books.Action.{Action}
+use Rattle.definitions.specs.declared.books.Action.the-variants as action
+use Rattle.definitions.specs.declared.books.Judgement.{Judgement}
+use Rattle.definitions.specs.declared.books.Judgement.the-variants as judgement
+use Rattle.definitions.specs.declared.books.Decision.{Decision}
+use Rattle.definitions.specs.declared.books.Decision.the-variants as decision
 use Rattle.definitions.specs.Limits.{Limits, maxPatterns}
 use Rattle.definitions.specs.Lists.{keep, padded}
 use Rattle.definitions.specs.Starts.{startNumber}
@@ -29,6 +35,8 @@ use Rattle.definitions.specs.Packet.{datagramOf, headerOf, packetCheck}
 use Rattle.definitions.specs.Fields.{fieldsCheck}
 use Rattle.definitions.specs.Placements.{lexLess}
 use Rattle.definitions.specs.Answers.{startsOf, inputCheck, placementsOf, earlierCheck}
+use Rattle.definitions.specs.Books.{judge}
+use Rattle.definitions.specs.Decisions.{decision as decisionOf}
 
 -- ---- of an answer, case by case
 
@@ -63,6 +71,20 @@ verdictNumbers v = verdictNumber v ∷ verdictMet v ∷ []
 -- number, 1 for found, count, starts and unused room
 abbrev pub answerNumbers : Answer → List ℕ
 answerNumbers a = foundNumber (a .found) ∷ foundOne (a .found) ∷ a .placement .count ∷ map startNumber (a .placement .starts)
+
+-- a book: number, line, how many rules
+abbrev pub judgementNumbers : Judgement → List ℕ
+judgementNumbers (judgement.Accepted n) = 0 ∷ 0 ∷ n ∷ []
+judgementNumbers (judgement.Refused r line) = numberOf r ∷ line ∷ 0 ∷ []
+
+-- a decision: number, line, 1 for pass, rule; a refusal passes nothing
+abbrev pub passNumber : Action → ℕ
+passNumber action.Pass = 1
+passNumber action.Hold = 0
+
+abbrev pub decisionNumbers : Decision → List ℕ
+decisionNumbers (decision.Decided a n) = 0 ∷ 0 ∷ passNumber a ∷ n ∷ []
+decisionNumbers (decision.Refused r line) = numberOf r ∷ line ∷ 0 ∷ 0 ∷ []
 
 -- ---- of what an entry is given
 
@@ -115,3 +137,11 @@ module _ (t : Table) (p decoded : List ℕ) (dir : Direction) (m : FieldMap) whe
       numbered (andThen (inputCheck t p decoded dir m) (earlierCheck t p decoded dir m h))
       (placedNumbers (keep (lexLess (startsOf h)) (placementsOf t p decoded dir m)))
       noneNumbers
+
+-- judging a book: 1 to 12 and 50 to 53 with the line, else how many rules it has
+abbrev pub judgementInNumbers : Limits → List ℕ → List ℕ
+judgementInNumbers lim book = judgementNumbers (judge lim book)
+
+-- deciding: the same refusals, else pass or hold and the rule
+abbrev pub decisionInNumbers : Limits → List ℕ → List ℕ → Direction → FieldMap → List ℕ → List ℕ
+decisionInNumbers lim p decoded dir m book = decisionNumbers (decisionOf lim p decoded dir m book)

@@ -3,6 +3,7 @@
 pub mod Lists
 pub mod Limits
 pub mod Numbers
+pub mod Parts
 pub mod ByteCounts
 pub mod OptionValues
 pub mod Forms
@@ -27,6 +28,10 @@ pub mod Tests
 pub mod Windows
 pub mod Placements
 pub mod Answers
+pub mod Books
+pub mod Decisions
+pub mod LoadedBooks
+pub mod Blocks
 pub mod AnswerNumbers
 pub mod Queries
 pub mod Lines
@@ -35,4 +40,5 @@ pub mod NumberCases
 pub mod PlaceCases
 pub mod IpIdCases
 pub mod ByteTestCases
+pub mod BookCases
 pub mod Computing

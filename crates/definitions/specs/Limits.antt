@@ -1,4 +1,4 @@
--- The limits of document 01, each said once.
+-- The limits of documents 01 and 02, each said once.
 use Prim.Native.Nat.{ℕ}
 
 -- Section "Text": bytes of a text, bytes of a canonical text, pattern bytes of a table. Reading and writing take them as a parameter.
@@ -45,3 +45,10 @@ maxPacket = 2048
 
 abbrev pub maxDecoded : ℕ
 maxDecoded = 4096
+
+-- Document 02, T-03: bytes and rules of a book
+abbrev pub maxBook : ℕ
+maxBook = 65536
+
+abbrev pub maxRules : ℕ
+maxRules = 64

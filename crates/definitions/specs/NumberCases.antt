@@ -1,8 +1,8 @@
--- Every number of refusal with its place or effect, and the answers that refuse nothing, by examples: one table. Section "Numbers of refusal".
+-- Every number of refusal with its place or effect, and the answers that refuse nothing, by examples: one table. Section "Numbers of refusal"; document 02, T-03.
 -- proofs/EveryNumber.antt has the statement.
 use mathlib.Core.Bool.{Bool, false}
 use mathlib.Core.List.{List, [], _∷_, _++_, map}
-use Prim.Native.Nat.{ℕ}
+use Prim.Native.Nat.{ℕ, zero, suc}
 use Prim.Native.String.{String}
 use lib.ListN.{getD, replicate}
 use lib.Dec.{eqb}
@@ -19,12 +19,15 @@ use Rattle.definitions.specs.OptionValues.{OptionValue, Name, Protocol, 
 use Rattle.definitions.specs.Tables.{tableOf}
 use Rattle.definitions.specs.Starts.{startAt}
 use Rattle.definitions.specs.Reading.{read}
-use Rattle.definitions.specs.Canonical.{canonicalText}
+use Rattle.definitions.specs.Canonical.{decimal, canonicalText}
 use Rattle.definitions.specs.Writing.{writes, bufferAfter}
 use Rattle.definitions.specs.Packet.{packetAnswer}
 use Rattle.definitions.specs.Fields.{fieldsCheck}
 use Rattle.definitions.specs.Answers.{placementOf, verdictAnswer, firstAnswer, nextAnswer}
+use Rattle.definitions.specs.Books.{judge}
+use Rattle.definitions.specs.Decisions.{decision}
 use Rattle.definitions.specs.AnswerNumbers.{readNumbers, writeNumbers, packetNumbers, checkNumbers, verdictNumbers, answerNumbers}
+use Rattle.definitions.specs.AnswerNumbers.{judgementNumbers, decisionNumbers}
 use Rattle.definitions.specs.Cases.{hex, found, packetWith, uriOnly}
 
 -- what the definitions give, and what document 01 says: a number and its values
@@ -39,9 +42,9 @@ agrees e = sameBytes (e .given) (e .said)
 unfoldable pub shownIn : List Example → ℕ → Bool
 shownIn es n = any? (λ (e : Example). eqb (getD (e .said) 0 0) n) es
 
--- the section's numbers
+-- the section's numbers, and T-03's
 unfoldable pub refusalNumbers : List ℕ
-refusalNumbers = 1 ∷ 2 ∷ 3 ∷ 4 ∷ 5 ∷ 6 ∷ 7 ∷ 8 ∷ 9 ∷ 10 ∷ 11 ∷ 12 ∷ 20 ∷ 21 ∷ 22 ∷ 30 ∷ 31 ∷ 32 ∷ 33 ∷ 34 ∷ 35 ∷ 36 ∷ []
+refusalNumbers = 1 ∷ 2 ∷ 3 ∷ 4 ∷ 5 ∷ 6 ∷ 7 ∷ 8 ∷ 9 ∷ 10 ∷ 11 ∷ 12 ∷ 20 ∷ 21 ∷ 22 ∷ 30 ∷ 31 ∷ 32 ∷ 33 ∷ 34 ∷ 35 ∷ 36 ∷ 50 ∷ 51 ∷ 52 ∷ 53 ∷ []
 
 -- ---- what is given to the entries
 
@@ -105,6 +108,24 @@ firstOf t p m said = record { given = answerNumbers (firstAnswer t p [] Client m
 unfoldable pub nextOf : Table → List ℕ → List ℕ → Example
 nextOf t held said = record { given = answerNumbers (nextAnswer t good [] Client noFields (placementOf (map startAt held))); said = said }
 
+-- a rule that any TCP packet meets: number, state and action as said
+unfoldable pub ruleLine : String → List ℕ
+ruleLine front = text front ++ text "F-SBID(--name \"a\";--protocol 6;)\n"
+
+-- 64 rules, the numbers 1 to 64
+unfoldable pub rulesFrom : ℕ → ℕ → List ℕ
+rulesFrom zero n = []
+rulesFrom (suc k) n = decimal n ++ (ruleLine "\ton\tpass\t" ++ rulesFrom k (suc n))
+
+unfoldable pub sixtyFour : List ℕ
+sixtyFour = rulesFrom 64 1
+
+unfoldable pub judges : List ℕ → List ℕ → Example
+judges book said = record { given = judgementNumbers (judge documentLimits book); said = said }
+
+unfoldable pub decidesFor : List ℕ → List ℕ → FieldMap → List ℕ → Example
+decidesFor book p m said = record { given = decisionNumbers (decision documentLimits p [] Client m book); said = said }
+
 -- a refusal of "first" and "next": its number, and a placement of count 0
 unfoldable pub refusedWith : ℕ → List ℕ
 refusedWith n = n ∷ replicate 10 0
@@ -156,4 +177,17 @@ numberCases =
     nextOf (ruleWith (Pattern false (text "X") ∷ [])) (1 ∷ []) (found (3 ∷ [])) ∷
     nextOf (ruleWith (Pattern false (text "X") ∷ [])) (3 ∷ []) (refusedWith 0) ∷
     nextOf (ruleWith (Pattern false (text "X") ∷ [])) [] (refusedWith 36) ∷
+    -- a book: number, line, rules
+    judges (ruleLine "1\ton\tpass\t" ++ ruleLine "65535\toff\thold\t") (0 ∷ 0 ∷ 2 ∷ []) ∷
+    judges (replicate 65537 10) (50 ∷ 0 ∷ 0 ∷ []) ∷
+    judges (ruleLine "1\ton\tpass\t" ++ ruleLine "02\ton\tpass\t") (51 ∷ 2 ∷ 0 ∷ []) ∷
+    judges (ruleLine "5\ton\tpass\t" ++ ruleLine "5\ton\tpass\t") (52 ∷ 2 ∷ 0 ∷ []) ∷
+    judges (ruleLine "5\ton\tpass\t" ++ ruleLine "0\ton\tpass\t") (51 ∷ 2 ∷ 0 ∷ []) ∷
+    judges (sixtyFour ++ text "\n") (53 ∷ 65 ∷ 0 ∷ []) ∷
+    -- a decision: number, line, pass, rule
+    decidesFor (ruleLine "7\ton\tpass\t") good noFields (0 ∷ 0 ∷ 1 ∷ 7 ∷ []) ∷
+    decidesFor (ruleLine "7\ton\thold\t") good noFields (0 ∷ 0 ∷ 0 ∷ 7 ∷ []) ∷
+    decidesFor (ruleLine "7\toff\tpass\t") good noFields (0 ∷ 0 ∷ 0 ∷ 0 ∷ []) ∷
+    decidesFor (ruleLine "7\ton\tpass\t") good longUri (0 ∷ 0 ∷ 0 ∷ 0 ∷ []) ∷
+    decidesFor (ruleLine "7\tON\tpass\t") good noFields (51 ∷ 1 ∷ 0 ∷ 0 ∷ []) ∷
     []

@@ -2,12 +2,13 @@
 -- digits.
 -- A number has any count of digits and never wraps.
 use Prim.Native.Nat.{ℕ, _+_, _-_, _*_}
-use mathlib.Core.Bool.{Bool}
+use mathlib.Core.Bool.{Bool, not, _&&_}
 use mathlib.Core.List.{List, [], _∷_}
 use lib.Dec.{leb}
 use Rattle.forms.specs.Bytes.{if_then_else_}
-use Rattle.forms.specs.Form.{Class, Form, byte, pair, many, fmap, bound}
+use Rattle.forms.specs.Form.{Class, Form, has, byte, pair, many, fmap, bound}
 use Rattle.forms.specs.Pieces.{preceded, or, some, literal}
+use Rattle.definitions.specs.Lists.{all?, none?}
 
 abbrev pub decimalDigits : Class
 decimalDigits = (48, 57) ∷ []
@@ -23,6 +24,10 @@ digitValue b = if leb b 57 then b - 48 else if leb b 70 then b - 55 else b - 87
 unfoldable pub valueOf : ℕ → ℕ → List ℕ → ℕ
 valueOf base a [] = a
 valueOf base a (b ∷ l) = valueOf base (a * base + digitValue b) l
+
+-- whether a whole text is a decimal number up to a limit
+unfoldable pub isNumber : ℕ → List ℕ → Bool
+isNumber limit l = not (none? l) && (all? (has decimalDigits) l && leb (valueOf 10 0 l) limit)
 
 -- a decimal number of which something is asked; one that is not so is placed at its first digit
 abbrev pub numberThat : (ℕ → Bool) → Form ℕ

@@ -1,4 +1,5 @@
--- Document 01's number and values of each answer. Section "Numbers of refusal". No case of these answers is one that the papers leave free.
+-- The number and values of each answer. Document 01, section "Numbers of refusal"; document 02, T-03: 50 to 53. No case of these answers is one that the papers
+-- leave free.
 use Prim.Native.Nat.{ℕ}
 use mathlib.Core.Bool.{Bool}
 use Rattle.forms.specs.Bytes.{if_then_else_}
@@ -40,6 +41,10 @@ numberOf refusal.Fragment = 33
 numberOf refusal.Transport = 34
 numberOf refusal.FieldSpan = 35
 numberOf refusal.EarlierCount = 36
+numberOf refusal.BookLength = 50
+numberOf refusal.RuleForm = 51
+numberOf refusal.RuleOrder = 52
+numberOf refusal.RuleCount = 53
 
 -- ---- A success has number and place 0
 

@@ -3,7 +3,7 @@ use crate::packets::PacketHeader;
 use crate::packets::Placement;
 use crate::table::Table;
 
-// The causes of refusal: 1 to 12, 20 to 22, 30 to 36, in this order.
+// The causes of refusal: 1 to 12, 20 to 22, 30 to 36, 50 to 53, in this order.
 pub enum Refusal {
     TextLength,
     TextByte,
@@ -27,6 +27,10 @@ pub enum Refusal {
     Transport,
     FieldSpan,
     EarlierCount,
+    BookLength,
+    RuleForm,
+    RuleOrder,
+    RuleCount,
 }
 
 // A check: it passes, or a refusal.

@@ -1,4 +1,4 @@
-// The limits of document 01 that the types and the code go by, each named once. specs/Limits.antt has them for the definitions; `document_limits` ties the two.
+// The limits of documents 01 and 02 that the types and the code go by, each named once. specs/Limits.antt has them for the definitions; `document_limits` ties the two.
 ghost use mathlib.Core.Path.{_≡_};
 ghost use Rattle.definitions.specs.CodeLimits.{codeLimits};
 
@@ -24,6 +24,11 @@ pub const ADDRESSES: usize = 8;
 pub const PACKET_BYTES: usize = 2048;
 
 pub const DECODED_BYTES: usize = 4096;
+
+// Bytes of a rule book, and its rules.
+pub const BOOK_BYTES: usize = 65536;
+
+pub const RULES: usize = 64;
 
 // Numbers of one byte, of two bytes and of four bytes, a distance either way, and the bits of an address.
 pub const MAX_BYTE: u64 = 255;
@@ -51,6 +56,8 @@ pub struct DocumentLimits {
     pub addresses: usize,
     pub packet: usize,
     pub decoded: usize,
+    pub book: usize,
+    pub rules: usize,
     pub byte: u64,
     pub word: u64,
     pub long: u64,
@@ -74,6 +81,8 @@ pub fn document_limits() -> DocumentLimits
         addresses: ADDRESSES,
         packet: PACKET_BYTES,
         decoded: DECODED_BYTES,
+        book: BOOK_BYTES,
+        rules: RULES,
         byte: MAX_BYTE,
         word: MAX_WORD,
         long: MAX_LONG,

@@ -12,7 +12,7 @@ use Rattle.definitions.specs.declared.packets.FieldSpan.the-variants.{At}
 use Rattle.definitions.specs.declared.packets.FieldMap.{FieldMap}
 use Rattle.definitions.specs.Fields.{present}
 use Rattle.definitions.specs.Lists.{sameBytes}
-use Rattle.line_parts.specs.Parts.{find, contains, partBefore, partAfter, parts}
+use Rattle.definitions.specs.Parts.{find, contains, partBefore, partAfter, parts}
 use Rattle.line_parts.proofs.Delimiters.{after-empty}
 use Rattle.line_parts.proofs.PartsFrom.{partsFrom, from-start, from-step, from-end}
 use Rattle.line_parts.proofs.Results.{failed-test, parsed-test, parsed-value}

@@ -5,12 +5,13 @@ use mathlib.Core.List.{List}
 use Prim.Native.Nat.{ℕ}
 use Rattle.forms.proofs.Bools.{by-cases}
 use Rattle.definitions.specs.declared.packets.Span.{Span}
-use Rattle.line_parts.specs.Parts.{contains, partBefore, partAfter}
+use Rattle.definitions.specs.Parts.{contains, partBefore, partAfter}
 use Rattle.line_parts.proofs.Delimiters.{after-empty}
 use Rattle.line_parts.proofs.Results.{failed-test, parsed-test, parsed-value}
 use Rattle.line_numbers.specs.declared.decimals.NumberResult.{NumberResult}
 use Rattle.line_numbers.specs.declared.decimals.NumberResult.the-variants as number
-use Rattle.line_numbers.specs.Decimals.{isNumber, parsedNumber}
+use Rattle.definitions.specs.Numbers.{isNumber}
+use Rattle.line_numbers.specs.Decimals.{parsedNumber}
 use Rattle.line_numbers.proofs.Results.{failed-number, parsed-number, number-value}
 use Rattle.line_fields.specs.declared.field_maps.SpanResult.the-variants.{Parsed, Failed}
 use Rattle.line_fields.specs.FieldMaps.{maxSpan, isSpan, lineSpan, parsedSpan}

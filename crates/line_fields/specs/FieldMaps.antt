@@ -10,10 +10,9 @@ use Rattle.definitions.specs.declared.packets.FieldSpan.{FieldSpan}
 use Rattle.definitions.specs.declared.packets.FieldSpan.the-variants.{Absent, At}
 use Rattle.definitions.specs.declared.packets.FieldMap.{FieldMap}
 use Rattle.definitions.specs.Lists.{sameBytes}
-use Rattle.definitions.specs.Numbers.{valueOf}
+use Rattle.definitions.specs.Numbers.{valueOf, isNumber}
 use Rattle.definitions.specs.Fields.{present}
-use Rattle.line_parts.specs.Parts.{contains, partBefore, partAfter, parts}
-use Rattle.line_numbers.specs.Decimals.{isNumber}
+use Rattle.definitions.specs.Parts.{contains, partBefore, partAfter, parts}
 use Rattle.line_fields.specs.declared.field_maps.SpanResult.{SpanResult}
 use Rattle.line_fields.specs.declared.field_maps.SpanResult.the-variants as span
 use Rattle.line_fields.specs.declared.field_maps.MapResult.{MapResult}

@@ -1,6 +1,6 @@
 // The map of fields: fields such as `uri:0+12` parted by commas, `-` if there is none.
 ghost use mathlib.Core.Path.{_≡_};
-ghost use Rattle.line_parts.specs.Parts.{parts};
+ghost use Rattle.definitions.specs.Parts.{parts};
 ghost use Rattle.line_fields.specs.FieldMaps.{noFields, parsedSpan, parsedField, parsedFields, parsedMap};
 use crate::field_names::field_named;
 use crate::field_names::no_fields;

@@ -13,9 +13,9 @@ use Rattle.forms.specs.Bytes.{between}
 use Rattle.forms.specs.Form.{has}
 use Rattle.forms.proofs.Bools.{both-left, both-right, or-false}
 use Rattle.definitions.specs.Lists.{all?, none?}
-use Rattle.definitions.specs.Numbers.{decimalDigits, digitValue, valueOf}
+use Rattle.definitions.specs.Numbers.{decimalDigits, digitValue, valueOf, isNumber}
 use Rattle.line_numbers.specs.declared.decimals.NumberResult.the-variants.{Parsed, Failed}
-use Rattle.line_numbers.specs.Decimals.{isNumber, parsedNumber}
+use Rattle.line_numbers.specs.Decimals.{parsedNumber}
 
 -- ---- one digit
 

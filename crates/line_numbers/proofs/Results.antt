@@ -3,10 +3,10 @@ use mathlib.Core.Path.{_≡_, sym}
 use mathlib.Core.Bool.{true, false, false≢true}
 use mathlib.Core.List.{List}
 use Prim.Native.Nat.{ℕ}
-use Rattle.definitions.specs.Numbers.{valueOf}
+use Rattle.definitions.specs.Numbers.{valueOf, isNumber}
 use Rattle.line_parts.proofs.Results.{failed-test, parsed-test, parsed-value}
 use Rattle.line_numbers.specs.declared.decimals.NumberResult.the-variants.{Parsed, Failed}
-use Rattle.line_numbers.specs.Decimals.{isNumber, parsedNumber}
+use Rattle.line_numbers.specs.Decimals.{parsedNumber}
 
 apart : (v : ℕ) → Parsed v ≡ Failed → ⊥
 apart v e = false≢true cc

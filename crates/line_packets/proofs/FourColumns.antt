@@ -1,6 +1,6 @@
 -- The four columns of a packet, from the answers for each; and what the answer for all tells of them.
-use mathlib.Core.Path.{_≡_, sym}
-use mathlib.Core.Bool.{true, false, false≢true, _&&_}
+use mathlib.Core.Path.{_≡_, refl, sym}
+use mathlib.Core.Bool.{Bool, true, false, false≢true, _&&_}
 use mathlib.Core.List.{List}
 use Prim.Native.Nat.{ℕ}
 use Rattle.forms.proofs.Bools.{both-left, both-right}
@@ -35,6 +35,18 @@ packet-apart v e = false≢true cc
 
 packet-same : (v w : PacketColumns) → Parsed v ≡ Parsed w → v ≡ w
 packet-same v w e = cc
+
+-- ---- with a column more, which is of its form or not
+
+and-last : (a b c e h : Bool) → (a && (b && (c && (e && h)))) ≡ ((a && (b && (c && e))) && h)
+and-last true true true e h = refl
+and-last true true false e h = refl
+and-last true false c e h = refl
+and-last false b c e h = refl
+
+pub packet-and : (o p f d : List ℕ) (h : Bool) → (isDirection o && (isHex p && (isMap f && (isHex d && h)))) ≡ (isPacket o p f d && h)
+unfolding isPacket
+packet-and o p f d h = and-last (isDirection o) (isHex p) (isMap f) (isHex d) h
 
 -- ---- column by column
 

@@ -1,5 +1,5 @@
 -- What stands before and after a delimiter: as a slice has it, and how long it is.
-use mathlib.Core.Path.{_≡_, sym, ap, _∙_}
+use mathlib.Core.Path.{_≡_, refl, sym, ap, _∙_}
 use mathlib.Core.Bool.{false, not}
 use mathlib.Core.List.{List, []}
 use Prim.Native.Nat.{ℕ, zero, suc, _+_, _-_, _≤_}
@@ -11,7 +11,7 @@ use lib.Dec.{eqb}
 use borrow.Author.Tests.{ltb-false}
 use Rattle.forms.specs.Bytes.{run}
 use Rattle.list_laws.proofs.Runs.{run-le}
-use Rattle.line_parts.specs.Parts.{find, contains, partBefore, partAfter, afterParts, part}
+use Rattle.definitions.specs.Parts.{find, contains, partBefore, partAfter, afterParts, part}
 
 module _ (d : ℕ) (l : List ℕ) where
   pub find-le : find d l ≤ length l
@@ -44,7 +44,7 @@ module _ (d : ℕ) (l : List ℕ) where
   pub before-le : length (partBefore d l) ≤ length l
   before-le = omega (arith, before-length, find-le)
 
-  after-le : length (partAfter d l) ≤ length l
+  pub after-le : length (partAfter d l) ≤ length l
   unfolding partAfter
   after-le = omega (arith, length-drop (suc (find d l)) l)
 
@@ -54,10 +54,26 @@ module _ (d : ℕ) (l : List ℕ) where
 
 -- ---- by the number of delimiters passed
 
-afterParts-le : (d k : ℕ) (l : List ℕ) → length (afterParts d k l) ≤ length l
+pub afterParts-le : (d k : ℕ) (l : List ℕ) → length (afterParts d k l) ≤ length l
 unfolding afterParts
 afterParts-le d zero l = le-refl (length l)
 afterParts-le d (suc k) l = omega (arith, afterParts-le d k (partAfter d l), after-le d l)
 
 pub part-le : (d k : ℕ) (l : List ℕ) → length (part d k l) ≤ length l
 part-le d k l = omega (arith, before-le d (afterParts d k l), afterParts-le d k l)
+
+after-suc : (d k : ℕ) (l : List ℕ) → partAfter d (afterParts d k l) ≡ afterParts d (suc k) l
+unfolding afterParts
+after-suc d zero l = refl
+after-suc d (suc k) l = after-suc d k (partAfter d l)
+
+-- the code passes one delimiter after the other: what stands after k, r, gives what stands after one more, s, and the part before that one, x
+module _ (d k : ℕ) (l : List ℕ) {r : List ℕ} (e : r ≡ afterParts d k l) where
+  pub after-next : {s : List ℕ} → s ≡ partAfter d r → s ≡ afterParts d (suc k) l
+  after-next q = q ∙ ap (partAfter d) e ∙ after-suc d k l
+
+  pub part-is : {x : List ℕ} → x ≡ partBefore d r → x ≡ part d k l
+  part-is q = q ∙ ap (partBefore d) e
+
+  pub part-within : {x : List ℕ} → x ≡ partBefore d r → length x ≤ length l
+  part-within q = omega (arith, ap length (part-is q), part-le d k l)

@@ -11,7 +11,7 @@ use borrow.Rule.Slice.PartAt.{part-to-end}
 use borrow.Author.Tests.{ltb-true, ltb-false, lt-ltb, le-ltb, le-leb, lt-leb}
 use Rattle.forms.specs.Bytes.{if_then_else_, run}
 use Rattle.forms.proofs.Bools.{by-cases}
-use Rattle.line_parts.specs.Parts.{find, contains, partBefore, partAfter, onto, parts}
+use Rattle.definitions.specs.Parts.{find, contains, partBefore, partAfter, onto, parts}
 use Rattle.line_parts.proofs.Delimiters.{find-le, before-length, before-le}
 
 ltb-suc : (a b : ℕ) → ltb (suc a) (suc b) ≡ ltb a b

@@ -1,7 +1,7 @@
 // The parts of a line between delimiters, and whole words.
 ghost use mathlib.Core.Path.{_≡_};
 ghost use Rattle.definitions.specs.Lists.{sameBytes};
-ghost use Rattle.line_parts.specs.Parts as parts;
+ghost use Rattle.definitions.specs.Parts as parts;
 
 // How many bytes stand before the first delimiter.
 fn find(s: &[u8], d: u8) -> usize

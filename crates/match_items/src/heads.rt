@@ -25,7 +25,8 @@ fn is_server(dir: Direction) -> bool
     }
 }
 
-fn flow_holds(flow: Flow, dir: Direction) -> bool
+// Flow, if given.
+pub fn flow_holds(flow: Flow, dir: Direction) -> bool
     ensures { λ r. ⌜ r ≡ flowHolds flow dir ⌝ }
 {
     match flow {

@@ -1,5 +1,6 @@
 -- From the refusal that is due, or the answer by header fields and payload, to the answer of an entry.
 use mathlib.Core.Path.{_≡_, refl}
+use mathlib.Core.Bool.{true}
 use mathlib.Core.List.{List, [], _∷_}
 use Prim.Native.Nat.{ℕ}
 use Rattle.definitions.specs.declared.table.Table.{Table}
@@ -15,6 +16,8 @@ use Rattle.definitions.specs.declared.answers.PacketAnswer.{PacketAnswer}
 use Rattle.definitions.specs.declared.answers.PacketAnswer.the-variants as packet
 use Rattle.definitions.specs.declared.answers.Verdict.the-variants as verdict
 use Rattle.definitions.specs.declared.answers.Answer.{Answer}
+use Rattle.definitions.specs.WellFormed.{wellFormed}
+use Rattle.definitions.specs.Packet.{packetAnswer}
 use Rattle.definitions.specs.Fields.{fieldsCheck}
 use Rattle.definitions.specs.Answers.{refusedAnswer, headOf, unless, verdictBy, verdictAnswer, firstAnswer, nextAnswer}
 use Rattle.match_answers.specs.Verdicts.{verdictOf}
@@ -57,3 +60,9 @@ module _ {t : Table} {p d : List ℕ} {f : PacketHeader} {s : List ℕ} (c : Che
   pub next-here : (h : Placement) → nextInList t f s d dir m h ≡ nextAnswer t p d dir m h
   unfolding nextInList nextAnswer
   next-here h = rw (check-here c dir m, list-here c dir m)
+
+-- ---- a table that is known to be well formed
+
+pub formed-header : (t : Table) (p d : List ℕ) → wellFormed t ≡ true → packetAnswer p d ≡ inputHeader t p d
+unfolding packetAnswer
+formed-header t p d e = rw e

@@ -2,7 +2,11 @@
 // and earlier placement; refusals 20 and 30 to 36 come first, in this order. Packet and decoded buffer have one lifetime, which ends with the call, since no
 // answer lends anything: it costs a caller nothing.
 ghost use mathlib.Core.Path.{_≡_};
+ghost use mathlib.Core.Bool.{true};
 ghost use Rattle.definitions.specs.Answers.{verdictAnswer, firstAnswer, nextAnswer};
+ghost use Rattle.definitions.specs.WellFormed.{wellFormed};
+ghost use Rattle.definitions.specs.Decisions.{isMet};
+ghost use Rattle.matcher.specs.PassedOver.{mayMeet};
 ghost use Rattle.definitions.specs.AnswerNumbers.{verdictNumbers, answerNumbers, verdictInNumbers, firstInNumbers, nextInNumbers};
 use definitions::answers::Answer;
 use definitions::answers::PacketAnswer;
@@ -10,12 +14,15 @@ use definitions::answers::Verdict;
 use definitions::packets::Direction;
 use definitions::packets::FieldMap;
 use definitions::packets::Placement;
+use definitions::table::Flow;
 use definitions::table::Table;
 use match_answers::answers::refused;
 use match_answers::verdicts::verdict_of;
 use match_checks::check_input;
+use match_items::heads::flow_holds;
 use match_placements::first_in;
 use match_placements::next_in;
+use packet::packet_header;
 use packet::payload_of;
 
 // THE VERDICT: met exactly if some placement meets the table.
@@ -68,6 +75,47 @@ pub fn next<'a>(
         PacketAnswer::Seen(header) => {
             let payload = payload_of(p, header);
             next_in(t, header, payload, decoded, dir, m, held)
+        }
+    }
+}
+
+// For a caller that asks many packets of one table: whether protocol and flow leave it open that the table is met. Where they don't, it is not.
+pub fn may_meet(protocol: u8, flow: Flow, p: &[u8], dir: Direction) -> bool
+    ensures { λ r. ⌜ r ≡ mayMeet protocol flow (now (p .entry)) dir ⌝ }
+{
+    if p.len() < 10 {
+        return false;
+    }
+    if p[9] != protocol {
+        return false;
+    }
+    flow_holds(flow, dir)
+}
+
+// Whether a verdict is met.
+fn is_met(v: Verdict) -> bool
+    ensures { λ r. ⌜ r ≡ isMet v ⌝ }
+{
+    match v {
+        Verdict::Met => true,
+        Verdict::NotMet => false,
+        Verdict::Refused(_) => false,
+    }
+}
+
+// For a caller that knows its table to be well formed, as one that was read is: whether the verdict is met.
+pub fn meets<'a>(t: Table, p: &'a [u8], decoded: &'a [u8], dir: Direction, m: FieldMap) -> bool
+    requires { ⌜ wellFormed t ≡ true ⌝ }
+    ensures { λ r. ⌜ r ≡ isMet (verdictAnswer t (now (p .entry)) (now (decoded .entry)) dir m) ⌝ }
+{
+    let seen = packet_header(p, decoded);
+    match seen {
+        PacketAnswer::Refused(_) => false,
+        PacketAnswer::Seen(header) => {
+            let payload = payload_of(p, header);
+            let a = first_in(t, header, payload, decoded, dir, m);
+            let found = a.found;
+            is_met(verdict_of(found))
         }
     }
 }

@@ -1,4 +1,4 @@
-// Document 01's number of a refusal.
+// The documents' number of a refusal.
 ghost use mathlib.Core.Path.{_≡_};
 ghost use Rattle.definitions.specs.Refusals.{numberOf};
 use definitions::answers::Refusal;
@@ -30,5 +30,9 @@ pub fn number_of(r: Refusal) -> u64
         Refusal::Transport => 34,
         Refusal::FieldSpan => 35,
         Refusal::EarlierCount => 36,
+        Refusal::BookLength => 50,
+        Refusal::RuleForm => 51,
+        Refusal::RuleOrder => 52,
+        Refusal::RuleCount => 53,
     }
 }

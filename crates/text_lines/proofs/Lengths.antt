@@ -10,56 +10,26 @@ use borrow.Author.Tests.{ltb-false}
 use Rattle.forms.specs.Bytes.{text}
 use Rattle.forms.proofs.Bools.{by-cases}
 use Rattle.definitions.specs.declared.table.Table.{Table}
-use Rattle.definitions.specs.declared.answers.Refusal.{Refusal}
-use Rattle.definitions.specs.declared.answers.Refusal.the-variants as refusal
 use Rattle.definitions.specs.declared.answers.ReadOutcome.{ReadOutcome}
 use Rattle.definitions.specs.declared.answers.ReadOutcome.the-variants as outcome
 use Rattle.definitions.specs.declared.answers.Check.{Check}
 use Rattle.definitions.specs.declared.answers.Check.the-variants as check
 use Rattle.definitions.specs.Limits.{documentLimits}
-use Rattle.definitions.specs.Refusals.{numberOf, readPlace}
+use Rattle.definitions.specs.Refusals.{readPlace}
 use Rattle.definitions.specs.Reading.{read}
 use Rattle.definitions.specs.Canonical.{decimal, canonicalText}
 use Rattle.definitions.specs.WellFormed.{wellFormed}
 use Rattle.definitions.specs.Writing.{writingCheck}
-use Rattle.definitions.specs.Lines.{refusedLine, canonicalLine, lineBy, lineOf}
+use Rattle.definitions.specs.Lines.{canonicalLine, lineBy, lineOf}
 use Rattle.laws.proofs.Places.{place-most}
 use Rattle.laws.proofs.Digits.{decimal-most}
+use Rattle.line_refusals.proofs.Lengths.{refused-most}
 use Rattle.line_stream.specs.declared.Begun.{Begun}
 use Rattle.line_stream.specs.declared.Fed.{Fed}
 use Rattle.line_stream.specs.Stream.{maxLineNumber, lineAnswer, Feeds}
 use Rattle.line_stream.proofs.Running.{goes-on}
 
 -- ---- the answer to a text
-
-number-small : (r : Refusal) → numberOf r ≤ 36
-number-small refusal.TextLength = omega arith
-number-small refusal.TextByte = omega arith
-number-small refusal.Opening = omega arith
-number-small refusal.NeitherOptionNorEnd = omega arith
-number-small refusal.NotListed = omega arith
-number-small refusal.Form = omega arith
-number-small refusal.Limit = omega arith
-number-small refusal.Repeated = omega arith
-number-small refusal.ModifierWithoutPattern = omega arith
-number-small refusal.Unusable = omega arith
-number-small refusal.CountExceeded = omega arith
-number-small refusal.Missing = omega arith
-number-small refusal.IllFormed = omega arith
-number-small refusal.CanonicalLength = omega arith
-number-small refusal.ShortBuffer = omega arith
-number-small refusal.BufferLength = omega arith
-number-small refusal.NotIpv4 = omega arith
-number-small refusal.Lengths = omega arith
-number-small refusal.Fragment = omega arith
-number-small refusal.Transport = omega arith
-number-small refusal.FieldSpan = omega arith
-number-small refusal.EarlierCount = omega arith
-
-refused-most : (r : Refusal) (p : ℕ) → p ≤ 1024 → length (refusedLine r p) ≤ 1027
-refused-most r p h =
-    omega
-    (arith, length-append (decimal (numberOf r)) (9 ∷ decimal p), decimal-most (numberOf r) (omega (arith, number-small r)), decimal-most p (omega (arith, h)))
 
 abbrev isFine : Check → Bool
 isFine check.Pass = true
@@ -78,11 +48,11 @@ fine-short t e =
 
 canonical-most : (t : Table) (d : Check) → (d ≡ check.Pass → length (canonicalText t) ≤ 1024) → length (canonicalLine d t) ≤ 1027
 canonical-most t check.Pass h = omega (arith, length-append (text "ok\t") (canonicalText t), h refl)
-canonical-most t (check.Refuse r) h = refused-most r 0 (omega arith)
+canonical-most t (check.Refuse r) h = omega (arith, refused-most r 0 (omega arith))
 
 outcome-most : (o : ReadOutcome) (t : Table) → readPlace o ≤ 1024 → length (lineBy documentLimits o t) ≤ 1027
 outcome-most outcome.Accepted t h = canonical-most t (writingCheck documentLimits t 1024) (fine-short t)
-outcome-most (outcome.Refused r p) t h = refused-most r p h
+outcome-most (outcome.Refused r p) t h = omega (arith, refused-most r p (omega (arith, h)))
 
 line-most : (s : List ℕ) → length (lineOf documentLimits s) ≤ 1027
 unfolding lineOf

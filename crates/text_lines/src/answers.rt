@@ -3,30 +3,18 @@ ghost use mathlib.Core.List.{_++_};
 ghost use lib.ListN.{take};
 ghost use Rattle.forms.specs.Bytes.{text};
 ghost use Rattle.definitions.specs.Limits.{documentLimits};
-ghost use Rattle.definitions.specs.Lines.{refusedLine, canonicalLine, lineOf};
+ghost use Rattle.definitions.specs.Lines.{canonicalLine, lineOf};
 ghost use Rattle.definitions.specs.Writing.{writingCheck};
 ghost use Rattle.write_bytes.specs.Puts.{Puts};
 use definitions::answers::ReadOutcome;
-use definitions::answers::Refusal;
 use definitions::answers::Writing;
 use definitions::limits::CANONICAL_BYTES;
 use definitions::table::Table;
+use line_refusals::put_refused;
 use reader::read;
-use refusal_numbers::number_of;
-use write_bytes::put;
-use write_bytes::put_decimal;
 use write_bytes::put_front;
 use write_bytes::put_word;
 use writer::write;
-
-// Refusal, tab, place.
-fn put_refused(out: &mut [u8], at: usize, r: Refusal, place: usize) -> usize
-    ensures { λ n. ⌜ Puts (now (out .entry)) at (refusedLine r place) (now (out .exit)) n ⌝ }
-{
-    let a1 = put_decimal(out, at, number_of(r));
-    let a2 = put(out, a1, b'\t');
-    put_decimal(out, a2, place as u64)
-}
 
 // `ok`, tab, and the first `n` bytes of a canonical text's buffer.
 fn put_ok(out: &mut [u8], at: usize, canonical: [u8; CANONICAL_BYTES], n: usize) -> usize

@@ -46,7 +46,7 @@ pub fn parse_case(line: &[u8]) -> Option<Case<'_>> {
     Some(Case { from_client, packet, map, decoded, ask, text })
 }
 
-fn hex_pairs(column: &[u8]) -> Option<Vec<u8>> {
+pub fn hex_pairs(column: &[u8]) -> Option<Vec<u8>> {
     if column == b"-" {
         return Some(Vec::new());
     }
@@ -56,11 +56,11 @@ fn hex_pairs(column: &[u8]) -> Option<Vec<u8>> {
     column.chunks(2).map(|pair| Some(hex_digit(pair[0])? * 16 + hex_digit(pair[1])?)).collect()
 }
 
-fn hex_digit(byte: u8) -> Option<u8> {
+pub fn hex_digit(byte: u8) -> Option<u8> {
     char::from(byte).to_digit(16).map(|digit| digit as u8)
 }
 
-fn parse_map(column: &[u8]) -> Option<Map> {
+pub fn parse_map(column: &[u8]) -> Option<Map> {
     let mut map = Map::default();
     if column == b"-" {
         return Some(map);

@@ -1,4 +1,4 @@
-//! How often each kind of answer occurs in the output of `lines` or `placements`.
+//! How often each kind of answer occurs in the output of `lines`, `placements` or `decisions`.
 
 use std::collections::BTreeMap;
 use std::io::{BufRead, Result, Write};
@@ -25,6 +25,9 @@ fn kind(line: &str) -> String {
         ["ok"] | ["bad"] | ["none"] => answer.to_string(),
         ["text", number, _] => format!("text {number:>2}"),
         ["refused", number] => format!("refused {number:>2}"),
+        ["refused", number, _] => format!("book {number:>2}"),
+        ["pass" | "hold", "0"] => answer.to_string(),
+        ["pass" | "hold", _] => format!("{} by a rule", words[0]),
         ["()"] => "the empty placement".to_string(),
         [list] if list.ends_with(";...") => "list of over 1,000 placements".to_string(),
         [list] if list.contains(';') => "list of two or more placements".to_string(),

@@ -90,7 +90,7 @@ fn long_list(random: &mut Random) -> Vec<u8> {
     format!("client\t{}\t{map}\t-\t{ask}\t{text}", hex(random, &packet)).into_bytes()
 }
 
-fn letters(random: &mut Random, alphabet: &[u8], longest: u64) -> Vec<u8> {
+pub fn letters(random: &mut Random, alphabet: &[u8], longest: u64) -> Vec<u8> {
     let length = if random.chance(50) {
         random.between(0, longest)
     } else {
@@ -100,7 +100,7 @@ fn letters(random: &mut Random, alphabet: &[u8], longest: u64) -> Vec<u8> {
 }
 
 /// Each field absent, whole, a part, empty, at the very end, or past the end.
-fn map(random: &mut Random, payload: usize, decoded: usize) -> Map {
+pub fn map(random: &mut Random, payload: usize, decoded: usize) -> Map {
     let mut map = Map::default();
     for (_, field) in &CONTEXTS[1..] {
         if random.chance(45) {
@@ -125,7 +125,7 @@ fn map(random: &mut Random, payload: usize, decoded: usize) -> Map {
 }
 
 /// A table for this message; for one of no length where the message is refused.
-fn aimed_table(
+pub fn aimed_table(
     random: &mut Random,
     packet: &[u8],
     decoded: &[u8],
@@ -198,7 +198,7 @@ fn odd_ask(random: &mut Random) -> String {
 }
 
 /// A line of another form, or nearly one.
-fn odd_line(random: &mut Random, line: &mut Vec<u8>) {
+pub fn odd_line(random: &mut Random, line: &mut Vec<u8>) {
     match random.below(8) {
         0 => line.clear(),
         1 => line[0] = line[0].to_ascii_uppercase(),
@@ -217,7 +217,7 @@ fn odd_line(random: &mut Random, line: &mut Vec<u8>) {
     }
 }
 
-fn hex(random: &mut Random, bytes: &[u8]) -> String {
+pub fn hex(random: &mut Random, bytes: &[u8]) -> String {
     if bytes.is_empty() {
         return "-".to_string();
     }
@@ -229,7 +229,7 @@ fn hex(random: &mut Random, bytes: &[u8]) -> String {
     }
 }
 
-fn print_map(random: &mut Random, map: &Map) -> String {
+pub fn print_map(random: &mut Random, map: &Map) -> String {
     if map.entries.is_empty() {
         return "-".to_string();
     }

@@ -1,14 +1,21 @@
-//! The second program: a reading of document 01 of its own, with which the proved
-//! matcher's answers are compared.
+//! The second program: a reading of documents 01 and 02 of its own, with which the proved
+//! programs' answers are compared.
 //!
 //! Built by `rustc -O --edition 2021 main.rs -o second`.
 
+mod blocks;
+mod book;
 mod case;
 mod count;
+mod decisions;
+mod guard;
+mod hex;
 mod house;
 mod lines;
 mod message;
+mod pattern_find;
 mod placements;
+mod quick;
 mod reader;
 mod reference;
 mod scan;
@@ -20,15 +27,20 @@ mod words;
 
 mod damage;
 mod generate_aimed;
+mod generate_block;
+mod generate_book;
 mod generate_byte_test;
 mod generate_case;
+mod generate_decision;
 mod generate_item;
+mod generate_measured;
 mod generate_packet;
 mod generate_table;
 mod generate_text;
 mod odd;
 mod random;
 mod selftest;
+mod selftest_blocks;
 mod selftest_bytes;
 mod slips;
 mod spell;
@@ -37,8 +49,11 @@ use random::Random;
 use std::io::{stderr, stdin, stdout, BufWriter, Result, Write};
 use std::process::ExitCode;
 
-const USAGE: &str = "usage: second lines | placements | count | slips
-       second generate texts|cases SEED COUNT
+const USAGE: &str = "usage: second lines | placements | decisions | hex | count | slips
+       second book|blocks FILE
+       second generate texts|cases|decisions SEED COUNT
+       second generate block SEED COUNT [tcp]
+       second generate book SEED RULES none|first
        second selftest SEED COUNT";
 
 fn main() -> ExitCode {
@@ -48,11 +63,37 @@ fn main() -> ExitCode {
     let result = match words[..] {
         ["lines"] => lines::answer_lines(stdin().lock(), output(), lines::answer_text),
         ["placements"] => lines::answer_lines(stdin().lock(), output(), placements::answer_case),
+        ["decisions"] => lines::answer_lines(stdin().lock(), output(), decisions::answer_decision),
+        ["hex"] => hex::write_hex(stdin().lock(), output()),
+        // Without a book that can be opened nothing is written.
+        ["book" | "blocks"] => Ok(()),
+        ["book", file] => match std::fs::read(file) {
+            Ok(book) => decisions::write_judgement(&book, output()),
+            Err(_) => Ok(()),
+        },
+        ["blocks", file] => match std::fs::read(file) {
+            Ok(book) => blocks::answer_blocks(&book, stdin().lock(), output()),
+            Err(_) => Ok(()),
+        },
         ["count"] => count::count(stdin().lock(), output()),
         ["slips"] => slips::write_slips(output()),
         ["generate", what, seed, count] => match (what, seed.parse(), count.parse()) {
             ("texts", Ok(seed), Ok(count)) => generate(seed, count, generate_text::text),
             ("cases", Ok(seed), Ok(count)) => generate(seed, count, generate_case::case),
+            ("block", Ok(seed), Ok(count)) => generate_blocks(seed, count, false),
+            ("decisions", Ok(seed), Ok(count)) => {
+                generate(seed, count, generate_decision::decision)
+            }
+            _ => return usage(),
+        },
+        ["generate", "block", seed, count, "tcp"] => match (seed.parse(), count.parse()) {
+            (Ok(seed), Ok(count)) => generate_blocks(seed, count, true),
+            _ => return usage(),
+        },
+        ["generate", "book", seed, rules, kind] => match (seed.parse(), rules.parse(), kind) {
+            (Ok(seed), Ok(rules), "none" | "first") => {
+                output().write_all(&generate_measured::book(seed, rules, kind == "first"))
+            }
             _ => return usage(),
         },
         ["selftest", seed, count] => match (seed.parse(), count.parse()) {
@@ -83,6 +124,15 @@ fn generate(seed: u64, count: u64, line: impl Fn(&mut Random) -> Vec<u8>) -> Res
     for _ in 0..count {
         output.write_all(&line(&mut random))?;
         output.write_all(b"\n")?;
+    }
+    output.flush()
+}
+
+fn generate_blocks(seed: u64, count: u64, tcp_alone: bool) -> Result<()> {
+    let mut random = Random::new(seed);
+    let mut output = output();
+    for _ in 0..count {
+        output.write_all(&generate_block::record(&mut random, tcp_alone))?;
     }
     output.flush()
 }

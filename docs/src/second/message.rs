@@ -31,9 +31,9 @@ pub struct Message<'a> {
     /// The datagram behind the IP header.
     pub transport: &'a [u8],
     pub payload: &'a [u8],
-    pub decoded: &'a [u8],
-    pub map: &'a Map,
     pub from_client: bool,
+    /// The bytes of each present field, at the field's place in the enum.
+    fields: [Option<&'a [u8]>; 7],
 }
 
 impl<'a> Message<'a> {
@@ -41,7 +41,7 @@ impl<'a> Message<'a> {
     pub fn new(
         packet: &'a [u8],
         decoded: &'a [u8],
-        map: &'a Map,
+        map: &Map,
         from_client: bool,
     ) -> Result<Message<'a>, u8> {
         if packet.len() > 2048 || decoded.len() > 4096 {
@@ -64,35 +64,29 @@ impl<'a> Message<'a> {
         let transport = &datagram[header_length..];
         let transport_header = transport_header_length(datagram[9], transport).ok_or(34u8)?;
         let payload = &transport[transport_header..];
-        let message = Message { datagram, transport, payload, decoded, map, from_client };
+        let mut fields = [None; 7];
+        fields[Field::Packet as usize] = Some(payload);
         for (field, span) in &map.entries {
-            if span.start + span.length > message.buffer(*field).len() {
-                return Err(35);
-            }
+            let buffer = if lies_in_payload(*field) { payload } else { decoded };
+            let bytes = buffer.get(span.start..span.start + span.length).ok_or(35u8)?;
+            fields[*field as usize] = Some(bytes);
         }
-        Ok(message)
+        Ok(Message { datagram, transport, payload, from_client, fields })
     }
 
     pub fn protocol(&self) -> u8 {
         self.datagram[9]
     }
 
-    /// Body, banner and file lie in the payload; uri, header and host in the decoded buffer.
-    fn buffer(&self, field: Field) -> &'a [u8] {
-        match field {
-            Field::Packet | Field::Body | Field::Banner | Field::File => self.payload,
-            Field::Uri | Field::Header | Field::Host => self.decoded,
-        }
-    }
-
     /// The bytes of a present field.
     pub fn field(&self, field: Field) -> Option<&'a [u8]> {
-        if field == Field::Packet {
-            return Some(self.payload);
-        }
-        let span = self.map.span(field)?;
-        self.buffer(field).get(span.start..span.start + span.length)
+        self.fields[field as usize]
     }
+}
+
+/// Body, banner and file lie in the payload; uri, header and host in the decoded buffer.
+fn lies_in_payload(field: Field) -> bool {
+    matches!(field, Field::Packet | Field::Body | Field::Banner | Field::File)
 }
 
 /// Measured within the datagram; `None` is refusal 34.

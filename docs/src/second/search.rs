@@ -115,9 +115,11 @@ pub fn lies_at(pattern: &Pattern, field: &[u8], last_end: Option<u64>) -> Vec<u6
 }
 
 /// The window from s to its end, in signed numbers; the end is at most L.
-fn window(pattern: &Pattern, length: i64, last_end: Option<u64>) -> (i64, i64) {
-    let references = pattern.references();
-    let Some(reference) = references.first() else {
+pub fn window(pattern: &Pattern, length: i64, last_end: Option<u64>) -> (i64, i64) {
+    let distance = pattern.distance.map(|distance| distance.reference);
+    let within = pattern.within.map(|within| within.reference);
+    // Where both are given they are alike.
+    let Some(reference) = distance.or(within) else {
         return (0, length); // with neither range
     };
     let r = match reference {

@@ -9,6 +9,7 @@ use crate::placements::ask;
 use crate::random::Random;
 use crate::reader::read;
 use crate::search::{lies_at, Placed};
+use crate::selftest_blocks;
 use crate::selftest_bytes;
 use crate::spell::Spell;
 use crate::table::*;
@@ -27,8 +28,13 @@ pub fn run(seed: u64, count: u64, mut output: impl Write) -> Written<()> {
             writeln!(output, "case {number}: {text}\n{}", String::from_utf8_lossy(&line))?;
             wrong += 1;
         }
+        let blocks = selftest_blocks::generated(&mut random);
+        if let Err(text) = blocks.and_then(|()| selftest_blocks::measured(&mut random)) {
+            writeln!(output, "block {number}: {text}")?;
+            wrong += 1;
+        }
     }
-    writeln!(output, "{count} tables and cases, {wrong} wrong")?;
+    writeln!(output, "{count} tables, cases and blocks, {wrong} wrong")?;
     output.flush()?;
     if wrong == 0 {
         Ok(())

@@ -1,4 +1,4 @@
-use Rattle.line_parts.specs.Parts.{contains}
+use Rattle.definitions.specs.Parts.{contains}
 use borrow.Author.Needs.{needs}
 use Rattle.line_parts.proofs.contains.Statement.{statement}
 use Rattle.line_parts.proofs.contains.Tie as tie

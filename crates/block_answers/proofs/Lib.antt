@@ -1,0 +1,3 @@
+-- Laws of the answers' bytes.
+pub mod Answers
+pub mod Lengths

@@ -1,0 +1,2 @@
+-- What the contracts of `block_answers` cite.
+pub mod AnswerBytes

@@ -1,0 +1,2 @@
+-- The answer to a book is short.
+pub mod Lengths

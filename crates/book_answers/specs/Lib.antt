@@ -1,0 +1,2 @@
+-- What the contracts of `book_answers` cite beside the definitions.
+pub mod BookAnswers

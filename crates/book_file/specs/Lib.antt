@@ -1,0 +1,2 @@
+-- What the contracts of `book_file` cite.
+pub mod Counted

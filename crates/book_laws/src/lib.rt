@@ -1,0 +1,1 @@
+// Laws of rule books and of what they decide. No code.

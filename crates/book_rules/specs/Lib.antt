@@ -1,0 +1,2 @@
+-- What the contracts of `book_rules` cite.
+pub mod RuleLines

@@ -1,0 +1,3 @@
+-- What the contracts of `decision_lines` cite beside the definitions.
+pub mod DecisionLines
+pub mod Columns

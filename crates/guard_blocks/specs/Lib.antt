@@ -1,0 +1,2 @@
+-- What the contracts of `guard_blocks` cite beside the definitions.
+pub mod Numbering

@@ -1,2 +1,0 @@
--- What the contracts of `line_parts` cite.
-pub mod Parts

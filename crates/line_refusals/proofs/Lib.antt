@@ -1,0 +1,2 @@
+-- How long the text of a refusal can be.
+pub mod Lengths

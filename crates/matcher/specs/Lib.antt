@@ -1,0 +1,2 @@
+-- What the contracts of `matcher` cite beside the definitions.
+pub mod PassedOver

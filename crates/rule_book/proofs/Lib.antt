@@ -1,0 +1,3 @@
+-- Laws that the proofs of this crate use.
+pub mod Checking
+pub mod Loading
