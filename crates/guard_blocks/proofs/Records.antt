@@ -4,8 +4,8 @@ use mathlib.Core.Bool.{Bool, true, false, _&&_}
 use mathlib.Core.List.{List}
 use Prim.Native.Nat.{ℕ, _+_, _-_, _≤_}
 use native.Mathlib.Omega.{arith}
-use lib.ListN.{length, take, drop, length-drop}
-use lib.Seq.{take-all}
+use lib.ListN.{length, take, drop}
+use borrow.Rule.Slice.PartAt.{part-to-end}
 use borrow.Author.Tests.{eq-eqb, ne-eqb}
 use Rattle.forms.proofs.Bools.{by-cases}
 use Rattle.definitions.specs.declared.table.Table.{Table}
@@ -60,12 +60,9 @@ record-passed t s e = passed-over t (recordOf s .packet) (recordOf s .decoded) (
 -- ---- the rest of a block as a slice has it
 
 module _ (at : ℕ) (block : List ℕ) where
-  pub part-is : take (length block - at) (drop at block) ≡ drop at block
-  part-is = take-all (length block - at) (drop at block) (omega (arith, length-drop at block))
-
   pub whole-part : recordLength (drop at block) ≤ length (drop at block)
       → recordLength (take (length block - at) (drop at block)) ≤ length (take (length block - at) (drop at block))
-  whole-part h = rw part-is h
+  whole-part h = rw (part-to-end block at) h
 
 -- ---- whether a packet's number is set
 

@@ -53,10 +53,6 @@ pub line-all : (s : List ℕ) → length s ≤ find 10 s → s ≡ firstLine s
 unfolding firstLine
 line-all s h = sym (take-all (suc (find 10 s)) s (omega (arith, h)))
 
--- what is left of the book from a place on, as a slice has it
-pub rest-is : (book : List ℕ) (at : ℕ) → take (length book - at) (drop at book) ≡ drop at book
-rest-is book at = take-all (length book - at) (drop at book) (omega (arith, length-drop at book))
-
 pub line-some : (s : List ℕ) → 0 < length s → 0 < length (firstLine s)
 unfolding firstLine
 line-some [] h = h

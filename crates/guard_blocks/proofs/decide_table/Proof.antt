@@ -3,10 +3,11 @@ use mathlib.Core.Path.{_≡_, sym, ap, _∙_}
 use mathlib.Core.Logic.{⊎-elim}
 use Prim.Native.Nat.{ℕ, _-_, _<_}
 use native.Mathlib.Omega.{arith}
+use borrow.Rule.Slice.PartAt.{part-to-end}
 use mathlib.Core.List.{List}
 use Rattle.definitions.specs.Blocks.{recordLength, recordOf}
 use Rattle.guard_blocks.specs.Numbering.{meetsRecord}
-use Rattle.guard_blocks.proofs.Records.{head-within, part-is, whole-part, open-met, unmet, closed-kept, may-told, record-passed}
+use Rattle.guard_blocks.proofs.Records.{head-within, whole-part, open-met, unmet, closed-kept, may-told, record-passed}
 use Rattle.guard_blocks.proofs.Renumbering.{Renumbering, renumbering-in, renumbering-out, renumbering-kept, renumbering-set, here-whole, step-within, here-room}
 use Rattle.guard_blocks.proofs.decide_table.Statement.{statement}
 use Rattle.guard_blocks.proofs.decide_table.Tie as tie
@@ -82,7 +83,7 @@ add-at c =
     let i = c .before .before .before .before in
     let l = i .before in
     let a = l .before .before .before in
-    let n = c .record-length .ensures ∙ ap recordLength (part-is (l .loop .at) (a .args .block .now)) in
+    let n = c .record-length .ensures ∙ ap recordLength (part-to-end (a .args .block .now) (l .loop .at)) in
     omega
     (arith, n, step-within (meetsRecord (a .args .t)) (a .args .answer) (l .loop .inv) (omega (arith, i .loop-test .taken)) (a .pre .1 .1))
 
@@ -99,7 +100,7 @@ loop-again c =
     let l = i .before in
     let a = l .before .before .before in
     let x = a .args in
-    let part = part-is (l .loop .at) (x .block .now) in
+    let part = part-to-end (x .block .now) (l .loop .at) in
     let n = c .record-length .ensures ∙ ap recordLength part in
     let more : l .loop .i < x .packets = omega (arith, i .loop-test .taken) in
     let kept = renumbering-kept (meetsRecord (x .t)) (x .answer) (l .loop .inv) more (a .pre .1 .1) in

@@ -3,9 +3,9 @@ use mathlib.Core.Path.{_≡_, refl, ap, _∙_}
 use Prim.Native.Nat.{_-_, _<_}
 use native.Mathlib.Omega.{arith}
 use lib.ListN.{length}
+use borrow.Rule.Slice.PartAt.{part-to-end}
 use Rattle.rule_book.specs.Lines.{firstLine}
 use Rattle.rule_book.proofs.Loading.{Loading, too-long, loading-in, loading-out, loading-not, loading-on, start-short, line-few, step-within, step-on}
-use Rattle.rule_book.proofs.Loading.{rest-is}
 use Rattle.rule_book.proofs.load.Statement.{statement}
 use Rattle.rule_book.proofs.load.Tie as tie
 
@@ -59,7 +59,7 @@ returns-2 c =
     let i = f .before .before in
     let l = i .before in
     let book = l .before .before .before .before .args .book .now in
-    loading-not (l .loop .inv) (omega (arith, i .loop-test .taken)) (f .first-line .result .now) (f .first-line .ensures ∙ ap firstLine (rest-is book (l .loop .at)))
+    loading-not (l .loop .inv) (omega (arith, i .loop-test .taken)) (f .first-line .result .now) (f .first-line .ensures ∙ ap firstLine (part-to-end book (l .loop .at)))
     (d .check-line .ensures) _ (k .checked .given .1) (c .refused-book2 .ensures)
 
 enum-known-checked-2 : tie.Need-enum-known-checked-2 Inv-loop μ-loop
@@ -73,7 +73,7 @@ moved-to-requires c κs =
     let i = f .before .before in
     let l = i .before in
     let book = l .before .before .before .before .args .book .now in
-    start-short (l .loop .inv) (omega (arith, i .loop-test .taken)) (f .first-line .result .now) (f .first-line .ensures ∙ ap firstLine (rest-is book (l .loop .at)))
+    start-short (l .loop .inv) (omega (arith, i .loop-test .taken)) (f .first-line .result .now) (f .first-line .ensures ∙ ap firstLine (part-to-end book (l .loop .at)))
     (d .check-line .ensures) _ (k .checked2 .given .1)
 
 mul-list : tie.Need-mul-list Inv-loop μ-loop
@@ -87,7 +87,7 @@ array-set-from-list c =
     let i = f .before .before in
     let l = i .before in
     let book = l .before .before .before .before .args .book .now in
-    line-few (l .loop .inv) (omega (arith, i .loop-test .taken)) (f .first-line .result .now) (f .first-line .ensures ∙ ap firstLine (rest-is book (l .loop .at)))
+    line-few (l .loop .inv) (omega (arith, i .loop-test .taken)) (f .first-line .result .now) (f .first-line .ensures ∙ ap firstLine (part-to-end book (l .loop .at)))
     (d .check-line .ensures) _ (k .checked2 .given .1)
 
 add-n : tie.Need-add-n Inv-loop μ-loop
@@ -102,7 +102,7 @@ add-at c =
     omega (
       arith,
       step-within (l .loop .inv) (omega (arith, i .loop-test .taken)) (f .first-line .result .now)
-          (f .first-line .ensures ∙ ap firstLine (rest-is book (l .loop .at))),
+          (f .first-line .ensures ∙ ap firstLine (part-to-end book (l .loop .at))),
       l .loop .inv .short,
     )
 
@@ -112,7 +112,7 @@ loop-less c =
     let i = f .before .before in
     let l = i .before in
     let book = l .before .before .before .before .args .book .now in
-    let e = f .first-line .ensures ∙ ap firstLine (rest-is book (l .loop .at)) in
+    let e = f .first-line .ensures ∙ ap firstLine (part-to-end book (l .loop .at)) in
     let m : l .loop .at < length book = omega (arith, i .loop-test .taken) in
     omega (arith, step-within (l .loop .inv) m (f .first-line .result .now) e, step-on (l .loop .inv) m (f .first-line .result .now) e)
 
@@ -124,7 +124,7 @@ loop-again c =
     let i = f .before .before in
     let l = i .before in
     let book = l .before .before .before .before .args .book .now in
-    loading-on (l .loop .inv) (omega (arith, i .loop-test .taken)) (f .first-line .result .now) (f .first-line .ensures ∙ ap firstLine (rest-is book (l .loop .at)))
+    loading-on (l .loop .inv) (omega (arith, i .loop-test .taken)) (f .first-line .result .now) (f .first-line .ensures ∙ ap firstLine (part-to-end book (l .loop .at)))
     (d .check-line .ensures) _ (k .checked2 .given .1) (c .moved-to .result) (c .moved-to .ensures)
 
 returns-3 : tie.Need-returns-3 Inv-loop μ-loop
