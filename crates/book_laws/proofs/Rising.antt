@@ -38,7 +38,7 @@ rises-over last (x ∷ rs) h r m =
 refused-not : {A : Type 0} (r : Refusal) (line n : ℕ) → Refused r line ≡ Accepted n → A
 refused-not r line n e = let z : false ≡ true = cc in absurd (false≢true z)
 
-passed-line : (d : Check) (n k : ℕ) (j : Judgement) → unlessLine d n j ≡ Accepted k → (d ≡ Pass) × (j ≡ Accepted k)
+pub passed-line : (d : Check) (n k : ℕ) (j : Judgement) → unlessLine d n j ≡ Accepted k → (d ≡ Pass) × (j ≡ Accepted k)
 passed-line Pass n k j e = (refl, e)
 passed-line (Refuse r) n k j e = refused-not r n k e
 
@@ -58,15 +58,17 @@ module _ (lim : Limits) where
       let w = passed-line (lineCheck lim (suc n) last l) (suc n) k _ e in
       (line-rises (suc n) last l (w .0), lines-rise (suc n) (ruleNumber l) ls k (w .1))
 
-  accepted-lines : (book : List ℕ) (n : ℕ) → judge lim book ≡ Accepted n → judgeLines lim 0 0 (bookLines book) ≡ Accepted n
+  -- an accepted book is not too long, and each of its lines passes
+  pub accepted-book : (book : List ℕ) (n : ℕ) → judge lim book ≡ Accepted n
+      → (ltb maxBook (length book) ≡ false) × (judgeLines lim 0 0 (bookLines book) ≡ Accepted n)
   unfolding judge
-  accepted-lines book n e = go (ltb maxBook (length book)) e
+  accepted-book book n e = go (ltb maxBook (length book)) e
     where
       go : (b : Bool) → (if b then Refused refusal.BookLength 0 else judgeLines lim 0 0 (bookLines book)) ≡ Accepted n
-          → judgeLines lim 0 0 (bookLines book) ≡ Accepted n
+          → (b ≡ false) × (judgeLines lim 0 0 (bookLines book) ≡ Accepted n)
       go true h = refused-not refusal.BookLength 0 n h
-      go false h = h
+      go false h = (refl, h)
 
   pub rules-rise : (book : List ℕ) (n : ℕ) → judge lim book ≡ Accepted n → Rises 0 (rulesOf book)
   unfolding rulesOf
-  rules-rise book n e = lines-rise 0 0 (bookLines book) n (accepted-lines book n e)
+  rules-rise book n e = lines-rise 0 0 (bookLines book) n (accepted-book book n e .1)

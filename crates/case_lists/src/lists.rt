@@ -4,7 +4,7 @@ ghost use Rattle.definitions.specs.Fields.{fieldsCheck};
 ghost use Rattle.definitions.specs.Placements.{lexLess};
 ghost use Rattle.definitions.specs.Answers.{inputCheck, placementsOf};
 ghost use Rattle.write_bytes.specs.Puts.{Puts};
-ghost use Rattle.search.specs.Searching.{Searchable};
+ghost use Rattle.search.specs.Searching.{searchedTable, Searchable};
 ghost use Rattle.match_placements.specs.Listing.{listIn};
 ghost use Rattle.case_lists.specs.AnswerTexts.{placementsAfter, maxAfter, listText, checkText};
 use crate::answers::put_answer;
@@ -12,16 +12,20 @@ use crate::answers::put_refused;
 use crate::placement_text::put_placement;
 use definitions::answers::Found;
 use definitions::answers::PacketAnswer;
+use definitions::limits::ITEMS;
 use definitions::limits::PATTERNS;
 use definitions::packets::Direction;
 use definitions::packets::FieldMap;
 use definitions::packets::PacketHeader;
 use definitions::packets::Start;
+use definitions::table::Flow;
+use definitions::table::Slot;
 use definitions::table::Table;
 use match_checks::check_input;
 use match_placements::first_in;
 use packet::payload_of;
 use search::find;
+use table_well_formed::well_formed;
 use write_bytes::put;
 use write_bytes::put_word;
 
@@ -32,7 +36,11 @@ const AFTER: usize = 999;
 fn put_after<'a>(
     out: &mut [u8],
     at: usize,
-    t: Table,
+    protocol: u8,
+    flow: Flow,
+    items: [Slot; ITEMS],
+    count: usize,
+    bytes: &'a [u8],
     header: PacketHeader,
     payload: &'a [u8],
     decoded: &'a [u8],
@@ -40,14 +48,27 @@ fn put_after<'a>(
     m: FieldMap,
     starts: [Start; PATTERNS],
 ) -> usize
-    requires { ⌜ Searchable t (now payload) (now decoded) ⌝ }
-    ensures { λ r. ⌜ Puts (now (out .entry)) at (placementsAfter maxAfter (keep (lexLess starts) (listIn t header (now (payload .entry)) (now (decoded .entry)) dir m))) (now (out .exit)) r ⌝ }
+    requires { ⌜ Searchable items count (now bytes) (now payload) (now decoded) ⌝ }
+    ensures { λ r. ⌜ Puts (now (out .entry)) at (placementsAfter maxAfter (keep (lexLess starts) (listIn (searchedTable protocol flow items count (now (bytes .entry))) header (now (payload .entry)) (now (decoded .entry)) dir m))) (now (out .exit)) r ⌝ }
 {
     let mut bound = starts;
     let mut next = at;
     let mut k = 0;
     while k < AFTER {
-        let x = find(t, header, payload, decoded, dir, m, bound, true);
+        let x = find(
+            protocol,
+            flow,
+            items,
+            count,
+            bytes,
+            header,
+            payload,
+            decoded,
+            dir,
+            m,
+            bound,
+            true,
+        );
         if !x.found {
             return next;
         }
@@ -57,7 +78,20 @@ fn put_after<'a>(
         bound = placement.starts;
         k += 1;
     }
-    let more = find(t, header, payload, decoded, dir, m, bound, true);
+    let more = find(
+        protocol,
+        flow,
+        items,
+        count,
+        bytes,
+        header,
+        payload,
+        decoded,
+        dir,
+        m,
+        bound,
+        true,
+    );
     if !more.found {
         return next;
     }
@@ -68,17 +102,32 @@ fn put_after<'a>(
 fn put_seen<'a>(
     out: &mut [u8],
     at: usize,
-    t: Table,
+    protocol: u8,
+    flow: Flow,
+    items: [Slot; ITEMS],
+    count: usize,
+    bytes: &'a [u8],
     header: PacketHeader,
     payload: &'a [u8],
     decoded: &'a [u8],
     dir: Direction,
     m: FieldMap,
 ) -> usize
-    requires { ⌜ Searchable t (now payload) (now decoded) ⌝ }
-    ensures { λ r. ⌜ Puts (now (out .entry)) at (checkText (fieldsCheck (now (payload .entry)) (now (decoded .entry)) m) (listText (listIn t header (now (payload .entry)) (now (decoded .entry)) dir m))) (now (out .exit)) r ⌝ }
+    requires { ⌜ Searchable items count (now bytes) (now payload) (now decoded) ⌝ }
+    ensures { λ r. ⌜ Puts (now (out .entry)) at (checkText (fieldsCheck (now (payload .entry)) (now (decoded .entry)) m) (listText (listIn (searchedTable protocol flow items count (now (bytes .entry))) header (now (payload .entry)) (now (decoded .entry)) dir m))) (now (out .exit)) r ⌝ }
 {
-    let a = first_in(t, header, payload, decoded, dir, m);
+    let a = first_in(
+        protocol,
+        flow,
+        items,
+        count,
+        bytes,
+        header,
+        payload,
+        decoded,
+        dir,
+        m,
+    );
     let found = a.found;
     let Found::Placed = found else {
         return put_answer(out, at, a);
@@ -86,7 +135,21 @@ fn put_seen<'a>(
     let placement = a.placement;
     let next = put_placement(out, at, placement);
     let starts = placement.starts;
-    put_after(out, next, t, header, payload, decoded, dir, m, starts)
+    put_after(
+        out,
+        next,
+        protocol,
+        flow,
+        items,
+        count,
+        bytes,
+        header,
+        payload,
+        decoded,
+        dir,
+        m,
+        starts,
+    )
 }
 
 // The first refusal that is due, or the list.
@@ -101,12 +164,29 @@ pub fn put_list<'a>(
 ) -> usize
     ensures { λ r. ⌜ Puts (now (out .entry)) at (checkText (inputCheck t (now (p .entry)) (now (decoded .entry)) dir m) (listText (placementsOf t (now (p .entry)) (now (decoded .entry)) dir m))) (now (out .exit)) r ⌝ }
 {
-    let seen = check_input(t, p, decoded);
+    let name = t.name;
+    let items = t.items;
+    let formed = well_formed(name, t.len, items, t.count, &t.bytes, t.used);
+    let seen = check_input(formed, p, decoded);
     match seen {
         PacketAnswer::Refused(r) => put_refused(out, at, r),
         PacketAnswer::Seen(header) => {
             let payload = payload_of(p, header);
-            put_seen(out, at, t, header, payload, decoded, dir, m)
+            let flow = t.flow;
+            put_seen(
+                out,
+                at,
+                t.protocol,
+                flow,
+                items,
+                t.count,
+                &t.bytes,
+                header,
+                payload,
+                decoded,
+                dir,
+                m,
+            )
         }
     }
 }

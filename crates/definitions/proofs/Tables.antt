@@ -21,17 +21,18 @@ use Rattle.definitions.specs.declared.table.Item.the-variants as item
 use Rattle.definitions.specs.declared.table.Address.{Address}
 use Rattle.definitions.specs.declared.table.Slot.{Slot}
 use Rattle.definitions.specs.declared.table.Table.{Table}
-use Rattle.definitions.specs.Limits.{documentLimits, maxName}
+use Rattle.definitions.specs.Limits.{maxName}
 use Rattle.definitions.specs.Lists.{all?, padded}
 use Rattle.definitions.specs.OptionValues as entry
 use Rattle.definitions.specs.Tables.{bare, with, slotOf, noSlot, tableOf}
 use Rattle.definitions.specs.Items.{Kind, unused, addressed, patterned, plainTest, kindOf}
 use Rattle.definitions.specs.Reading.{read}
 use Rattle.definitions.specs.WellFormed.{wellFormed}
+use Rattle.definitions.specs.NumberCases.{narrowLimits}
 use Rattle.definitions.specs.Computing.{computing}
 
 pub good : Table
-good = read documentLimits (text "F-SBID(--name \"ab\";--protocol 6;--pattern \"xy\";--distance 1;--same_ip;--src_addr [1.2.3.4,5.6.7.8/9];)") .table
+good = read narrowLimits (text "F-SBID(--name \"ab\";--protocol 6;--pattern \"xy\";--distance 1;--same_ip;--src_addr [1.2.3.4,5.6.7.8/9];)") .table
 
 -- ---- edits
 
@@ -125,7 +126,7 @@ kept =
 pub broken : List (Table → Table)
 broken =
     -- the refusals' empty table
-    (λ t. tableOf 1024 []) ∷
+    (λ t. tableOf (narrowLimits .room) []) ∷
     withProtocol 256 ∷
     named [] 0 ∷
     named (replicate 64 65) 65 ∷

@@ -34,10 +34,10 @@ use Rattle.definitions.specs.Lines.{lineOf, lineTexts, linesFrom, output
 use Rattle.definitions.specs.Cases.{pairs, sameLists, signature, packetWith, uriOnly, numbersOf, rightBy, right, found, none, onPayload, onUri, onText, cases, knownMistakes, dataAtCases}
 use Rattle.definitions.specs.NumberCases.{agrees, shownIn, refusalNumbers, ruleWith, illFormed, longRule, header, good, noFields, longUri, reads, readsOption, afterHead, rewrites, writesTo, seen, judged, firstOf, nextOf, ruleLine, rulesFrom, sixtyFour, judges, decidesFor, refusedWith, numberCases}
 use Rattle.definitions.specs.PlaceCases.{formPlaces, limitPlaces}
-use Rattle.definitions.specs.IpIdCases.{rewritesAtLimit, oldKind, oldKindAfterPattern, ipIdCases, oldKindCases, ipIdLimits}
+use Rattle.definitions.specs.IpIdCases.{beforePattern, rewritesAtLimit, oldKind, oldKindAfterPattern, ipIdCases, oldKindCases, ipIdLimits}
 use Rattle.definitions.specs.ByteTestCases.{byteTestTexts, byteTestCases}
 use Rattle.definitions.specs.BookCases.{ruleX, lineX, bookTexts, plantBook, plantPacket, udpPacket, bookDecisions, recordFor, plantBlock, inBlock, blockDecisions}
 
 unfoldable pub computing : ℕ
-unfolding lower sameWord run has Means loop scan overs over readAt bounds all? any? keep sameBytes digitValue valueOf isNumber find contains partBefore partAfter parts afterParts optionTable inName namedOption optionAt printable nameIn protocolIn flowIn modified slotsIn bytesIn tableOf patternsOf startBefore sameStart usable usableRun latest occurrenceCheck missing options checkedTable unboundedPlacing readPlacing holdsIpId renewed nameFits itemFits itemsFit bytesOf bytesFit wellFormed slotOptions canonicalOptions digitsOf addressesText fieldText comparisonText byteText patternText testText modifierText optionText optionsText canonicalText writingCheck writes bufferAfter bigEndian headerOf packetCheck packetAnswer fieldOf present fieldsCheck inAddresses addressHolds numberHolds fieldHolds numberAt bytesHold sizeHolds atHolds byteHolds testHolds inWindow alike standsAt lies lexLess constraints itemsOf positives upFrom spread liesIn starts unmatchedHolds Meets placements MeetsTable listed inputCheck placementsOf verdictAnswer firstAnswer nextAnswer bookLines isRuleNumber isState stateOf isAction actionOf isRule ruleNumber ruleSource ruleOf rulesOf lineCheck judgeLines judge decides decided decision ruleAt rulesIn sourceStart loadedAt loadedFrom loaded recordLength recordDirection recordField recordFields recordOf recordsUpTo bytesUpTo recordNumber blockNumbers blockAnswered answers lineOf lineTexts linesFrom outputOver programOutput pairs sameLists signature packetWith uriOnly numbersOf rightBy right found none onPayload onUri onText cases knownMistakes dataAtCases agrees shownIn refusalNumbers ruleWith illFormed longRule header good noFields longUri reads readsOption afterHead rewrites writesTo seen judged firstOf nextOf ruleLine rulesFrom sixtyFour judges decidesFor refusedWith numberCases formPlaces limitPlaces rewritesAtLimit oldKind oldKindAfterPattern ipIdCases oldKindCases ipIdLimits byteTestTexts byteTestCases ruleX lineX bookTexts plantBook plantPacket udpPacket bookDecisions recordFor plantBlock inBlock blockDecisions
+unfolding lower sameWord run has Means loop scan overs over readAt bounds all? any? keep sameBytes digitValue valueOf isNumber find contains partBefore partAfter parts afterParts optionTable inName namedOption optionAt printable nameIn protocolIn flowIn modified slotsIn bytesIn tableOf patternsOf startBefore sameStart usable usableRun latest occurrenceCheck missing options checkedTable unboundedPlacing readPlacing holdsIpId renewed nameFits itemFits itemsFit bytesOf bytesFit wellFormed slotOptions canonicalOptions digitsOf addressesText fieldText comparisonText byteText patternText testText modifierText optionText optionsText canonicalText writingCheck writes bufferAfter bigEndian headerOf packetCheck packetAnswer fieldOf present fieldsCheck inAddresses addressHolds numberHolds fieldHolds numberAt bytesHold sizeHolds atHolds byteHolds testHolds inWindow alike standsAt lies lexLess constraints itemsOf positives upFrom spread liesIn starts unmatchedHolds Meets placements MeetsTable listed inputCheck placementsOf verdictAnswer firstAnswer nextAnswer bookLines isRuleNumber isState stateOf isAction actionOf isRule ruleNumber ruleSource ruleOf rulesOf lineCheck judgeLines judge decides decided decision ruleAt rulesIn sourceStart loadedAt loadedFrom loaded recordLength recordDirection recordField recordFields recordOf recordsUpTo bytesUpTo recordNumber blockNumbers blockAnswered answers lineOf lineTexts linesFrom outputOver programOutput pairs sameLists signature packetWith uriOnly numbersOf rightBy right found none onPayload onUri onText cases knownMistakes dataAtCases agrees shownIn refusalNumbers ruleWith illFormed longRule header good noFields longUri reads readsOption afterHead rewrites writesTo seen judged firstOf nextOf ruleLine rulesFrom sixtyFour judges decidesFor refusedWith numberCases formPlaces limitPlaces beforePattern rewritesAtLimit oldKind oldKindAfterPattern ipIdCases oldKindCases ipIdLimits byteTestTexts byteTestCases ruleX lineX bookTexts plantBook plantPacket udpPacket bookDecisions recordFor plantBlock inBlock blockDecisions
 computing = 0

@@ -2,27 +2,30 @@
 -- last four roundtrip/proofs/IpIdLimits.antt.
 use mathlib.Core.Bool.{false}
 use mathlib.Core.List.{List, [], _∷_, _++_}
-use Prim.Native.Nat.{ℕ}
+use Prim.Native.Nat.{ℕ, _+_, _-_}
 use Prim.Native.String.{String}
-use lib.ListN.{replicate}
+use lib.ListN.{length, replicate}
 use Rattle.forms.specs.Bytes.{text}
 use Rattle.definitions.specs.declared.table.NumberField.the-variants as numberField
 use Rattle.definitions.specs.declared.table.Item.the-variants as item
 use Rattle.definitions.specs.declared.table.Table.{Table}
-use Rattle.definitions.specs.Limits.{documentLimits}
 use Rattle.definitions.specs.OptionValues.{Pattern}
 use Rattle.definitions.specs.Forms.{test}
 use Rattle.definitions.specs.Reading.{read}
 use Rattle.definitions.specs.Writing.{writes}
 use Rattle.definitions.specs.AnswerNumbers.{writeNumbers}
-use Rattle.definitions.specs.NumberCases.{Example, ruleWith, good, noFields, longUri, readsOption, afterHead, rewrites, writesTo, judged, firstOf, nextOf, refusedWith}
+use Rattle.definitions.specs.NumberCases.{narrowLimits, Example, ruleWith, good, noFields, longUri, readsOption, afterHead, rewrites, writesTo, judged, firstOf, nextOf, refusedWith}
 
--- so many bytes of a pattern after an option: what the writer answers for what is read
+-- an option before a pattern of so many bytes
+unfoldable pub beforePattern : String → ℕ → List ℕ
+beforePattern s n = afterHead (text s ++ (text " --pattern \"" ++ (replicate n 97 ++ text "\";")))
+
+-- such a text, so many bytes below the narrow limit: what the writer answers for what is read
 unfoldable pub rewritesAtLimit : String → ℕ → List ℕ → Example
-rewritesAtLimit s n said =
+rewritesAtLimit s below said =
     record {
-      given = writeNumbers (writes documentLimits (read documentLimits (afterHead (text s ++ (text " --pattern \"" ++ (replicate n 97 ++ text "\";")))) .table)
-          (replicate 1024 7));
+      given = writeNumbers (writes narrowLimits
+          (read narrowLimits (beforePattern s (narrowLimits .text - (length (beforePattern s 0) + below))) .table) (replicate (narrowLimits .canonical) 7));
       said = said;
     }
 
@@ -58,11 +61,11 @@ oldKindCases =
     nextOf oldKindAfterPattern [] (refusedWith 20) ∷
     []
 
--- texts of 1,022, 1,023 and 1,024 bytes, and the first of them with the other spelling
+-- texts of two bytes less than the limit, of one byte less and at the limit; and the first of them with the other spelling
 unfoldable pub ipIdLimits : List Example
 ipIdLimits =
-    rewritesAtLimit " --ip_id 5;" 962 (0 ∷ 1024 ∷ []) ∷
-    rewritesAtLimit " --ip_id 5;" 963 (21 ∷ 0 ∷ []) ∷
-    rewritesAtLimit " --ip_id 5;" 964 (21 ∷ 0 ∷ []) ∷
-    rewritesAtLimit " --ip.id = 5;" 962 (0 ∷ 1024 ∷ []) ∷
+    rewritesAtLimit " --ip_id 5;" 2 (0 ∷ narrowLimits .canonical ∷ []) ∷
+    rewritesAtLimit " --ip_id 5;" 1 (21 ∷ 0 ∷ []) ∷
+    rewritesAtLimit " --ip_id 5;" 0 (21 ∷ 0 ∷ []) ∷
+    rewritesAtLimit " --ip.id = 5;" 0 (0 ∷ narrowLimits .canonical ∷ []) ∷
     []

@@ -7,8 +7,13 @@ pub record Limits : Type 0 where
   pub canonical : ℕ
   pub room : ℕ
 
+-- document 02, T-11
 abbrev pub documentLimits : Limits
-documentLimits = record { text = 1024; canonical = 1024; room = 1024 }
+documentLimits = record { text = 4096; canonical = 4096; room = 4096 }
+
+-- document 01's, which T-11 raised: for what is stated of the two (limit_laws) alone
+abbrev pub formerLimits : Limits
+formerLimits = record { text = 1024; canonical = 1024; room = 1024 }
 
 -- bytes of a name; patterns, tests and items of a table; addresses of a test
 abbrev pub maxName : ℕ

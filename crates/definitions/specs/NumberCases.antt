@@ -2,20 +2,18 @@
 -- proofs/EveryNumber.antt has the statement.
 use mathlib.Core.Bool.{Bool, false}
 use mathlib.Core.List.{List, [], _∷_, _++_, map}
-use Prim.Native.Nat.{ℕ, zero, suc}
+use Prim.Native.Nat.{ℕ, zero, suc, _/_}
 use Prim.Native.String.{String}
 use lib.ListN.{getD, replicate}
 use lib.Dec.{eqb}
 use Rattle.forms.specs.Bytes.{text}
-use Rattle.definitions.specs.declared.table.Side.the-variants.{Source}
-use Rattle.definitions.specs.declared.table.Item.the-variants as item
 use Rattle.definitions.specs.declared.table.Table.{Table}
 use Rattle.definitions.specs.declared.packets.Direction.the-variants.{Client}
 use Rattle.definitions.specs.declared.packets.FieldSpan.the-variants.{Absent, At}
 use Rattle.definitions.specs.declared.packets.FieldMap.{FieldMap}
-use Rattle.definitions.specs.Limits.{documentLimits}
+use Rattle.definitions.specs.Limits.{Limits, documentLimits}
 use Rattle.definitions.specs.Lists.{any?, sameBytes}
-use Rattle.definitions.specs.OptionValues.{OptionValue, Name, Protocol, Test, Pattern}
+use Rattle.definitions.specs.OptionValues.{OptionValue, Name, Protocol, Pattern}
 use Rattle.definitions.specs.Tables.{tableOf}
 use Rattle.definitions.specs.Starts.{startAt}
 use Rattle.definitions.specs.Reading.{read}
@@ -48,18 +46,21 @@ refusalNumbers = 1 ∷ 2 ∷ 3 ∷ 4 ∷ 5 ∷ 6 ∷ 7 ∷ 8 ∷ 9 ∷ 10 ∷ 11
 
 -- ---- what is given to the entries
 
+-- limits for examples that need no long texts: few bytes are computed sooner, and what is read, written or matched under narrow limits is so under all that allow more
+-- (limit_laws)
+abbrev pub narrowLimits : Limits
+narrowLimits = record { text = 128; canonical = 128; room = 128 }
+
 -- the table of some options after a name and a protocol, and one with a protocol beyond its limit
 unfoldable pub ruleWith : List OptionValue → Table
-ruleWith es = tableOf (documentLimits .room) (Name (text "n") ∷ Protocol 6 ∷ es)
+ruleWith es = tableOf (narrowLimits .room) (Name (text "n") ∷ Protocol 6 ∷ es)
 
 unfoldable pub illFormed : Table
-illFormed = tableOf (documentLimits .room) (Name (text "n") ∷ Protocol 256 ∷ [])
+illFormed = tableOf (narrowLimits .room) (Name (text "n") ∷ Protocol 256 ∷ [])
 
--- 64 addresses of 18 bytes
+-- half as many pattern bytes as a table has room for, each written in hex: the canonical text is longer than one may be
 unfoldable pub longRule : Table
-longRule =
-    ruleWith (replicate 8
-    (Test (item.Address (record { side = Source; negated = false; count = 8 })) (replicate 8 (record { number = 4294967295; prefix = 31 }))))
+longRule = tableOf (documentLimits .room) (Name (text "n") ∷ Protocol 6 ∷ Pattern false (replicate (documentLimits .room / 2) 0) ∷ [])
 
 -- a packet of 20 bytes: from the first on, and from the flags on, as said
 unfoldable pub header : String → String → List ℕ

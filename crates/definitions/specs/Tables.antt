@@ -112,3 +112,8 @@ tableOf room es =
       items = padded maxItems noSlot (slotsIn es);
       count = length (slotsIn es);
     }
+
+-- a table by its parts, for the contracts of functions that take of a table what they use
+abbrev pub tableWith : List ℕ → ℕ → ℕ → flows.Flow → List ℕ → ℕ → List Slot → ℕ → Table
+tableWith name len protocol flow bytes used items count =
+    record { name = name; len = len; protocol = protocol; flow = flow; bytes = bytes; used = used; items = items; count = count }

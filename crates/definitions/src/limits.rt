@@ -3,12 +3,12 @@ ghost use mathlib.Core.Path.{_≡_};
 ghost use Rattle.definitions.specs.CodeLimits.{codeLimits};
 
 // Bytes of a text, and of a canonical text.
-pub const TEXT_BYTES: usize = 1024;
+pub const TEXT_BYTES: usize = 4096;
 
-pub const CANONICAL_BYTES: usize = 1024;
+pub const CANONICAL_BYTES: usize = 4096;
 
 // What a table holds: pattern bytes in all, bytes of the name, patterns, tests, items, addresses of one test.
-pub const PATTERN_BYTES: usize = 1024;
+pub const PATTERN_BYTES: usize = 4096;
 
 pub const NAME_BYTES: usize = 64;
 

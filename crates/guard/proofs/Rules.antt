@@ -30,7 +30,9 @@ use Rattle.definitions.specs.Decisions.{isOn, isMet, decides, decided}
 use Rattle.definitions.specs.LoadedBooks.{ruleAt, rulesIn}
 use Rattle.list_laws.proofs.Every.{drop-here}
 use Rattle.laws.proofs.Refusing.{refused-empty}
-use Rattle.roundtrip.proofs.Read.{read-well}
+use Rattle.roundtrip.proofs.Read.{read-shaped, read-well}
+use Rattle.matcher.specs.Matching.{Matchable}
+use Rattle.matcher.proofs.Matching.{formed-matchable}
 
 -- the empty table is not well formed: it has no name
 empty-formed : (room : ℕ) → wellFormed (tableOf room []) ≡ false
@@ -69,9 +71,17 @@ pub source-read : (book : List ℕ) (r : LoadedRule) {x : Reading} {s : List ℕ
 unfolding ruleAt
 source-read book r e k = e ∙ ap (read documentLimits) k
 
-pub read-formed : (s : List ℕ) (x : Reading) → x ≡ read documentLimits s → x .outcome ≡ outcome.Accepted → wellFormed (x .table) ≡ true
-read-formed s x e a =
-    read-well documentLimits s (x .table) (omega arith) (sym e ∙ ap (λ (o : ReadOutcome). record { outcome = o; table = x .table }) a)
+module _ (s : List ℕ) (x : Reading) (e : x ≡ read documentLimits s) (a : x .outcome ≡ outcome.Accepted) where
+  accepted : read documentLimits s ≡ acceptedReading (x .table)
+  accepted = sym e ∙ ap (λ (o : ReadOutcome). record { outcome = o; table = x .table }) a
+
+  pub read-formed : wellFormed (x .table) ≡ true
+  read-formed = read-well documentLimits s (x .table) (omega arith) accepted
+
+  pub read-matchable : Matchable (x .table .items) (x .table .count) (x .table .bytes)
+  read-matchable =
+      let n = read-shaped documentLimits s (x .table) (omega arith) accepted .roomy in
+      formed-matchable (x .table) read-formed (omega (arith, n))
 
 -- ---- the rules of a loaded book from a place on
 

@@ -60,7 +60,22 @@ fn rule_decides<'a>(
     let reading = reader::read(text_at(book, rule.start, rule.len));
     let outcome = reading.outcome;
     match outcome {
-        ReadOutcome::Accepted => matcher::meets(reading.table, p, decoded, dir, m),
+        ReadOutcome::Accepted => {
+            let t = reading.table;
+            let flow = t.flow;
+            let items = t.items;
+            matcher::meets(
+                t.protocol,
+                flow,
+                items,
+                t.count,
+                &t.bytes,
+                p,
+                decoded,
+                dir,
+                m,
+            )
+        }
         ReadOutcome::Refused(_, _) => false,
     }
 }

@@ -2,21 +2,26 @@
 // block, and only as long as some packet is not decided.
 ghost use mathlib.Core.Path.{_≡_};
 ghost use mathlib.Core.Bool.{true};
-ghost use Prim.Native.Nat.{_+_, _≤_, _<_};
+ghost use mathlib.Core.List.{List};
+ghost use Prim.Native.Nat.{ℕ, _+_, _≤_, _<_};
 ghost use lib.ListN.{length};
 ghost use Rattle.definitions.specs.Limits.{documentLimits};
+ghost use Rattle.definitions.specs.Tables.{tableWith};
 ghost use Rattle.definitions.specs.WellFormed.{wellFormed};
 ghost use Rattle.definitions.specs.LoadedBooks.{ruleAt, rulesIn};
 ghost use Rattle.definitions.specs.Blocks.{recordLength, recordDirection, recordOf, recordsUpTo, actionNumber, blockNumbers, blockAnswered};
 ghost use Rattle.matcher.specs.PassedOver.{mayMeet};
+ghost use Rattle.matcher.specs.Matching.{Matchable};
 ghost use Rattle.guard_numbers.specs.OpenNumbers.{openNumber};
 ghost use Rattle.guard_blocks.specs.Numbering.{meetsRecord, renumbered, byRule};
 use definitions::answers::ReadOutcome;
 use definitions::books::Answered;
 use definitions::books::LoadedRule;
 use definitions::books::Rules;
+use definitions::limits::ITEMS;
 use definitions::limits::RULES;
 use definitions::table::Flow;
+use definitions::table::Slot;
 use definitions::table::Table;
 use guard::is_on;
 use guard::text_at;
@@ -41,16 +46,33 @@ fn may_meet(protocol: u8, flow: Flow, s: &[u8]) -> bool
     matcher::may_meet(protocol, flow, &s[HEAD..end], record_direction(s))
 }
 
-// Whether a table meets the packet of the record at the front.
-fn meets(t: Table, s: &[u8]) -> bool
-    requires { ⌜ (wellFormed t ≡ true) × (recordLength (now s) ≤ length (now s)) ⌝ }
-    ensures { λ r. ⌜ r ≡ meetsRecord t (recordOf (now (s .entry))) ⌝ }
+// Whether a well-formed table of these parts meets the packet of the record at the front, whatever its name.
+fn meets<'a>(
+    protocol: u8,
+    flow: Flow,
+    items: [Slot; ITEMS],
+    count: usize,
+    bytes: &'a [u8],
+    s: &'a [u8],
+) -> bool
+    requires { ⌜ Matchable items count (now bytes) × (recordLength (now s) ≤ length (now s)) ⌝ }
+    ensures { λ r. ⌜ ((name : List ℕ) (len used : ℕ) → wellFormed (tableWith name len protocol flow (now (bytes .entry)) used items count) ≡ true → r ≡ meetsRecord (tableWith name len protocol flow (now (bytes .entry)) used items count) (recordOf (now (s .entry)))) ⌝ }
 {
     let m = record_fields(s);
     let dir = record_direction(s);
     let end = HEAD + number_at(s, 2);
     let to = end + number_at(s, 4);
-    matcher::meets(t, &s[HEAD..end], &s[end..to], dir, m)
+    matcher::meets(
+        protocol,
+        flow,
+        items,
+        count,
+        bytes,
+        &s[HEAD..end],
+        &s[end..to],
+        dir,
+        m,
+    )
 }
 
 // Decides by a rule's table the packets that are not decided.
@@ -58,15 +80,18 @@ fn decide_table(t: Table, answer: u32, block: &[u8], packets: usize, out: &mut [
     requires { ⌜ (wellFormed t ≡ true) × ((length (recordsUpTo packets (now block)) ≡ packets) × (packets ≤ length (now out))) ⌝ }
     ensures { λ _. ⌜ now (out .exit) ≡ renumbered (meetsRecord t) answer (recordsUpTo packets (now (block .entry))) (now (out .entry)) ⌝ }
 {
-    let protocol = t.protocol;
     let flow = t.flow;
+    let items = t.items;
+    let count = t.count;
+    let bytes = t.bytes;
+    let all = &bytes[..];
     let mut at = 0;
     let mut i = 0;
     while i < packets {
         let s = &block[at..];
         if out[i] == OPEN {
-            if may_meet(protocol, flow, s) {
-                if meets(t, s) {
+            if may_meet(t.protocol, flow, s) {
+                if meets(t.protocol, flow, items, count, all, s) {
                     out[i] = answer;
                 }
             }

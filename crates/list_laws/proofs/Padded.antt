@@ -1,10 +1,11 @@
--- Storing after what a padded array holds makes the padded array of the longer list: by where the stored element meets the padding. And its length.
+-- Storing after what a padded array holds makes the padded array of the longer list: by where the stored element meets the padding. Its length, and room added to
+-- it.
 use mathlib.Core.Path.{_≡_, sym, ap, _∙_}
-use mathlib.Core.List.{List, [], _∷_, _++_, append-nil}
+use mathlib.Core.List.{List, [], _∷_, _++_, append-nil, append-assoc}
 use Prim.Native.Nat.{ℕ, suc, _+_, _-_, _≤_, _<_}
 use native.Mathlib.Omega.{arith}
 use native.Mathlib.Numerals.{add-one}
-use lib.ListN.{length, getD, take, drop, set, replicate, length-append, length-drop, length-set, length-replicate, List·getD-append}
+use lib.ListN.{length, getD, take, drop, set, replicate, length-append, length-drop, length-set, length-replicate, replicate-append-replicate, List·getD-append}
 use lib.Seq.{sets, append-snoc, set-append-seam, set-append-left, take-suc, length-take-le, getD-drop}
 use Rattle.definitions.specs.Lists.{padded}
 
@@ -30,6 +31,14 @@ module _ {A : Type 0} (n : ℕ) (x : A) where
 
   pub padded-at : (l : List A) (i : ℕ) (d : A) → i < length l → getD (padded n x l) i d ≡ getD l i d
   padded-at l i d h = List·getD-append l (replicate (n - length l) x) d i h
+
+  -- more room after an array is more room after what it holds
+  pub padded-again : (k : ℕ) (l : List A) → k ≤ n → padded n x (padded k x l) ≡ padded n x l
+  padded-again k l h =
+      let m : ℕ = k - length l in
+      let r : ℕ = n - length (padded k x l) in
+      let e : m + r ≡ n - length l = omega (arith, h, length-append l (replicate m x), length-replicate m x) in
+      append-assoc l (replicate m x) (replicate r x) ∙ ap (λ (z : List A). l ++ z) (replicate-append-replicate m r x ∙ ap (λ (i : ℕ). replicate i x) e)
 
   -- a list that fits fills the array exactly, and one that does not makes it longer
   padded-length : (l : List A) → length (padded n x l) ≡ length l + (n - length l)

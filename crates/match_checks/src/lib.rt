@@ -3,15 +3,13 @@ ghost use mathlib.Core.Path.{_≡_};
 ghost use Rattle.match_checks.specs.InputChecks.{inputHeader};
 use definitions::answers::PacketAnswer;
 use definitions::answers::Refusal;
-use definitions::table::Table;
 use packet::packet_header;
-use table_well_formed::well_formed;
 
-// The header fields of the packet's datagram, or the first refusal that is due.
-pub fn check_input<'a>(t: Table, p: &'a [u8], decoded: &'a [u8]) -> PacketAnswer
-    ensures { λ r. ⌜ r ≡ inputHeader t (now (p .entry)) (now (decoded .entry)) ⌝ }
+// The header fields of the packet's datagram, or the first refusal that is due; `formed` is whether the table is well formed.
+pub fn check_input<'a>(formed: bool, p: &'a [u8], decoded: &'a [u8]) -> PacketAnswer
+    ensures { λ r. ⌜ r ≡ inputHeader formed (now (p .entry)) (now (decoded .entry)) ⌝ }
 {
-    if !well_formed(t) {
+    if !formed {
         return PacketAnswer::Refused(Refusal::IllFormed);
     }
     packet_header(p, decoded)

@@ -27,7 +27,7 @@ use Rattle.match_placements.proofs.CheckedInput.{CheckedInput, refused-check, c
 
 -- ---- a refusal is due: a is what the checks answered, x the answer given
 
-module _ (t : Table) (p d : List ℕ) (dir : Direction) (m : FieldMap) {a : PacketAnswer} (e : a ≡ inputHeader t p d) {r : Refusal}
+module _ (t : Table) (p d : List ℕ) (dir : Direction) (m : FieldMap) {a : PacketAnswer} (e : a ≡ inputHeader (wellFormed t) p d) {r : Refusal}
     (k : a ≡ packet.Refused r) where
   pub verdict-refused : verdict.Refused r ≡ verdictAnswer t p d dir m
   unfolding verdictAnswer
@@ -63,6 +63,6 @@ module _ {t : Table} {p d : List ℕ} {f : PacketHeader} {s : List ℕ} (c : Che
 
 -- ---- a table that is known to be well formed
 
-pub formed-header : (t : Table) (p d : List ℕ) → wellFormed t ≡ true → packetAnswer p d ≡ inputHeader t p d
+pub formed-header : (t : Table) (p d : List ℕ) → wellFormed t ≡ true → packetAnswer p d ≡ inputHeader (wellFormed t) p d
 unfolding packetAnswer
 formed-header t p d e = rw e

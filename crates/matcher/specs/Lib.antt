@@ -1,2 +1,3 @@
 -- What the contracts of `matcher` cite beside the definitions.
 pub mod PassedOver
+pub mod Matching

@@ -3,18 +3,24 @@
 // answer lends anything: it costs a caller nothing.
 ghost use mathlib.Core.Path.{_≡_};
 ghost use mathlib.Core.Bool.{true};
+ghost use mathlib.Core.List.{List};
+ghost use Prim.Native.Nat.{ℕ};
+ghost use Rattle.definitions.specs.Tables.{tableWith};
 ghost use Rattle.definitions.specs.Answers.{verdictAnswer, firstAnswer, nextAnswer};
 ghost use Rattle.definitions.specs.WellFormed.{wellFormed};
 ghost use Rattle.definitions.specs.Decisions.{isMet};
 ghost use Rattle.matcher.specs.PassedOver.{mayMeet};
+ghost use Rattle.matcher.specs.Matching.{Matchable};
 ghost use Rattle.definitions.specs.AnswerNumbers.{verdictNumbers, answerNumbers, verdictInNumbers, firstInNumbers, nextInNumbers};
 use definitions::answers::Answer;
 use definitions::answers::PacketAnswer;
 use definitions::answers::Verdict;
+use definitions::limits::ITEMS;
 use definitions::packets::Direction;
 use definitions::packets::FieldMap;
 use definitions::packets::Placement;
 use definitions::table::Flow;
+use definitions::table::Slot;
 use definitions::table::Table;
 use match_answers::answers::refused;
 use match_answers::verdicts::verdict_of;
@@ -24,18 +30,34 @@ use match_placements::first_in;
 use match_placements::next_in;
 use packet::packet_header;
 use packet::payload_of;
+use table_well_formed::well_formed;
 
 // THE VERDICT: met exactly if some placement meets the table.
 pub fn verdict<'a>(t: Table, p: &'a [u8], decoded: &'a [u8], dir: Direction, m: FieldMap) -> Verdict
     ensures answer { λ r. ⌜ r ≡ verdictAnswer t (now (p .entry)) (now (decoded .entry)) dir m ⌝ }
     ensures numbers { λ r. ⌜ verdictNumbers r ≡ verdictInNumbers t (now (p .entry)) (now (decoded .entry)) dir m ⌝ }
 {
-    let seen = check_input(t, p, decoded);
+    let name = t.name;
+    let items = t.items;
+    let formed = well_formed(name, t.len, items, t.count, &t.bytes, t.used);
+    let seen = check_input(formed, p, decoded);
     match seen {
         PacketAnswer::Refused(r) => Verdict::Refused(r), // 20 and 30 to 34 come before 35
         PacketAnswer::Seen(header) => {
             let payload = payload_of(p, header);
-            let a = first_in(t, header, payload, decoded, dir, m);
+            let flow = t.flow;
+            let a = first_in(
+                t.protocol,
+                flow,
+                items,
+                t.count,
+                &t.bytes,
+                header,
+                payload,
+                decoded,
+                dir,
+                m,
+            );
             let found = a.found;
             verdict_of(found)
         }
@@ -47,12 +69,27 @@ pub fn first<'a>(t: Table, p: &'a [u8], decoded: &'a [u8], dir: Direction, m: Fi
     ensures answer { λ r. ⌜ r ≡ firstAnswer t (now (p .entry)) (now (decoded .entry)) dir m ⌝ }
     ensures numbers { λ r. ⌜ answerNumbers r ≡ firstInNumbers t (now (p .entry)) (now (decoded .entry)) dir m ⌝ }
 {
-    let seen = check_input(t, p, decoded);
+    let name = t.name;
+    let items = t.items;
+    let formed = well_formed(name, t.len, items, t.count, &t.bytes, t.used);
+    let seen = check_input(formed, p, decoded);
     match seen {
         PacketAnswer::Refused(r) => refused(r),
         PacketAnswer::Seen(header) => {
             let payload = payload_of(p, header);
-            first_in(t, header, payload, decoded, dir, m)
+            let flow = t.flow;
+            first_in(
+                t.protocol,
+                flow,
+                items,
+                t.count,
+                &t.bytes,
+                header,
+                payload,
+                decoded,
+                dir,
+                m,
+            )
         }
     }
 }
@@ -69,12 +106,28 @@ pub fn next<'a>(
     ensures answer { λ r. ⌜ r ≡ nextAnswer t (now (p .entry)) (now (decoded .entry)) dir m held ⌝ }
     ensures numbers { λ r. ⌜ answerNumbers r ≡ nextInNumbers t (now (p .entry)) (now (decoded .entry)) dir m held ⌝ }
 {
-    let seen = check_input(t, p, decoded);
+    let name = t.name;
+    let items = t.items;
+    let formed = well_formed(name, t.len, items, t.count, &t.bytes, t.used);
+    let seen = check_input(formed, p, decoded);
     match seen {
         PacketAnswer::Refused(r) => refused(r), // 20 and 30 to 34 come before 36
         PacketAnswer::Seen(header) => {
             let payload = payload_of(p, header);
-            next_in(t, header, payload, decoded, dir, m, held)
+            let flow = t.flow;
+            next_in(
+                t.protocol,
+                flow,
+                items,
+                t.count,
+                &t.bytes,
+                header,
+                payload,
+                decoded,
+                dir,
+                m,
+                held,
+            )
         }
     }
 }
@@ -103,17 +156,38 @@ fn is_met(v: Verdict) -> bool
     }
 }
 
-// For a caller that knows its table to be well formed, as one that was read is: whether the verdict is met.
-pub fn meets<'a>(t: Table, p: &'a [u8], decoded: &'a [u8], dir: Direction, m: FieldMap) -> bool
-    requires { ⌜ wellFormed t ≡ true ⌝ }
-    ensures { λ r. ⌜ r ≡ isMet (verdictAnswer t (now (p .entry)) (now (decoded .entry)) dir m) ⌝ }
+// For a caller that knows its table to be well formed, as one that was read is, and has its parts at hand: whether the verdict is met, whatever the table's name.
+pub fn meets<'a>(
+    protocol: u8,
+    flow: Flow,
+    items: [Slot; ITEMS],
+    count: usize,
+    bytes: &'a [u8],
+    p: &'a [u8],
+    decoded: &'a [u8],
+    dir: Direction,
+    m: FieldMap,
+) -> bool
+    requires { ⌜ Matchable items count (now bytes) ⌝ }
+    ensures { λ r. ⌜ ((name : List ℕ) (len used : ℕ) → wellFormed (tableWith name len protocol flow (now (bytes .entry)) used items count) ≡ true → r ≡ isMet (verdictAnswer (tableWith name len protocol flow (now (bytes .entry)) used items count) (now (p .entry)) (now (decoded .entry)) dir m)) ⌝ }
 {
     let seen = packet_header(p, decoded);
     match seen {
         PacketAnswer::Refused(_) => false,
         PacketAnswer::Seen(header) => {
             let payload = payload_of(p, header);
-            let a = first_in(t, header, payload, decoded, dir, m);
+            let a = first_in(
+                protocol,
+                flow,
+                items,
+                count,
+                bytes,
+                header,
+                payload,
+                decoded,
+                dir,
+                m,
+            );
             let found = a.found;
             is_met(verdict_of(found))
         }

@@ -1,6 +1,6 @@
 -- The contracts of inserting, of what the code does: a value by its kind, at any options that make the state; and the judgement at the end.
-use mathlib.Core.Path.{_≡_, sym, ap, subst, _∙_}
-use mathlib.Core.Bool.{not}
+use mathlib.Core.Path.{_≡_, refl, sym, ap, subst, _∙_}
+use mathlib.Core.Bool.{Bool, true, false, not, _||_}
 use mathlib.Core.List.{List, []}
 use Prim.Native.Nat.{ℕ, _-_, _<_}
 use native.Mathlib.Omega.{arith}
@@ -11,10 +11,11 @@ use borrow.Author.Tests.{ltb-true}
 use Rattle.forms.specs.Bytes.{if_then_else_}
 use Rattle.forms.proofs.Bools.{by-cases}
 use Rattle.definitions.specs.declared.answers.Refusal.the-variants as refusal
-use Rattle.definitions.specs.declared.answers.Reading.{Reading}
+use Rattle.definitions.specs.declared.answers.ReadOutcome.the-variants as outcome
 use Rattle.definitions.specs.declared.packets.LastMatch.the-variants.{None}
 use Rattle.definitions.specs.declared.table.Address.{Address}
 use Rattle.definitions.specs.declared.table.Slot.{Slot}
+use Rattle.definitions.specs.declared.table.Table.{Table}
 use Rattle.definitions.specs.Limits.{documentLimits, maxPatterns, maxItems, maxAddresses}
 use Rattle.definitions.specs.Lists.{any?, count, padded}
 use Rattle.definitions.specs.OptionValues.{Context, NoCase, Distance, Within, OptionValue, Name, Protocol}
@@ -28,10 +29,9 @@ use Rattle.read_value.specs.declared.Value.the-variants as value
 use Rattle.read_value.specs.Values.{optionValueOf}
 use Rattle.read_state.specs.declared.State.{State}
 use Rattle.read_state.specs.declared.Inserted.{Inserted}
-use Rattle.read_state.specs.State.{dashesOf, stateFrom, stateOf, Holds, lastSlot, Beside, After, optionIn, InsertedRight, CheckedRight}
+use Rattle.read_state.specs.State.{dashesOf, stateFrom, stateOf, Holds, lastSlot, Beside, After, optionIn, InsertedRight}
 use Rattle.read_insert.specs.Inserting.{valueInserted}
-use Rattle.read_insert.specs.Checking.{tableIn, usableHeld, checkedIn}
-use Rattle.read_insert.proofs.Choosing.{if-or}
+use Rattle.read_insert.specs.Checking.{tableIn, usableHeld, outcomeIn, readingBy}
 use Rattle.list_laws.proofs.Padded.{padded-at}
 use Rattle.read_insert.proofs.OneMore.{count-none, dashes-length}
 use Rattle.read_insert.proofs.Outcomes.{Outcome, name-outcome, protocol-outcome, flow-outcome}
@@ -89,18 +89,17 @@ inserted-right st last dash v list used = record { check = λ k. here k .check; 
 -- ---- judging
 
 -- the code's two tests are the definition's one
-missing-by : (room : ℕ) (es : List OptionValue) (n : ℕ) (r : Reading)
-    → (if missing es then refusedReading room refusal.Missing n else r)
-    ≡ (if not (any? (sameKind (Name [])) es) then refusedReading room refusal.Missing n
-    else if not (any? (sameKind (Protocol 0)) es) then refusedReading room refusal.Missing n else r)
-unfolding missing
-missing-by room es n r =
-    rw (count-none (sameKind (Name [])) es, count-none (sameKind (Protocol 0)) es)
-    (if-or (refusedReading room refusal.Missing n) r (not (any? (sameKind (Name [])) es)) (not (any? (sameKind (Protocol 0)) es)))
+missing-by : (n : ℕ) (t : Table) (a b : Bool)
+    → readingBy (if a then outcome.Refused refusal.Missing n else if b then outcome.Refused refusal.Missing n else outcome.Accepted) t
+    ≡ (if (a || b) then refusedReading (documentLimits .room) refusal.Missing n else acceptedReading t)
+missing-by n t true b = refl
+missing-by n t false true = refl
+missing-by n t false false = refl
 
 checked-at : (s : List ℕ) (located : List Located) (from : ℕ) (bytes : List ℕ) (items : List Slot) → Holds s located (stateOf from located) bytes items
-    → checkedIn s (stateOf from located) bytes items ≡ checkedTable (documentLimits .room) s located
-unfolding checkedIn checkedTable stateFrom tableIn tableOf
+    → readingBy (outcomeIn (length s) (stateOf from located) items) (tableIn s (stateOf from located) bytes items)
+    ≡ checkedTable (documentLimits .room) s located
+unfolding outcomeIn checkedTable stateFrom tableIn tableOf missing
 checked-at s located from bytes items h =
     let es : List OptionValue = optionValuesOf located in
     let u : usableHeld (stateOf from located) items ≡ usableIn es =
@@ -110,10 +109,14 @@ checked-at s located from bytes items h =
     (λ t.
     let m : usableIn es < length (dashesOf located) = omega (arith, ltb-true (usableIn es) (count isPattern es) t, dashes-length located) in
     rw (u, t, padded-at maxPatterns 0 (dashesOf located) (usableIn es) 0 m))
-    (λ f. rw (u, f, h .named .is, h .stored, h .slots)
-    (sym (missing-by (documentLimits .room) es (length s) (acceptedReading (tableOf (documentLimits .room) es)))))
+    (λ f. rw (u, f, h .named .is, h .stored, h .slots, count-none (sameKind (Name [])) es, count-none (sameKind (Protocol 0)) es)
+    (missing-by (length s) (tableOf (documentLimits .room) es) (not (any? (sameKind (Name [])) es)) (not (any? (sameKind (Protocol 0)) es))))
 
-pub checked-right : (s : List ℕ) (st : State) (bytes : List ℕ) (items : List Slot) → CheckedRight s st bytes items (checkedIn s st bytes items)
-checked-right s st bytes items located h =
-    subst (λ (x : State). Holds s located x bytes items → checkedIn s x bytes items ≡ checkedTable (documentLimits .room) s located) (sym (h .is))
-    (checked-at s located (st .from) bytes items) h
+-- whichever text of n bytes, pattern bytes and options the state holds
+pub checked-right : (n : ℕ) (st : State) (items : List Slot) (s bytes : List ℕ) (located : List Located) → length s ≡ n → Holds s located st bytes items
+    → readingBy (outcomeIn n st items) (tableIn s st bytes items) ≡ checkedTable (documentLimits .room) s located
+checked-right n st items s bytes located e h =
+    rw (← e)
+    (subst (λ (x : State). Holds s located x bytes items
+    → readingBy (outcomeIn (length s) x items) (tableIn s x bytes items) ≡ checkedTable (documentLimits .room) s located) (sym (h .is))
+    (checked-at s located (st .from) bytes items) h)

@@ -1,14 +1,16 @@
--- The judgement at the end, as the code goes about it: over the state of a text, with the pattern bytes and items beside it.
+-- The judgement at the end, as the code goes about it: over the state of a text and its items; and the table, with the pattern bytes beside them.
 use Prim.Native.Nat.{ℕ}
 use mathlib.Core.Bool.{not}
 use mathlib.Core.List.{List}
-use lib.ListN.{length, getD, take, drop}
+use lib.ListN.{getD, take, drop}
 use lib.Dec.{ltb}
 use Rattle.forms.specs.Bytes.{if_then_else_}
 use Rattle.definitions.specs.Limits.{documentLimits, maxName}
 use Rattle.definitions.specs.Lists.{padded}
 use Rattle.definitions.specs.declared.answers.Refusal.the-variants as refusal
 use Rattle.definitions.specs.declared.answers.Reading.{Reading}
+use Rattle.definitions.specs.declared.answers.ReadOutcome.{ReadOutcome}
+use Rattle.definitions.specs.declared.answers.ReadOutcome.the-variants as outcome
 use Rattle.definitions.specs.declared.packets.LastMatch.the-variants.{None}
 use Rattle.definitions.specs.declared.table.Slot.{Slot}
 use Rattle.definitions.specs.declared.table.Table.{Table}
@@ -33,9 +35,15 @@ tableIn s st bytes items =
 abbrev pub usableHeld : State → List Slot → ℕ
 usableHeld st items = usableRun None (patternsOf (take (st .count) items))
 
-unfoldable pub checkedIn : List ℕ → State → List ℕ → List Slot → Reading
-checkedIn s st bytes items =
-    if ltb (usableHeld st items) (st .patterns) then refusedReading (documentLimits .room) refusal.Unusable (getD (st .dashes) (usableHeld st items) 0)
-    else if not (st .given .name) then refusedReading (documentLimits .room) refusal.Missing (length s)
-    else if not (st .given .protocol) then refusedReading (documentLimits .room) refusal.Missing (length s)
-    else acceptedReading (tableIn s st bytes items)
+-- what the judgement answers, of a text of n bytes
+unfoldable pub outcomeIn : ℕ → State → List Slot → ReadOutcome
+outcomeIn n st items =
+    if ltb (usableHeld st items) (st .patterns) then outcome.Refused refusal.Unusable (getD (st .dashes) (usableHeld st items) 0)
+    else if not (st .given .name) then outcome.Refused refusal.Missing n
+    else if not (st .given .protocol) then outcome.Refused refusal.Missing n
+    else outcome.Accepted
+
+-- the reading of an answer and the table of what was read: a refusal's table is that of no options
+abbrev pub readingBy : ReadOutcome → Table → Reading
+readingBy outcome.Accepted t = acceptedReading t
+readingBy (outcome.Refused r p) t = refusedReading (documentLimits .room) r p

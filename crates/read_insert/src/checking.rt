@@ -6,7 +6,7 @@ ghost use Rattle.definitions.specs.Limits.{documentLimits, maxName, maxPatterns
 ghost use Rattle.definitions.specs.Lists.{padded};
 ghost use Rattle.definitions.specs.Reading.{refusedReading};
 ghost use Rattle.read_state.specs.Sound.{Sound};
-ghost use Rattle.read_insert.specs.Checking.{checkedIn};
+ghost use Rattle.read_insert.specs.Checking.{outcomeIn};
 use definitions::answers::ReadOutcome;
 use definitions::answers::Reading;
 use definitions::answers::Refusal;
@@ -21,8 +21,8 @@ use read_references::usable_count;
 use read_state::State;
 use read_state::no_slot;
 
-// The `n` bytes of `s` from `from` on, with zeros after them.
-fn copied(s: &[u8], from: usize, n: usize) -> [u8; NAME_BYTES]
+// The name of a table: the `n` bytes of `s` from `from` on, with zeros after them.
+pub fn name_of(s: &[u8], from: usize, n: usize) -> [u8; NAME_BYTES]
     requires { ⌜ (n ≤ maxName) × (from + n ≤ length (now s)) ⌝ }
     ensures { λ r. ⌜ r ≡ padded maxName 0 (take n (drop from (now (s .entry)))) ⌝ }
 {
@@ -63,38 +63,23 @@ fn dash_of(dashes: [usize; PATTERNS], k: usize) -> usize
     dashes[k]
 }
 
-// The state after the last option of the text, with the pattern bytes and items beside it.
-pub fn judge(s: &[u8], st: State, bytes: [u8; PATTERN_BYTES], items: [Slot; ITEMS]) -> Reading
-    requires { ⌜ Sound st × (st .len ≤ maxName) × (st .from + st .len ≤ length (now s)) ⌝ }
-    ensures { λ r. ⌜ r ≡ checkedIn (now (s .entry)) st bytes items ⌝ }
+// The state after the last option of the text, with the items beside it.
+pub fn judge(len: usize, st: State, items: [Slot; ITEMS]) -> ReadOutcome
+    requires { ⌜ Sound st ⌝ }
+    ensures { λ r. ⌜ r ≡ outcomeIn len st items ⌝ }
 {
     let usable = usable_count(items, st.count);
     if usable < st.patterns {
         let dashes = st.dashes;
         let place = dash_of(dashes, usable);
-        return refused(Refusal::Unusable, place);
+        return ReadOutcome::Refused(Refusal::Unusable, place);
     }
     let given = st.given;
     if !given.name {
-        return refused(Refusal::Missing, s.len());
+        return ReadOutcome::Refused(Refusal::Missing, len);
     }
     if !given.protocol {
-        return refused(Refusal::Missing, s.len());
+        return ReadOutcome::Refused(Refusal::Missing, len);
     }
-    let name = copied(s, st.from, st.len);
-    let flow = st.flow;
-    let table = Table {
-        name,
-        len: st.len,
-        protocol: st.protocol,
-        flow,
-        bytes,
-        used: st.used,
-        items,
-        count: st.count,
-    };
-    Reading {
-        outcome: ReadOutcome::Accepted,
-        table,
-    }
+    ReadOutcome::Accepted
 }

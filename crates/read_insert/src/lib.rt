@@ -4,17 +4,22 @@ pub mod checking;
 mod once;
 
 ghost use mathlib.Core.Path.{_≡_};
+ghost use mathlib.Core.List.{List};
+ghost use Prim.Native.Nat.{ℕ};
+ghost use lib.ListN.{length};
+ghost use Rattle.definitions.specs.Limits.{documentLimits};
+ghost use Rattle.definitions.specs.Reading.{Located, checkedTable};
 ghost use Rattle.read_state.specs.Sound.{Sound};
-ghost use Rattle.read_state.specs.State.{After, InsertedRight, Finishable, CheckedRight};
+ghost use Rattle.read_state.specs.State.{Holds, After, InsertedRight};
 ghost use Rattle.read_insert.specs.Inserting.{valueInserted};
+ghost use Rattle.read_insert.specs.Checking.{tableIn, readingBy};
 use crate::checking::judge;
 use crate::once::insert_flow;
 use crate::once::insert_name;
 use crate::once::insert_protocol;
-use definitions::answers::Reading;
+use definitions::answers::ReadOutcome;
 use definitions::limits::ADDRESSES;
 use definitions::limits::ITEMS;
-use definitions::limits::PATTERN_BYTES;
 use definitions::table::Address;
 use definitions::table::Slot;
 use read_insert_counted::insert_addresses;
@@ -70,10 +75,10 @@ pub fn insert(
     insert_value(st, last, dash, value, list, used)
 }
 
-// The last `)` of the text was met: 10 by pattern, then 12, else the table.
-pub fn finish(s: &[u8], st: State, bytes: [u8; PATTERN_BYTES], items: [Slot; ITEMS]) -> Reading
-    requires { ⌜ Finishable (now s) st bytes items ⌝ }
-    ensures { λ r. ⌜ CheckedRight (now (s .entry)) st bytes items r ⌝ }
+// The last `)` of the text was met: 10 by pattern, then 12, or it is accepted.
+pub fn finish(len: usize, st: State, items: [Slot; ITEMS]) -> ReadOutcome
+    requires { ⌜ Sound st ⌝ }
+    ensures { λ r. ⌜ ((s bytes : List ℕ) (located : List Located) → length s ≡ len → Holds s located st bytes items → readingBy r (tableIn s st bytes items) ≡ checkedTable (documentLimits .room) s located) ⌝ }
 {
-    judge(s, st, bytes, items)
+    judge(len, st, items)
 }

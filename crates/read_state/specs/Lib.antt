@@ -1,3 +1,3 @@
--- What the state holds of the options said, what is promised of one option more, and of the judgement at the end.
+-- What the state holds of the options said, and what is promised of one option more.
 pub mod State
 pub mod Sound

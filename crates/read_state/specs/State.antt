@@ -8,7 +8,6 @@ use lib.Seq.{sets}
 use lib.Dec.{eqb}
 use Rattle.forms.specs.Bytes.{if_then_else_}
 use Rattle.definitions.specs.declared.answers.Check.the-variants.{Pass}
-use Rattle.definitions.specs.declared.answers.Reading.{Reading}
 use Rattle.definitions.specs.declared.table.Address.{Address}
 use Rattle.definitions.specs.declared.table.Flow.the-variants.{Any}
 use Rattle.definitions.specs.declared.table.Item.the-variants as item
@@ -18,7 +17,7 @@ use Rattle.definitions.specs.Lists.{any?, keep, count, padded}
 use Rattle.definitions.specs.OptionValues.{Modifier, OptionValue, Name, Protocol, Flow, Test, Pattern, Modified}
 use Rattle.definitions.specs.Tables.{nameIn, protocolIn, flowIn, bytesIn, slotsIn, noSlot, noAddress}
 use Rattle.definitions.specs.Occurrences.{sameKind, isTest, isPattern, modifierNumber, latest, occurrenceCheck}
-use Rattle.definitions.specs.Reading.{Located, optionValuesOf, checkedTable}
+use Rattle.definitions.specs.Reading.{Located, optionValuesOf}
 use Rattle.read_value.specs.declared.Value.{Value}
 use Rattle.read_value.specs.declared.Value.the-variants as value
 use Rattle.read_value.specs.Values.{optionValueOf}
@@ -160,11 +159,3 @@ pub record InsertedRight (st : State) (last : Slot) (dash : ℕ) (v : Value) (li
   pub check : (k : After st last v list used) → r .check ≡ occurrenceCheck (optionValuesOf (k .located)) (optionIn k)
   pub holds : (k : After st last v list used) → r .check ≡ Pass
       → Holds (k .text) (locatedAlso (k .located) dash (optionIn k)) (r .state) (sets (k .bytes) (st .used) (k .b)) (set (k .items) (r .place) (r .slot))
-
-pub record Finishable (s : List ℕ) (st : State) (bytes : List ℕ) (items : List Slot) : Type 0 where
-  pub located : List Located
-  pub holds : Holds s located st bytes items
-
--- whichever options make the state
-abbrev pub CheckedRight : List ℕ → State → List ℕ → List Slot → Reading → Type 0
-CheckedRight s st bytes items r = (located : List Located) → Holds s located st bytes items → r ≡ checkedTable (documentLimits .room) s located

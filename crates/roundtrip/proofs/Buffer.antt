@@ -49,7 +49,7 @@ written-reads lim t out n h g e =
     rw (check-buffer (writingCheck lim t (length out)) (canonicalText t) out n (d .0) (d .1))
     (read-exactly lim (canonicalText t) t .1 (canonical-derives (lim .room) t h (not-false (wellFormed t) (k .0)), omega (arith, l, g)))
 
-nothing-check : (lim : Limits) (t : Table) (n : ℕ) → wellFormed t ≡ true → length (canonicalText t) ≤ lim .canonical → length (canonicalText t) ≤ n
+pub nothing-check : (lim : Limits) (t : Table) (n : ℕ) → wellFormed t ≡ true → length (canonicalText t) ≤ lim .canonical → length (canonicalText t) ≤ n
     → writingCheck lim t n ≡ Pass
 unfolding writingCheck
 nothing-check lim t n w h g = rw (w, le-ltb (lim .canonical) (length (canonicalText t)) h, le-ltb n (length (canonicalText t)) g)

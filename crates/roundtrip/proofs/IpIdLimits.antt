@@ -1,4 +1,4 @@
--- At the limit of canonical text, a text with one ip_id: 1,022 bytes are written as 1,024, one more is 21. By computation; it stands here and not beside the
+-- At the limit of canonical text, a text with one ip_id: two bytes less than the limit are written as a text at the limit, one more is 21. By computation; it stands here and not beside the
 -- other examples (definitions/proofs/IpIdCases), since each edit of definitions would compute these long texts anew. Document 02, T-09.
 use mathlib.Core.Path.{_≡_, refl}
 use mathlib.Core.Bool.{true}

@@ -81,7 +81,8 @@ shaped-read room s h =
     (λ e. subst (Shaped room) (sym e) (empty-shaped room))
     (told-either room (readUnbounded room s) (unbounded-empty room s))
 
+pub read-shaped : (lim : Limits) (s : List ℕ) (t : Table) → lim .text ≤ lim .room → read lim s ≡ acceptedReading t → Shaped (lim .room) t
+read-shaped lim s t h e = let d = read-exactly lim s t .0 e in derived-shaped (lim .room) s t (d .0) (omega (arith, h, d .1))
+
 pub read-well : (lim : Limits) (s : List ℕ) (t : Table) → lim .text ≤ lim .room → read lim s ≡ acceptedReading t → wellFormed t ≡ true
-read-well lim s t h e =
-    let d = read-exactly lim s t .0 e in
-    derived-formed (lim .room) s t (d .0) (derived-shaped (lim .room) s t (d .0) (omega (arith, h, d .1)))
+read-well lim s t h e = derived-formed (lim .room) s t (read-exactly lim s t .0 e .0) (read-shaped lim s t h e)

@@ -33,6 +33,7 @@ use Rattle.search_state.specs.Outcomes.{nothing, outcomeOf}
 use Rattle.search_state.specs.Choosing.{answer, afterIf}
 use Rattle.search_state.proofs.Extending.{first-outcome}
 use Rattle.search_items.specs.Items.{ReadyItems}
+use Rattle.search.specs.Searching.{Searchable}
 
 -- ---- no more positive patterns than patterns
 
@@ -62,7 +63,7 @@ module _ (t : Table) (formed : wellFormed t ≡ true) where
   bytes-fit =
       both-left (bytesFit t) _ (both-right (itemsFit t) _ (both-right (leb (t .protocol) maxByte) _ (both-right (nameFits (t .name) (t .len)) _ formed)))
 
-  pub few-items : t .count ≤ maxItems
+  few-items : t .count ≤ maxItems
   few-items = forming.few-items t items-fit
 
   few-patterns : patternCount t ≤ maxPatterns
@@ -80,17 +81,24 @@ module _ (t : Table) (formed : wellFormed t ≡ true) where
       let room = leb-true (t .used) (length (t .bytes)) (both-left (leb (t .used) (length (t .bytes))) _ more) in
       omega arith
 
+  pub formed-searchable : (s d : List ℕ) → length (t .bytes) < sizeBound → length s < sizeBound → length d < sizeBound
+      → Searchable (t .items) (t .count) (t .bytes) s d
+  formed-searchable s d b h k =
+      record { few = few-items; patterns = few-patterns; stored = stored; bytes = b; payload = h; decoded = k }
+
+-- ---- what can be searched
+
+module _ (t : Table) {s d : List ℕ} (ready : Searchable (t .items) (t .count) (t .bytes) s d) where
   few-positives : positives (itemsOf t) ≤ maxPatterns
   unfolding itemsOf
-  few-positives = omega (arith, positives-few (slotsOf t) (t .bytes), few-patterns)
+  few-positives = omega (arith, positives-few (slotsOf t) (t .bytes), ready .patterns)
 
-  pub ready-first : (s d : List ℕ) → length (t .bytes) < sizeBound → length s < sizeBound → length d < sizeBound
-      → ReadyItems (slotsOf t) (t .bytes) s d None (placementOf [])
+  pub ready-first : ReadyItems (slotsOf t) (t .bytes) s d None (placementOf [])
   unfolding itemsOf
-  ready-first s d b h k =
+  ready-first =
       record {
-        small = record { bytes = b; payload = h; decoded = k; last = omega arith };
-        stored = stored;
+        small = record { bytes = ready .bytes; payload = ready .payload; decoded = ready .decoded; last = omega arith };
+        stored = ready .stored;
         room = omega (arith, few-positives);
       }
 

@@ -5,14 +5,16 @@ ghost use Rattle.definitions.specs.Placements.{listed};
 ghost use Rattle.fields.specs.Seen.{seen};
 ghost use Rattle.search_state.specs.Outcomes.{outcomeOf};
 ghost use Rattle.search_state.specs.Choosing.{afterIf};
-ghost use Rattle.search.specs.Searching.{Searchable};
+ghost use Rattle.search.specs.Searching.{searchedTable, Searchable};
+use definitions::limits::ITEMS;
 use definitions::limits::PATTERNS;
 use definitions::packets::Direction;
 use definitions::packets::FieldMap;
 use definitions::packets::LastMatch;
 use definitions::packets::PacketHeader;
 use definitions::packets::Start;
-use definitions::table::Table;
+use definitions::table::Flow;
+use definitions::table::Slot;
 use match_items::heads::head_holds;
 use search_items::from_item;
 use search_state::input::SearchInput;
@@ -22,7 +24,11 @@ use search_state::outcomes::no_match;
 
 // THE SEARCH: the first of the list of placements; where `on_bound`, the first after the one with the starts in `bound`.
 pub fn find<'a>(
-    t: Table,
+    protocol: u8,
+    flow: Flow,
+    items: [Slot; ITEMS],
+    count: usize,
+    bytes: &'a [u8],
     header: PacketHeader,
     payload: &'a [u8],
     decoded: &'a [u8],
@@ -31,19 +37,15 @@ pub fn find<'a>(
     bound: [Start; PATTERNS],
     on_bound: bool,
 ) -> Outcome
-    requires { ⌜ Searchable t (now payload) (now decoded) ⌝ }
-    ensures { λ r. ⌜ r ≡ outcomeOf (keep (afterIf «on_bound» bound) (listed t (seen header (now (payload .entry)) (now (decoded .entry)) m) dir)) ⌝ }
+    requires { ⌜ Searchable items count (now bytes) (now payload) (now decoded) ⌝ }
+    ensures { λ r. ⌜ r ≡ outcomeOf (keep (afterIf «on_bound» bound) (listed (searchedTable protocol flow items count (now (bytes .entry))) (seen header (now (payload .entry)) (now (decoded .entry)) m) dir)) ⌝ }
 {
-    let flow = t.flow;
-    if !head_holds(t.protocol, flow, header, dir) {
+    if !head_holds(protocol, flow, header, dir) {
         return no_match();
     }
-    let items = t.items;
-    let bytes = t.bytes;
-    let all = &bytes[..];
     let input = SearchInput {
         items,
-        count: t.count,
+        count,
         header,
         map: m,
         bound,
@@ -51,7 +53,7 @@ pub fn find<'a>(
     from_item(
         input,
         0,
-        all,
+        bytes,
         payload,
         decoded,
         LastMatch::None,

@@ -1,10 +1,14 @@
 // Whether a table is one that some text reads as: what refusal 20 goes by. Any numbers may stand in the table.
 ghost use mathlib.Core.Path.{_≡_};
+ghost use Prim.Native.Nat.{ℕ, _≤_};
+ghost use Rattle.definitions.specs.declared.table.Flow.{Flow};
+ghost use Rattle.definitions.specs.Limits.{maxByte};
+ghost use Rattle.definitions.specs.Tables.{tableWith};
 ghost use Rattle.definitions.specs.WellFormed.{wellFormed};
 ghost use Rattle.table_well_formed.specs.ItemsTest.{itemsWell};
 use definitions::limits::ITEMS;
+use definitions::limits::NAME_BYTES;
 use definitions::table::Slot;
-use definitions::table::Table;
 use table_bytes::name_fits;
 use table_bytes::room_fits;
 use table_items::ends_well;
@@ -40,19 +44,22 @@ fn items_fit(items: [Slot; ITEMS], count: usize, used: usize) -> bool
     ends_well(w, count)
 }
 
-// Whether some text, of whatever length, reads as the table. Any protocol will do: it is a byte by its type.
-pub fn well_formed(t: Table) -> bool
-    ensures { λ r. ⌜ r ≡ wellFormed t ⌝ }
+// Whether some text, of whatever length, reads as the table of these parts, of whatever flow and protocol: that is a byte by its type.
+pub fn well_formed(
+    name: [u8; NAME_BYTES],
+    len: usize,
+    items: [Slot; ITEMS],
+    count: usize,
+    bytes: &[u8],
+    used: usize,
+) -> bool
+    ensures { λ r. ⌜ ((protocol : ℕ) (flow : Flow) → protocol ≤ maxByte → r ≡ wellFormed (tableWith name len protocol flow (now (bytes .entry)) used items count)) ⌝ }
 {
-    let name = t.name;
-    if !name_fits(name, t.len) {
+    if !name_fits(name, len) {
         return false;
     }
-    let items = t.items;
-    if !items_fit(items, t.count, t.used) {
+    if !items_fit(items, count, used) {
         return false;
     }
-    let bytes = t.bytes;
-    let all = &bytes[..];
-    room_fits(all, t.used)
+    room_fits(bytes, used)
 }

@@ -3,13 +3,14 @@ use mathlib.Core.Path.{_≡_, sym, ap, _∙_}
 use mathlib.Core.Bool.{Bool, true, false, true≢false, false≢true}
 use mathlib.Core.List.{List, _++_}
 use Prim.Native.Nat.{ℕ, _<_}
-use lib.ListN.{length, take, drop}
-use lib.Seq.{take-append-seam}
+use native.Mathlib.Omega.{arith}
+use lib.ListN.{length, take}
 use borrow.Author.Tests.{lt-ltb}
 use Rattle.forms.specs.Bytes.{text}
 use Rattle.definitions.specs.declared.table.Table.{Table}
 use Rattle.definitions.specs.declared.answers.Refusal.{Refusal}
 use Rattle.definitions.specs.declared.answers.Refusal.the-variants as refusal
+use Rattle.definitions.specs.declared.answers.ReadOutcome.{ReadOutcome}
 use Rattle.definitions.specs.declared.answers.ReadOutcome.the-variants.{Accepted, Refused}
 use Rattle.definitions.specs.declared.answers.Reading.{Reading}
 use Rattle.definitions.specs.declared.answers.Check.{Check}
@@ -17,11 +18,15 @@ use Rattle.definitions.specs.declared.answers.Check.the-variants.{Pass, Refuse}
 use Rattle.definitions.specs.declared.answers.Writing.{Writing}
 use Rattle.definitions.specs.declared.answers.Writing.the-variants as writing
 use Rattle.definitions.specs.Limits.{documentLimits}
-use Rattle.definitions.specs.Refusals.{writeLength}
 use Rattle.definitions.specs.Reading.{readPlacing, read}
+use Rattle.definitions.specs.WellFormed.{wellFormed}
 use Rattle.definitions.specs.Canonical.{canonicalText}
-use Rattle.definitions.specs.Writing.{writingCheck, writtenIf, bufferIf, writes, bufferAfter}
+use Rattle.definitions.specs.Writing.{writingCheck, writtenIf, writes}
 use Rattle.definitions.specs.Lines.{refusedLine, canonicalLine, lineOf}
+use Rattle.roundtrip.proofs.Read.{read-well}
+use Rattle.write_bytes.specs.Clipped.{atMost}
+use Rattle.write_bytes.specs.Puts.{maxCounted, Puts}
+use Rattle.writer.proofs.Measured.{taken-back}
 
 -- ---- the writer's answer
 
@@ -33,31 +38,29 @@ abbrev refusalOf : Writing → Refusal
 refusalOf (writing.Written n) = refusal.IllFormed
 refusalOf (writing.Refused r) = r
 
-module _ (t : Table) (out : List ℕ) where
-  wrote : (d : Check) (n : ℕ) (after : List ℕ) → writing.Written n ≡ writtenIf d (length (canonicalText t)) → after ≡ bufferIf d (canonicalText t) out
-      → canonicalLine d t ≡ text "ok\t" ++ take n after
-  wrote Pass n after e b =
-      ap (λ (l : List ℕ). text "ok\t" ++ l)
-      (sym
-      (ap (λ (m : ℕ). take m after) (ap writeLength e) ∙ ap (take (length (canonicalText t))) b
-      ∙ take-append-seam (canonicalText t) (drop (length (canonicalText t)) out)))
-  wrote (Refuse r) n after e b = absurd (true≢false (ap isWritten e))
+module _ (t : Table) where
+  wrote : (d : Check) {n : ℕ} {back : List ℕ} → writing.Written n ≡ writtenIf d (length (canonicalText t)) → canonicalText t ≡ back
+      → canonicalLine d t ≡ text "ok\t" ++ back
+  wrote Pass e b = ap (λ (l : List ℕ). text "ok\t" ++ l) b
+  wrote (Refuse r) e b = absurd (true≢false (ap isWritten e))
 
   declined : (d : Check) (r : Refusal) → writing.Refused r ≡ writtenIf d (length (canonicalText t)) → canonicalLine d t ≡ refusedLine r 0
   declined Pass r e = absurd (false≢true (ap isWritten e))
   declined (Refuse r) s e = ap (λ (x : Refusal). refusedLine x 0) (sym (ap refusalOf e))
 
-  module _ (h : length out ≡ documentLimits .canonical) where
+  module _ (out : List ℕ) (h : length out ≡ documentLimits .canonical) where
     abbrev check : ℕ → Check
     check n = writingCheck documentLimits t n
 
-    pub wrote-line : (n : ℕ) (after : List ℕ) → writing.Written n ≡ writes documentLimits t out → after ≡ bufferAfter documentLimits t out
+    -- of a table that was written into room of the limit's length, what can be taken from there
+    pub wrote-line : wellFormed t ≡ true → {after : List ℕ} → Puts out 0 (canonicalText t) after (atMost (length (canonicalText t)) maxCounted) → (n : ℕ)
+        → writing.Written n ≡ writes documentLimits t out
         → canonicalLine (check (documentLimits .canonical)) t ≡ text "ok\t" ++ take n after
-    unfolding writes bufferAfter
-    wrote-line n after e b =
-        wrote (check (documentLimits .canonical)) n after
+    unfolding writes
+    wrote-line w p n e =
+        wrote (check (documentLimits .canonical))
         (e ∙ ap (λ (k : ℕ). writtenIf (check k) (length (canonicalText t))) h)
-        (b ∙ ap (λ (k : ℕ). bufferIf (check k) (canonicalText t) out) h)
+        (taken-back t w out h n (sym e) p)
 
     pub declined-line : (r : Refusal) → writing.Refused r ≡ writes documentLimits t out → canonicalLine (check (documentLimits .canonical)) t ≡ refusedLine r 0
     unfolding writes
@@ -66,6 +69,10 @@ module _ (t : Table) (out : List ℕ) where
 -- ---- the reader's answer
 
 module _ (s : List ℕ) (r : Reading) (e : r ≡ read documentLimits s) where
+  -- what is read is well formed
+  pub read-formed : r .outcome ≡ Accepted → wellFormed (r .table) ≡ true
+  read-formed o = read-well documentLimits s (r .table) (omega arith) (sym e ∙ ap (λ (x : ReadOutcome). record { outcome = x; table = r .table }) o)
+
   pub read-line : r .outcome ≡ Accepted
       → lineOf documentLimits s ≡ canonicalLine (writingCheck documentLimits (r .table) (documentLimits .canonical)) (r .table)
   unfolding lineOf

@@ -1,4 +1,4 @@
--- An answer with its number has at most 1,049 bytes, so that a feed into the program's 65,536 always takes some of its input.
+-- An answer with its number has at most 25 bytes more than a canonical text may have, so that a feed into the program's 65,536 always takes some of its input.
 use mathlib.Core.Path.{_≡_, refl, ap}
 use mathlib.Core.Bool.{Bool, true, false, not, false≢true}
 use mathlib.Core.List.{List, _∷_, _++_}
@@ -35,36 +35,44 @@ abbrev isFine : Check → Bool
 isFine check.Pass = true
 isFine (check.Refuse r) = false
 
+-- how long a canonical text may be
+abbrev most : ℕ
+most = documentLimits .canonical
+
 -- a canonical text that is written is not beyond the limit
-fine-short : (t : Table) → writingCheck documentLimits t 1024 ≡ check.Pass → length (canonicalText t) ≤ 1024
+fine-short : (t : Table) → writingCheck documentLimits t most ≡ check.Pass → length (canonicalText t) ≤ most
 unfolding writingCheck
 fine-short t e =
-    by-cases (ltb 1024 (length (canonicalText t)))
+    by-cases (ltb most (length (canonicalText t)))
     (λ l.
     by-cases (not (wellFormed t))
     (λ n. absurd (false≢true (ap isFine (rw n at e))))
     (λ w. absurd (false≢true (ap isFine (rw (w, l) at e)))))
-    (λ f. ltb-false 1024 (length (canonicalText t)) f)
+    (λ f. ltb-false most (length (canonicalText t)) f)
 
-canonical-most : (t : Table) (d : Check) → (d ≡ check.Pass → length (canonicalText t) ≤ 1024) → length (canonicalLine d t) ≤ 1027
+canonical-most : (t : Table) (d : Check) → (d ≡ check.Pass → length (canonicalText t) ≤ most) → length (canonicalLine d t) ≤ 3 + most
 canonical-most t check.Pass h = omega (arith, length-append (text "ok\t") (canonicalText t), h refl)
 canonical-most t (check.Refuse r) h = omega (arith, refused-most r 0 (omega arith))
 
-outcome-most : (o : ReadOutcome) (t : Table) → readPlace o ≤ 1024 → length (lineBy documentLimits o t) ≤ 1027
-outcome-most outcome.Accepted t h = canonical-most t (writingCheck documentLimits t 1024) (fine-short t)
+outcome-most : (o : ReadOutcome) (t : Table) → readPlace o ≤ documentLimits .text → length (lineBy documentLimits o t) ≤ 3 + most
+outcome-most outcome.Accepted t h = canonical-most t (writingCheck documentLimits t most) (fine-short t)
 outcome-most (outcome.Refused r p) t h = omega (arith, refused-most r p (omega (arith, h)))
 
-line-most : (s : List ℕ) → length (lineOf documentLimits s) ≤ 1027
+line-most : (s : List ℕ) → length (lineOf documentLimits s) ≤ 3 + most
 unfolding lineOf
 line-most s = outcome-most (read documentLimits s .outcome) (read documentLimits s .table) (place-most documentLimits s)
 
 -- ---- with its number, and in a feed
 
-pub answer-most : (n : ℕ) (s : List ℕ) → n ≤ maxLineNumber → length (lineAnswer (lineOf documentLimits) n s) ≤ 1049
+-- a line number of 20 digits, tab, `ok`, tab, canonical text, LF
+abbrev pub maxAnswer : ℕ
+maxAnswer = 25 + most
+
+pub answer-most : (n : ℕ) (s : List ℕ) → n ≤ maxLineNumber → length (lineAnswer (lineOf documentLimits) n s) ≤ maxAnswer
 answer-most n s h =
     let tail = lineOf documentLimits s ++ text "\n" in
     omega (arith, length-append (decimal n) (9 ∷ tail), length-append (lineOf documentLimits s) (text "\n"), decimal-most n (omega (arith, h)), line-most s)
 
-pub always-takes : {input line out line' out' : List ℕ} {b : Begun} {r : Fed} → 1049 ≤ length out → b .number ≤ maxLineNumber → 0 < length input
+pub always-takes : {input line out line' out' : List ℕ} {b : Begun} {r : Fed} → maxAnswer ≤ length out → b .number ≤ maxLineNumber → 0 < length input
     → Feeds (lineOf documentLimits) input line out b line' out' r → 0 < r .taken
-always-takes room counts some f = goes-on (lineOf documentLimits) 1049 answer-most room (omega arith) counts some f
+always-takes room counts some f = goes-on (lineOf documentLimits) maxAnswer answer-most room (omega arith) counts some f

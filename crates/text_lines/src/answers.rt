@@ -3,37 +3,23 @@ ghost use mathlib.Core.List.{_++_};
 ghost use lib.ListN.{take};
 ghost use Rattle.forms.specs.Bytes.{text};
 ghost use Rattle.definitions.specs.Limits.{documentLimits};
-ghost use Rattle.definitions.specs.Lines.{canonicalLine, lineOf};
-ghost use Rattle.definitions.specs.Writing.{writingCheck};
+ghost use Rattle.definitions.specs.Lines.{lineOf};
 ghost use Rattle.write_bytes.specs.Puts.{Puts};
 use definitions::answers::ReadOutcome;
 use definitions::answers::Writing;
 use definitions::limits::CANONICAL_BYTES;
-use definitions::table::Table;
 use line_refusals::put_refused;
 use reader::read;
 use write_bytes::put_front;
 use write_bytes::put_word;
-use writer::write;
+use writer::write_formed;
 
 // `ok`, tab, and the first `n` bytes of a canonical text's buffer.
-fn put_ok(out: &mut [u8], at: usize, canonical: [u8; CANONICAL_BYTES], n: usize) -> usize
-    ensures { λ r. ⌜ Puts (now (out .entry)) at (text "ok\t" ++ take n canonical) (now (out .exit)) r ⌝ }
+fn put_ok(out: &mut [u8], at: usize, canonical: &[u8], n: usize) -> usize
+    ensures { λ r. ⌜ Puts (now (out .entry)) at (text "ok\t" ++ take n (now (canonical .entry))) (now (out .exit)) r ⌝ }
 {
     let a1 = put_word(out, at, b"ok\t");
-    put_front(out, a1, &canonical[..], n)
-}
-
-// The canonical text, or the writer's refusal.
-fn put_table(out: &mut [u8], at: usize, t: Table) -> usize
-    ensures { λ n. ⌜ Puts (now (out .entry)) at (canonicalLine (writingCheck documentLimits t (documentLimits .canonical)) t) (now (out .exit)) n ⌝ }
-{
-    let mut canonical = [0u8; CANONICAL_BYTES];
-    let w = write(t, &mut canonical);
-    match w {
-        Writing::Written(n) => put_ok(out, at, canonical, n),
-        Writing::Refused(r) => put_refused(out, at, r, 0),
-    }
+    put_front(out, a1, canonical, n)
 }
 
 // THE ANSWER to a text, without its number and the LF.
@@ -44,8 +30,12 @@ pub fn answer_text(out: &mut [u8], at: usize, s: &[u8]) -> usize
     let outcome = reading.outcome;
     match outcome {
         ReadOutcome::Accepted => {
-            let table = reading.table;
-            put_table(out, at, table)
+            let mut room = [0u8; CANONICAL_BYTES];
+            let w = write_formed(reading.table, &mut room);
+            match w {
+                Writing::Written(n) => put_ok(out, at, &room, n),
+                Writing::Refused(r) => put_refused(out, at, r, 0),
+            }
         }
         ReadOutcome::Refused(r, place) => put_refused(out, at, r, place),
     }

@@ -3,7 +3,7 @@ ghost use mathlib.Core.Path.{_≡_};
 ghost use Prim.Native.Nat.{_≤_};
 ghost use lib.ListN.{take};
 ghost use Rattle.definitions.specs.OptionValues.{Name, Protocol};
-ghost use Rattle.definitions.specs.Items.{kindOf, slotsOf};
+ghost use Rattle.definitions.specs.Items.{kindOf};
 ghost use Rattle.definitions.specs.Canonical.{itemOptions, slotOptions, optionText, optionsText};
 ghost use Rattle.write_options.specs.Parts.{placeAfter};
 ghost use Rattle.write_bytes.specs.Puts.{Puts};
@@ -11,7 +11,6 @@ use definitions::limits::ITEMS;
 use definitions::limits::NAME_BYTES;
 use definitions::table::Item;
 use definitions::table::Slot;
-use definitions::table::Table;
 use write_byte_tests::put_byte_test;
 use write_bytes::limits::at_most;
 use write_bytes::put;
@@ -78,7 +77,13 @@ fn place_after(slot: Slot, from: usize, len: usize) -> usize
 }
 
 // The options of the first `count` items, whose pattern bytes stand one after the other.
-fn put_items(out: &mut [u8], at: usize, items: [Slot; ITEMS], count: usize, bytes: &[u8]) -> usize
+pub fn put_items(
+    out: &mut [u8],
+    at: usize,
+    items: [Slot; ITEMS],
+    count: usize,
+    bytes: &[u8],
+) -> usize
     ensures { λ r. ⌜ Puts (now (out .entry)) at (optionsText (slotOptions (take count items) (now (bytes .entry)))) (now (out .exit)) r ⌝ }
 {
     let n = at_most(count, ITEMS);
@@ -92,13 +97,4 @@ fn put_items(out: &mut [u8], at: usize, items: [Slot; ITEMS], count: usize, byte
         i += 1;
     }
     next
-}
-
-// The options of a table's items.
-pub fn put_table_items(out: &mut [u8], at: usize, t: Table) -> usize
-    ensures { λ r. ⌜ Puts (now (out .entry)) at (optionsText (slotOptions (slotsOf t) (t .bytes))) (now (out .exit)) r ⌝ }
-{
-    let items = t.items;
-    let bytes = t.bytes;
-    put_items(out, at, items, t.count, &bytes[..])
 }

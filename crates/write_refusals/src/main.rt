@@ -88,7 +88,7 @@ fn try_edited(t: Table) {
     let mut buffer = [b'.'; 37];
     try_in(nameless, &mut buffer);
     let mut stale = t;
-    stale.bytes[1023] = 1;
+    stale.bytes[PATTERN_BYTES - 1] = 1;
     try_in(stale, &mut buffer);
 }
 

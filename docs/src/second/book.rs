@@ -1,11 +1,9 @@
 //! Reading a rule book (document 02, T-03): 50 for the whole, then lines from the top,
 //! and in a line 53, 51, 52, then the text's own refusal.
 
+use crate::limits::{LONGEST_BOOK, MOST_RULES};
 use crate::reader::read;
 use crate::table::Table;
-
-pub const LONGEST_BOOK: usize = 65_536;
-pub const MOST_RULES: usize = 64;
 
 pub struct Rule {
     pub number: u16,

@@ -4,6 +4,7 @@
 //! A packet is hex pairs, `-` if empty; a map is `uri:0+12,body:3+4`, `-` if empty;
 //! an ask is `all`, `first` or an earlier placement such as `(2,9)`.
 
+use crate::limits::MOST_PATTERNS;
 use crate::message::{Map, Span};
 use crate::table::Field;
 use crate::words::CONTEXTS;
@@ -88,7 +89,7 @@ fn parse_ask(column: &[u8]) -> Option<Ask> {
     }
     let inner = column.strip_prefix(b"(")?.strip_suffix(b")")?;
     let starts: Option<Vec<u64>> = inner.split(|byte| *byte == b',').map(decimal).collect();
-    starts.filter(|starts| starts.len() <= 8).map(Ask::Next)
+    starts.filter(|starts| starts.len() <= MOST_PATTERNS).map(Ask::Next)
 }
 
 /// The parts before and behind the first `mark`.

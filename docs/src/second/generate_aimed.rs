@@ -9,8 +9,17 @@ use crate::table::*;
 use crate::tests;
 use crate::words::{CONTEXTS, OPERATORS, SIZED_FIELDS};
 
-/// A table of so many patterns over the letters of `alphabet`.
-pub fn table(random: &mut Random, message: &Message, alphabet: &[u8], patterns: usize) -> Table {
+/// Most patterns are short, so that they lie at many places.
+pub const SHORT: &[usize] = &[1, 1, 1, 1, 2, 2, 3];
+
+/// A table of so many patterns over the letters of `alphabet`, of these lengths.
+pub fn table(
+    random: &mut Random,
+    message: &Message,
+    alphabet: &[u8],
+    patterns: usize,
+    lengths: &[usize],
+) -> Table {
     let count = random.pick(&[0, 0, 0, 1, 1, 2, 3]);
     let mut is_pattern = vec![true; patterns];
     is_pattern.resize(patterns + count, false);
@@ -19,7 +28,7 @@ pub fn table(random: &mut Random, message: &Message, alphabet: &[u8], patterns: 
     let mut last: Option<Placed> = None;
     for drawn in is_pattern {
         if drawn {
-            let (pattern, start) = pattern(random, message, alphabet, last.as_ref());
+            let (pattern, start) = pattern(random, message, alphabet, lengths, last.as_ref());
             if !pattern.negated {
                 let end = start + pattern.bytes.len() as u64;
                 last = Some(Placed { field: pattern.context, start, end });
@@ -139,25 +148,45 @@ fn pattern(
     random: &mut Random,
     message: &Message,
     alphabet: &[u8],
+    lengths: &[usize],
     last: Option<&Placed>,
 ) -> (Pattern, u64) {
     let context = context(random, message, last);
     let field = message.field(context).unwrap_or(b"");
     let negated = random.chance(22);
-    let length = random.pick(&[1, 1, 1, 1, 2, 2, 3]).min(field.len().max(1));
+    let length = random.pick(lengths).min(field.len().max(1));
     let end = last.filter(|last| last.field == context).map_or(0, |last| last.end as usize);
     let from = if end + length <= field.len() && random.chance(60) { end } else { 0 };
     let start = from + random.index((field.len() + 1).saturating_sub(from + length));
-    let there = field.get(start..start + length).filter(|_| !negated && random.chance(93));
+    let long = length > 3;
+    // Of a negated pattern the bytes are any; of a long one often those of the field.
+    let percent = match (negated, long) {
+        (false, _) => 93,
+        (true, true) => 40,
+        (true, false) => 0,
+    };
+    let from_field = random.chance(percent);
+    let there = field.get(start..start + length).filter(|_| from_field);
     let mut bytes = match there {
         Some(bytes) => bytes.to_vec(),
         None => (0..length).map(|_| random.pick(alphabet)).collect(),
     };
+    if long && random.chance(7) {
+        // A long pattern that is nearly there: another byte somewhere, often the last.
+        let at = if random.chance(50) { length - 1 } else { random.index(length) };
+        bytes[at] = random.pick(alphabet);
+    }
     let no_case = random.chance(25);
     if no_case {
         for byte in &mut bytes {
-            // Another byte than a letter has no second case, whatever this bit says.
-            let percent = if byte.is_ascii_alphabetic() { 50 } else { 8 };
+            // Another byte than a letter has no second case, whatever this bit says; in a
+            // long pattern one of them would nearly always be changed.
+            let letter = byte.is_ascii_alphabetic();
+            let percent = match (letter, long) {
+                (true, _) => 50,
+                (false, true) => 0,
+                (false, false) => 8,
+            };
             if random.chance(percent) {
                 *byte ^= 0x20;
             }

@@ -2,6 +2,7 @@
 
 use crate::damage::damage;
 use crate::generate_text;
+use crate::limits::{LONGEST_BOOK, MOST_RULES};
 use crate::random::Random;
 use crate::reader::read;
 
@@ -164,18 +165,21 @@ fn set_text(random: &mut Random, line: &mut Line) {
     line.columns.push(text);
 }
 
-/// On both sides of 65,536 bytes: 64 lines filled up with spaces, or bytes of no form.
+/// On both sides of the longest book: 15 to 64 lines filled up with spaces, or bytes of no
+/// form. Of 16 lines the texts are nearly as long as a text may be, of 15 they are longer.
 fn long_book(random: &mut Random) -> Vec<u8> {
-    let length = random.pick(&[65_535, 65_536, 65_537, 65_537, 65_538, 66_000]);
+    let beyond = random.pick(&[0, 1, 2, 2, 3, 500]);
+    let length = LONGEST_BOOK - 1 + beyond;
     let mut book = Vec::new();
     if random.chance(40) {
         book.extend(print(&good_lines(random, 2, |_| simple(6))));
         book.resize(length, random.pick(b"x\n\t"));
         return book;
     }
-    for number in 1..=64 {
+    let lines = random.pick(&[MOST_RULES, MOST_RULES, 16, 16, 15]);
+    for number in 1..=lines {
         let opening = format!("{number}\ton\thold\tF-SBID(--name \"n\";--protocol 6;");
-        let line = length / 64 + if number == 64 { length % 64 } else { 0 };
+        let line = length / lines + if number == lines { length % lines } else { 0 };
         book.extend(opening.as_bytes());
         book.extend(vec![b' '; line - opening.len() - 2]);
         book.extend(b")\n");

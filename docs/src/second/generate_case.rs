@@ -1,9 +1,12 @@
 //! Cases: a message, a table aimed at it, and an ask, as one line.
 
+use crate::case::LONGEST_LINE;
 use crate::damage::damage;
-use crate::generate_aimed;
+use crate::generate_aimed::{self, SHORT};
+use crate::generate_long;
 use crate::generate_packet;
 use crate::generate_text;
+use crate::limits::{LONGEST_DECODED, LONGEST_PACKET};
 use crate::message::{Map, Message, Span};
 use crate::placements::print_one;
 use crate::random::Random;
@@ -37,24 +40,33 @@ pub fn case(random: &mut Random) -> Vec<u8> {
         b"@`A",
         b"a\xC1\xE1",
     ]);
-    let payload = letters(random, alphabet, longest);
-    let mut decoded = letters(random, alphabet, longest);
+    let long = random.chance(3);
+    let mut lengths = SHORT;
+    let (payload, mut decoded) = if long {
+        (patterns, lengths) = generate_long::patterns(random);
+        generate_long::fields(random, alphabet)
+    } else {
+        (letters(random, alphabet, longest), letters(random, alphabet, longest))
+    };
     let mut packet = generate_packet::packet(random, &payload);
     let map = map(random, payload.len(), decoded.len());
     let from_client = random.chance(50);
-    let table = aimed_table(random, &packet, &decoded, &map, from_client, alphabet, patterns);
-    let mut text = Spell::any(random).text(&table);
+    let message = (&packet[..], &decoded[..], &map, from_client);
+    let table = aimed_table(random, message, alphabet, patterns, lengths);
+    let compact = long && random.chance(85);
+    let mut spell = if compact { Spell::compact(random) } else { Spell::any(random) };
+    let mut text = spell.text(&table);
     let mut ask = ask(random, &table, &packet, &decoded, &map, from_client);
 
     for _ in 0..random.pick(&[0, 0, 0, 0, 0, 0, 0, 0, 0, 0, 0, 0, 0, 1, 1, 1, 2]) {
         generate_packet::damage(random, &mut packet);
     }
     if random.below(400) == 0 {
-        let length = random.pick(&[2048, 2049]);
+        let length = LONGEST_PACKET + random.index(2);
         packet.resize(length, b'a');
     }
     if random.below(400) == 0 {
-        let length = random.pick(&[4096, 4097]);
+        let length = LONGEST_DECODED + random.index(2);
         decoded.resize(length, b'b');
     }
     match random.below(50) {
@@ -127,17 +139,15 @@ pub fn map(random: &mut Random, payload: usize, decoded: usize) -> Map {
 /// A table for this message; for one of no length where the message is refused.
 pub fn aimed_table(
     random: &mut Random,
-    packet: &[u8],
-    decoded: &[u8],
-    map: &Map,
-    from_client: bool,
+    (packet, decoded, map, from_client): (&[u8], &[u8], &Map, bool),
     alphabet: &[u8],
     patterns: usize,
+    lengths: &[usize],
 ) -> Table {
     let whole = Message::new(packet, decoded, map, from_client);
     let bare = Map::default();
     match whole.or_else(|_| Message::new(packet, b"", &bare, from_client)) {
-        Ok(message) => generate_aimed::table(random, &message, alphabet, patterns),
+        Ok(message) => generate_aimed::table(random, &message, alphabet, patterns, lengths),
         Err(_) => crate::generate_table::table(random, false),
     }
 }
@@ -209,7 +219,7 @@ pub fn odd_line(random: &mut Random, line: &mut Vec<u8>) {
         }
         4 => line.push(b'\r'),
         5 => line.insert(random.index(line.len()), b'\t'),
-        6 if random.below(20) == 0 => line.resize(random.pick(&[16_384, 16_385]), b' '),
+        6 if random.below(20) == 0 => line.resize(LONGEST_LINE + random.index(2), b' '),
         _ => {
             let at = random.index(line.len());
             line.remove(at);

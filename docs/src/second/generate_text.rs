@@ -2,8 +2,10 @@
 
 use crate::damage::{damage, outside_byte};
 use crate::generate_item::{address, byte, number};
+use crate::generate_long::{self, plain_bytes};
 use crate::generate_table::{counted, name, table};
 use crate::house::house_text;
+use crate::limits::{FORMER_LONGEST_TEXT, LONGEST_HOUSE_TEXT, LONGEST_TEXT};
 use crate::odd;
 use crate::random::Random;
 use crate::spell::Spell;
@@ -11,7 +13,8 @@ use crate::table::*;
 
 pub fn text(random: &mut Random) -> Vec<u8> {
     let mut text = match random.below(100) {
-        0..=29 => spelled(random, false),
+        0..=27 => spelled(random, false),
+        28 | 29 => with_long_patterns(random),
         30..=39 => spelled(random, true),
         40..=47 => at_a_count(random),
         48..=53 => of_length(random),
@@ -60,9 +63,11 @@ fn at_a_count(random: &mut Random) -> Vec<u8> {
     spell.text(&table)
 }
 
-/// 1,023 to 1,026 bytes, filled up with spaces or by a long pattern.
+/// Within two bytes of the longest text, or of what it was before T-11, filled up with spaces
+/// or by a long pattern.
 fn of_length(random: &mut Random) -> Vec<u8> {
-    let length = random.pick(&[1022, 1023, 1024, 1024, 1025, 1026]);
+    let limit = random.pick(&[LONGEST_TEXT, FORMER_LONGEST_TEXT]);
+    let length = limit - 2 + random.pick(&[0, 1, 2, 2, 3, 4]);
     let table = table(random, false);
     let mut spell = Spell::any(random);
     let mut options = spell.options(&table);
@@ -75,11 +80,13 @@ fn of_length(random: &mut Random) -> Vec<u8> {
         text.splice(at..at, fill);
         return text;
     }
-    options.push(format!("--pattern \"{}\";", "a".repeat(missing - 13)));
+    let bytes = plain_bytes(random, missing - 13);
+    options.push(format!("--pattern \"{}\";", String::from_utf8_lossy(&bytes)));
     Spell::compact(random).frame(&options)
 }
 
-/// A text of at most 1,024 bytes whose house text has 1,021 to 1,028.
+/// A text whose house text has from three bytes less to four more than the longest, or than
+/// what was the longest before T-11.
 fn of_house_length(random: &mut Random) -> Vec<u8> {
     let tests = random.index(4);
     let mut table = counted(random, 1, tests, false);
@@ -98,11 +105,33 @@ fn of_house_length(random: &mut Random) -> Vec<u8> {
     let mut bytes: Vec<u8> = (0..special).map(|_| byte(random)).collect();
     bytes.push(b'A');
     fill(bytes.clone(), &mut table);
-    let length = random.between(1021, 1028) as usize;
+    let limit = random.pick(&[LONGEST_HOUSE_TEXT, FORMER_LONGEST_TEXT]);
+    let length = limit - 3 + random.index(8);
     let missing = length.saturating_sub(house_text(&table).len());
-    bytes.resize(bytes.len() + missing, b'A');
+    bytes.extend(plain_bytes(random, missing));
     fill(bytes, &mut table);
     Spell::compact(random).text(&table)
+}
+
+/// Pattern bytes beyond what a table once held, now and then with something wrong among or
+/// after them, so that great places come up.
+fn with_long_patterns(random: &mut Random) -> Vec<u8> {
+    let table = generate_long::table(random);
+    let compact = random.chance(80);
+    let mut spell = if compact { Spell::compact(random) } else { Spell::any(random) };
+    let mut options = spell.options(&table);
+    if spell.random.chance(25) {
+        let at = spell.random.index(options.len() + 1);
+        options.insert(at, odd::option(spell.random));
+    }
+    let mut text = spell.frame(&options);
+    if random.chance(20) {
+        damage(random, &mut text);
+    }
+    if random.chance(5) {
+        outside_byte(random, &mut text);
+    }
+    text
 }
 
 /// One or two odd options among good ones, so that the order of refusals shows.

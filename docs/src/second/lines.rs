@@ -1,7 +1,8 @@
 //! The line program (document 01, "The line program").
 
 use crate::house::house_text;
-use crate::reader::{read, LONGEST_TEXT};
+use crate::limits::LONGEST_HOUSE_TEXT;
+use crate::reader::read;
 use std::io::{BufRead, Result, Write};
 
 /// Calls `answer` for each line without its LF, and writes the line's number,
@@ -30,7 +31,7 @@ pub fn answer_text(text: &[u8]) -> Vec<u8> {
         Err(refusal) => format!("{}\t{}", refusal.number, refusal.place).into_bytes(),
         Ok(table) => {
             let house = house_text(&table);
-            if house.len() > LONGEST_TEXT {
+            if house.len() > LONGEST_HOUSE_TEXT {
                 return b"21\t0".to_vec();
             }
             [b"ok\t".to_vec(), house].concat()

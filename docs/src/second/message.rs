@@ -1,6 +1,7 @@
 //! One packet with its fields, and refusals 30 to 35
 //! (document 01, "Packet and fields", "Numbers of refusal").
 
+use crate::limits::{LONGEST_DECODED, LONGEST_PACKET};
 use crate::table::Field;
 
 #[derive(Clone, Copy, Debug, PartialEq, Eq)]
@@ -44,7 +45,7 @@ impl<'a> Message<'a> {
         map: &Map,
         from_client: bool,
     ) -> Result<Message<'a>, u8> {
-        if packet.len() > 2048 || decoded.len() > 4096 {
+        if packet.len() > LONGEST_PACKET || decoded.len() > LONGEST_DECODED {
             return Err(30);
         }
         if packet.len() < 20 || packet[0] >> 4 != 4 {

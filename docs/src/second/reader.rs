@@ -4,6 +4,7 @@
 //! with its lowest number among 4 to 9 and 11; then 10 by pattern; then 12.
 //! The places of 6 and 7 are those of document 02, T-02.
 
+use crate::limits::{LONGEST_TEXT, MOST_ADDRESSES, MOST_PATTERNS, MOST_TESTS};
 use crate::reference::usable;
 use crate::scan::Scan;
 use crate::table::*;
@@ -17,7 +18,6 @@ pub struct Refusal {
     pub place: usize,
 }
 
-pub const LONGEST_TEXT: usize = 1024;
 const OPENING: &[u8] = b"F-SBID(";
 
 fn refuse<T>(number: u8, place: usize) -> Result<T, Refusal> {
@@ -120,7 +120,7 @@ impl Draft {
     }
 
     fn add_pattern(&mut self, negated: bool, bytes: Vec<u8>, dash: usize) -> Result<(), u8> {
-        if self.patterns() == 8 {
+        if self.patterns() == MOST_PATTERNS {
             return Err(11);
         }
         self.places.push(dash);
@@ -138,8 +138,9 @@ impl Draft {
 
     fn add_test(&mut self, test: Test) -> Result<(), u8> {
         let tests = self.items.len() - self.patterns();
-        let ninth_address = matches!(&test, Test::Address { list, .. } if list.len() > 8);
-        if tests == 16 || ninth_address {
+        let ninth_address =
+            matches!(&test, Test::Address { list, .. } if list.len() > MOST_ADDRESSES);
+        if tests == MOST_TESTS || ninth_address {
             return Err(11);
         }
         self.items.push(Item::Test(test));

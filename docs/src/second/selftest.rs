@@ -2,8 +2,10 @@
 
 use crate::case::{parse_case, Ask, Case};
 use crate::generate_case::case;
+use crate::generate_long;
 use crate::generate_table::table;
 use crate::house::house_text;
+use crate::limits::{LONGEST_TEXT, MOST_PATTERN_BYTES};
 use crate::message::Message;
 use crate::placements::ask;
 use crate::random::Random;
@@ -45,16 +47,26 @@ pub fn run(seed: u64, count: u64, mut output: impl Write) -> Written<()> {
 
 /// Any spelling of a table reads as this table, and so does its house text.
 fn spelling_reads_back(random: &mut Random) -> Result<(), String> {
-    let table = table(random, false);
+    let long = random.chance(10);
+    let table = if long { generate_long::table(random) } else { table(random, false) };
     let text = Spell::any(random).text(&table);
     for text in [text, house_text(&table)] {
         let read = read(&text);
-        if text.len() <= 1024 && read.as_ref() != Ok(&table) {
+        if text.len() <= LONGEST_TEXT && read.as_ref() != Ok(&table) {
             return Err(format!(
                 "{} gives {read:?}, not {table:?}",
                 String::from_utf8_lossy(&text)
             ));
         }
+    }
+    // The table's room for pattern bytes suffices for whatever is read.
+    let bytes = |item: &Item| match item {
+        Item::Pattern(pattern) => pattern.bytes.len(),
+        Item::Test(_) => 0,
+    };
+    let all: usize = table.items.iter().map(bytes).sum();
+    if all > MOST_PATTERN_BYTES && house_text(&table).len() <= LONGEST_TEXT {
+        return Err(format!("{all} pattern bytes in one text"));
     }
     Ok(())
 }

@@ -1,5 +1,6 @@
 //! The value of each option (document 01, the table of section "Text"; document 02, T-01).
 
+use crate::limits::LONGEST_NAME;
 use crate::scan::Scan;
 use crate::table::*;
 use crate::words::*;
@@ -87,7 +88,7 @@ fn name(scan: &mut Scan) -> Option<Vec<u8>> {
         return None;
     }
     scan.due(b'"')?;
-    if bytes.len() > 64 {
+    if bytes.len() > LONGEST_NAME {
         scan.note_beyond(quote);
     }
     Some(bytes.to_vec())

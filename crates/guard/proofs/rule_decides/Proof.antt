@@ -5,7 +5,7 @@ use borrow.Author.Tests.{not-true, not-false}
 use Rattle.definitions.specs.Limits.{documentLimits}
 use Rattle.definitions.specs.Reading.{read}
 use Rattle.definitions.specs.LoadedBooks.{ruleAt}
-use Rattle.guard.proofs.Rules.{off-never, unread-never, on-met, source-read, read-formed}
+use Rattle.guard.proofs.Rules.{off-never, unread-never, on-met, source-read, read-formed, read-matchable}
 use Rattle.guard.proofs.rule_decides.Statement.{statement}
 use Rattle.guard.proofs.rule_decides.Tie as tie
 
@@ -30,9 +30,9 @@ enum-told c = search needs
 
 meets-requires : tie.Need-meets-requires
 meets-requires c κs =
-    let r = c .before .before in
-    let x = r .before .before .before .before .before .before .before .args in
-    read-formed _ (r .read .result) (r .read .ensures .0 ∙ ap (read documentLimits) (r .before .text-at .ensures)) (c .enum-told .given .1)
+    let o = c .before .before .before .before .before in
+    let r = o .before .before in
+    read-matchable _ (r .read .result) (r .read .ensures .0 ∙ ap (read documentLimits) (r .before .text-at .ensures)) (o .enum-told .given .1)
 
 enum-told-2 : tie.Need-enum-told-2
 enum-told-2 c = search needs
@@ -40,12 +40,16 @@ enum-told-2 c = search needs
 returns-2 : tie.Need-returns-2
 unfolding ruleAt
 returns-2 c =
-    let r = c .before .before .before in
+    let told = c .before .before .before .before .before .before in
+    let r = told .before .before in
     let t = r .before in
     let o = t .before .before in
     let x = o .before .before .before .before .args in
     let rule = ruleAt (x .book .now) (x .rule) in
-    c .meets .ensures
+    let table = r .read .result .table in
+    let formed =
+    read-formed _ (r .read .result) (r .read .ensures .0 ∙ ap (read documentLimits) (t .text-at .ensures)) (told .enum-told .given .1) in
+    c .meets .ensures (table .name) (table .len) (table .used) formed
     ∙ on-met (x .p .now) (x .decoded .now) (x .dir) (x .m) rule (r .read .result) (source-read (x .book .now) (x .rule) (r .read .ensures .0) (t .text-at .ensures))
     (sym (o .is-on .ensures) ∙ not-false _ (t .before .if1 .left))
 

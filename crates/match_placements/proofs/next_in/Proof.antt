@@ -1,7 +1,7 @@
 -- Refusal 35 where the test of the fields says so; then the count held is compared with the number of positive patterns; then the search has the
 -- first of the list after the starts held.
 use Rattle.definitions.specs.Placements.{itemsOf}
-use Rattle.search.proofs.Formed.{few-items}
+use Rattle.search.specs.Searching.{searchedTable}
 use Rattle.match_placements.proofs.Answering.{next-refused, next-found, next-uncounted}
 use Rattle.match_placements.proofs.next_in.Statement.{statement}
 use Rattle.match_placements.proofs.next_in.Tie as tie
@@ -18,15 +18,16 @@ refused-requires c κs = tt
 returns : tie.Need-returns
 returns c =
     let w = c .before .before .before .before in
-    let x = w .before .before .before .args in
-    next-refused (x .t) (x .header) (x .payload .now) (x .decoded .now) (x .dir) (x .m) (w .fields-check .ensures .0) (c .before .before .check .given .1)
+    let x = w .before .before .before .before .args in
+    let t = searchedTable (x .protocol) (x .flow) (x .items) (x .count) (x .bytes .now) in
+    next-refused t (x .header) (x .payload .now) (x .decoded .now) (x .dir) (x .m) (w .fields-check .ensures .0) (c .before .before .check .given .1)
     (c .refused .ensures) (x .held)
 
 enum-told : tie.Need-enum-told
 enum-told c = c .match .keys2
 
 positive-count-requires : tie.Need-positive-count-requires
-positive-count-requires c κs = let a = c .before .before .before .before .before .before in few-items (a .args .t) (a .pre .formed)
+positive-count-requires c κs = c .before .before .before .before .before .before .pre .few
 
 refused-requires-2 : tie.Need-refused-requires-2
 refused-requires-2 c κs = tt
@@ -35,10 +36,11 @@ returns-2 : tie.Need-returns-2
 unfolding itemsOf
 returns-2 c =
     let n = c .before .before .before in
-    let w = n .before .before .before .before in
-    let x = w .before .before .before .args in
-    next-uncounted (x .t) (x .header) (x .payload .now) (x .decoded .now) (x .dir) (x .m) (w .fields-check .ensures .0) (n .before .before .enum-told .given .1)
-    (x .held) (n .positive-count .ensures (x .t .bytes)) (c .before .if1 .taken) (c .refused2 .ensures)
+    let w = n .before .before .before in
+    let x = w .before .before .before .before .args in
+    let t = searchedTable (x .protocol) (x .flow) (x .items) (x .count) (x .bytes .now) in
+    next-uncounted t (x .header) (x .payload .now) (x .decoded .now) (x .dir) (x .m) (w .fields-check .ensures .0) (n .before .enum-told .given .1)
+    (x .held) (n .positive-count .ensures (x .bytes .now)) (c .before .if1 .taken) (c .refused2 .ensures)
 
 find-requires : tie.Need-find-requires
 find-requires c κs = c .before .before .before .before .before .before .before .before .before .before .pre
@@ -50,10 +52,11 @@ returns-3 : tie.Need-returns-3
 unfolding itemsOf
 returns-3 c =
     let n = c .before .before .before .before .before in
-    let w = n .before .before .before .before in
-    let x = w .before .before .before .args in
-    next-found (x .t) (x .header) (x .payload .now) (x .decoded .now) (x .dir) (x .m) (w .fields-check .ensures .0) (n .before .before .enum-told .given .1)
-    (x .held) (n .positive-count .ensures (x .t .bytes)) (c .before .before .before .if1 .left) (c .before .find .ensures) (c .answered .ensures)
+    let w = n .before .before .before in
+    let x = w .before .before .before .before .args in
+    let t = searchedTable (x .protocol) (x .flow) (x .items) (x .count) (x .bytes .now) in
+    next-found t (x .header) (x .payload .now) (x .decoded .now) (x .dir) (x .m) (w .fields-check .ensures .0) (n .before .enum-told .given .1)
+    (x .held) (n .positive-count .ensures (x .bytes .now)) (c .before .before .before .if1 .left) (c .before .find .ensures) (c .answered .ensures)
 
 pub next-in-spec : {M : Type 1} → statement M
 next-in-spec =

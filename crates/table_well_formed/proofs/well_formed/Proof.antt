@@ -1,9 +1,6 @@
--- The definition is parted as the code parts it; each return rewrites with what the callees ensure of the tests that led there. The protocol is at
--- most 255 by its type.
+-- The definition is parted as the code parts it; each return rewrites with what the callees ensure of the tests that led there.
 use mathlib.Core.Path.{sym, _∙_}
-use native.Mathlib.Omega.{arith}
 use borrow.Author.Tests.{le-leb, not-true, not-false}
-use borrow.Author.Needs.{needs}
 use Rattle.definitions.specs.Limits.{maxByte}
 use Rattle.table_well_formed.proofs.Forming.{parted}
 use Rattle.table_well_formed.proofs.well_formed.Statement.{statement}
@@ -13,32 +10,27 @@ name-fits-requires : tie.Need-name-fits-requires
 name-fits-requires c κs = tt
 
 returns : tie.Need-returns
-returns c = rw (parted, sym (c .before .name-fits .ensures) ∙ not-true _ (c .if1 .taken))
+returns c = λ protocol flow h. rw (parted, sym (c .before .name-fits .ensures) ∙ not-true _ (c .if1 .taken))
 
 items-fit-requires : tie.Need-items-fit-requires
 items-fit-requires c κs = tt
 
 returns-2 : tie.Need-returns-2
 returns-2 c =
-    let named = c .before .before .before in
+    let named = c .before .before in
     let name = sym (named .before .name-fits .ensures) ∙ not-false _ (named .if1 .left) in
-    let protocol = le-leb (named .before .before .before .args .t .protocol) maxByte (omega arith) in
-    rw (parted, name, protocol, sym (c .before .items-fit .ensures) ∙ not-true _ (c .if2 .taken))
-
-slice-aggregate-all : tie.Need-slice-aggregate-all
-slice-aggregate-all c = search needs
+    λ protocol flow h. rw (parted, name, le-leb protocol maxByte h, sym (c .before .items-fit .ensures) ∙ not-true _ (c .if2 .taken))
 
 room-fits-requires : tie.Need-room-fits-requires
 room-fits-requires c κs = tt
 
 returns-3 : tie.Need-returns-3
 returns-3 c =
-    let walked = c .before .before .before in
-    let named = walked .before .before .before in
+    let walked = c .before in
+    let named = walked .before .before in
     let name = sym (named .before .name-fits .ensures) ∙ not-false _ (named .if1 .left) in
-    let protocol = le-leb (named .before .before .before .args .t .protocol) maxByte (omega arith) in
     let items = sym (walked .before .items-fit .ensures) ∙ not-false _ (walked .if2 .left) in
-    rw (parted, name, protocol, items) (c .room-fits .ensures)
+    λ protocol flow h. rw (parted, name, le-leb protocol maxByte h, items) (c .room-fits .ensures)
 
 pub well-formed-spec : {M : Type 1} → statement M
 well-formed-spec =
@@ -48,6 +40,5 @@ well-formed-spec =
     returns
     items-fit-requires
     returns-2
-    slice-aggregate-all
     room-fits-requires
     returns-3)

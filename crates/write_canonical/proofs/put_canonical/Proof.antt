@@ -1,5 +1,7 @@
+-- The parts are put one after the other, and go together to the canonical text (`canonical-parts`); how many pattern bytes are in use plays no part in it.
 use mathlib.Core.Path.{refl, _∙_}
 use borrow.Author.Needs.{needs}
+use Rattle.definitions.specs.Tables.{tableWith}
 use Rattle.write_keywords.proofs.Options.{flow-option}
 use Rattle.write_canonical.proofs.Canonical.{canonical-parts}
 use Rattle.write_bytes.proofs.Putting.{then, told, same-length as same}
@@ -24,8 +26,8 @@ flow-keyword-requires c κs = tt
 put-keyword-requires : tie.Need-put-keyword-requires
 put-keyword-requires c κs = search needs
 
-put-table-items-requires : tie.Need-put-table-items-requires
-put-table-items-requires c κs = tt
+put-items-requires : tie.Need-put-items-requires
+put-items-requires c κs = tt
 
 slice-aggregate-put-word-2 : tie.Need-slice-aggregate-put-word-2
 slice-aggregate-put-word-2 c = refl
@@ -42,15 +44,16 @@ returns c =
     let c16 = c12 .before .before .before .before in
     let c20 = c16 .before .before .before .before in
     let c24 = c20 .before .before .before .before in
-    let t = c24 .before .before .before .before .before .args .t in
-    let flow = flow-option (t .flow) ∙ c12 .flow-keyword .ensures .1 in
-    told (canonical-parts t)
+    let x = c24 .before .before .before .before .before .args in
+    let flow = flow-option (x .flow) ∙ c12 .flow-keyword .ensures .1 in
+    λ used.
+    told (canonical-parts (tableWith (x .name) (x .len) (x .protocol) (x .flow) (x .bytes .now) used (x .items) (x .count)))
     (then (c24 .put-word .ensures)
     (then (c20 .put-name .ensures)
-    (then (c16 .put-protocol .ensures) (then (told flow (c11 .put-keyword .ensures)) (then (c7 .put-table-items .ensures) (c2 .put-word2 .ensures))))))
+    (then (c16 .put-protocol .ensures) (then (told flow (c11 .put-keyword .ensures)) (then (c7 .put-items .ensures) (c2 .put-word2 .ensures))))))
 
 same-length : tie.Need-same-length
-same-length c = same (returns c)
+same-length c = same (returns c 0)
 
 pub put-canonical-spec : {M : Type 1} → statement M
 put-canonical-spec =
@@ -62,7 +65,7 @@ put-canonical-spec =
     put-protocol-requires
     flow-keyword-requires
     put-keyword-requires
-    put-table-items-requires
+    put-items-requires
     slice-aggregate-put-word-2
     put-word-requires-2
     same-length

@@ -1,6 +1,7 @@
 -- The answer to "first" is written where it is no placement; else the placement, and those after it.
 use Rattle.definitions.specs.Fields.{fieldsCheck}
 use Rattle.write_bytes.proofs.Putting.{then, told, same-length as same}
+use Rattle.search.specs.Searching.{searchedTable}
 use Rattle.match_placements.specs.Listing.{listIn, firstInList}
 use Rattle.case_lists.proofs.Rest.{list-ordered}
 use Rattle.case_lists.proofs.Listing.{first-not, first-one}
@@ -8,7 +9,7 @@ use Rattle.case_lists.proofs.lists.put_seen.Statement.{statement}
 use Rattle.case_lists.proofs.lists.put_seen.Tie as tie
 
 first-in-requires : tie.Need-first-in-requires
-first-in-requires c κs = c .before .before .before .pre
+first-in-requires c κs = c .before .before .before .before .pre
 
 enum-told : tie.Need-enum-told
 enum-told c = c .match .keys1
@@ -19,9 +20,10 @@ put-answer-requires c κs = tt
 returns : tie.Need-returns
 unfolding firstInList
 returns c =
-    let x = c .before .before .before .before .before .before .before .before .before .args in
+    let x = c .before .before .before .before .before .before .before .before .before .before .args in
+    let t = searchedTable (x .protocol) (x .flow) (x .items) (x .count) (x .bytes .now) in
     let w = fieldsCheck (x .payload .now) (x .decoded .now) (x .m) in
-    let l = listIn (x .t) (x .header) (x .payload .now) (x .decoded .now) (x .dir) (x .m) in
+    let l = listIn t (x .header) (x .payload .now) (x .decoded .now) (x .dir) (x .m) in
     let a = c .before .before .before .before .before .first-in in
     told (first-not w l (a .result) (a .ensures) (c .before .before .before .before .match .keys2)) (c .before .before .put-answer .ensures)
 
@@ -29,16 +31,17 @@ put-placement-requires : tie.Need-put-placement-requires
 put-placement-requires c κs = tt
 
 put-after-requires : tie.Need-put-after-requires
-put-after-requires c κs = c .before .before .before .before .before .before .before .before .before .before .before .before .before .pre
+put-after-requires c κs = c .before .before .before .before .before .before .before .before .before .before .before .before .before .before .pre
 
 returns-2 : tie.Need-returns-2
 unfolding firstInList
 returns-2 c =
     let p = c .before .before .before .before .before .before .before in
     let a = p .before .before .before .before .before in
-    let x = a .before .before .before .before .args in
+    let x = a .before .before .before .before .before .args in
+    let t = searchedTable (x .protocol) (x .flow) (x .items) (x .count) (x .bytes .now) in
     let w = fieldsCheck (x .payload .now) (x .decoded .now) (x .m) in
-    let v = list-ordered (x .t) (x .header) (x .payload .now) (x .decoded .now) (x .dir) (x .m) in
+    let v = list-ordered t (x .header) (x .payload .now) (x .decoded .now) (x .dir) (x .m) in
     told (first-one _ v w (a .first-in .result) (a .first-in .ensures) (p .before .before .before .enum-told .given .1))
     (then (p .put-placement .ensures) (c .before .before .put-after .ensures))
 

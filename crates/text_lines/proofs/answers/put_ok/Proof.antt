@@ -1,3 +1,4 @@
+-- The word, then the front of the buffer (`then`).
 use Rattle.write_bytes.proofs.Putting.{then}
 use borrow.Author.Needs.{needs}
 use Rattle.text_lines.proofs.answers.put_ok.Statement.{statement}
@@ -9,9 +10,6 @@ slice-aggregate-put-word c = search needs
 put-word-requires : tie.Need-put-word-requires
 put-word-requires c κs = search needs
 
-slice-aggregate-put-front : tie.Need-slice-aggregate-put-front
-slice-aggregate-put-front c = search needs
-
 put-front-requires : tie.Need-put-front-requires
 put-front-requires c κs = search needs
 
@@ -19,15 +17,7 @@ same-length : tie.Need-same-length
 same-length c = search needs
 
 returns : tie.Need-returns
-returns c = then (c .before .before .before .before .before .before .before .put-word .ensures) (c .before .before .put-front .ensures)
+returns c = then (c .before .before .before .before .before .before .put-word .ensures) (c .before .before .put-front .ensures)
 
 pub put-ok-spec : {M : Type 1} → statement M
-put-ok-spec =
-    tie.close
-    (tie.spec
-    slice-aggregate-put-word
-    put-word-requires
-    slice-aggregate-put-front
-    put-front-requires
-    same-length
-    returns)
+put-ok-spec = tie.close (tie.spec slice-aggregate-put-word put-word-requires put-front-requires same-length returns)

@@ -1,0 +1,2 @@
+-- What is stated of two limits.
+pub mod LongerTexts

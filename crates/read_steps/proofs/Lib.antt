@@ -1,0 +1,4 @@
+-- Laws of a step of reading, and of the loop over steps.
+pub mod Listed
+pub mod OptionSteps
+pub mod Looping

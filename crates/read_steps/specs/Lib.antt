@@ -1,0 +1,2 @@
+-- What a step of reading promises.
+pub mod Stepping

@@ -1,4 +1,0 @@
--- Laws of the reader's parts.
-pub mod Listed
-pub mod OptionSteps
-pub mod Looping

@@ -1,2 +1,0 @@
--- What the parts of the reader promise.
-pub mod Stepping
