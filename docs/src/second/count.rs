@@ -1,4 +1,5 @@
-//! How often each kind of answer occurs in the output of `lines`, `placements` or `decisions`.
+//! How often each kind of answer occurs in the output of `lines`, `placements`, `decisions`
+//! or `replay`.
 
 use std::collections::BTreeMap;
 use std::io::{BufRead, Result, Write};
@@ -19,7 +20,16 @@ pub fn count(mut input: impl BufRead, mut output: impl Write) -> Result<()> {
 
 /// Refusals are padded, so that the sorted names stand in the order of their numbers.
 fn kind(line: &str) -> String {
-    let answer = line.split('\t').nth(1).unwrap_or("");
+    let columns: Vec<&str> = line.split('\t').collect();
+    match columns[..] {
+        ["total", ..] => return "total".to_string(),
+        [_, "bad", "0"] => return "bad".to_string(),
+        [_, "pass" | "hold", "0"] => return format!("{} 0", columns[1]),
+        [_, "pass" | "hold", _] => return format!("{} by a rule", columns[1]),
+        ["book", number, _] => return format!("book {number:>2}"),
+        _ => {}
+    }
+    let answer = columns.get(1).copied().unwrap_or("");
     let words: Vec<&str> = answer.split(' ').collect();
     match words[..] {
         ["ok"] | ["bad"] | ["none"] => answer.to_string(),

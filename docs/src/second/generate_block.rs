@@ -10,7 +10,7 @@ use crate::table::Field;
 
 pub const MARKER: &[u8] = b"~Zz!";
 
-const WORDS: [&str; 16] = [
+pub const WORDS: [&str; 16] = [
     "GET ",
     "POST ",
     "HTTP/1.1\r\n",
@@ -105,7 +105,7 @@ fn decoded(random: &mut Random) -> Vec<u8> {
 }
 
 /// Like text, or any bytes.
-fn bytes(random: &mut Random, length: usize) -> Vec<u8> {
+pub fn bytes(random: &mut Random, length: usize) -> Vec<u8> {
     let mut bytes = Vec::new();
     let like_text = random.chance(60);
     while bytes.len() < length {

@@ -19,15 +19,18 @@ mod placements;
 mod quick;
 mod reader;
 mod reference;
+mod replay;
 mod scan;
 mod search;
 mod table;
 mod tests;
+mod trace;
 mod value;
 mod words;
 
 mod damage;
 mod generate_aimed;
+mod generate_bad_line;
 mod generate_block;
 mod generate_book;
 mod generate_byte_test;
@@ -36,39 +39,44 @@ mod generate_decision;
 mod generate_item;
 mod generate_long;
 mod generate_measured;
+mod generate_mixed;
 mod generate_packet;
 mod generate_table;
 mod generate_text;
+mod generate_trace;
 mod odd;
 mod random;
 mod selftest;
 mod selftest_blocks;
 mod selftest_bytes;
+mod selftest_replay;
 mod slips;
 mod spell;
 
 use random::Random;
+use std::ffi::OsString;
 use std::io::{stderr, stdin, stdout, BufWriter, Result, Write};
 use std::process::ExitCode;
 
 const USAGE: &str = "usage: second lines | placements | decisions | hex | count | slips
-       second book|blocks FILE
-       second generate texts|cases|decisions SEED COUNT
+       second book|blocks|replay FILE
+       second generate texts|cases|decisions|trace|night SEED COUNT
        second generate block SEED COUNT [tcp]
-       second generate book SEED RULES none|first
+       second generate book SEED RULES none|first|mixed
        second selftest SEED COUNT";
 
 fn main() -> ExitCode {
-    let arguments: Vec<String> =
-        std::env::args_os().skip(1).map(|text| text.to_string_lossy().into_owned()).collect();
-    let words: Vec<&str> = arguments.iter().map(String::as_str).collect();
+    let arguments: Vec<OsString> = std::env::args_os().skip(1).collect();
+    let texts: Vec<String> =
+        arguments.iter().map(|text| text.to_string_lossy().into_owned()).collect();
+    let words: Vec<&str> = texts.iter().map(String::as_str).collect();
     let result = match words[..] {
         ["lines"] => lines::answer_lines(stdin().lock(), output(), lines::answer_text),
         ["placements"] => lines::answer_lines(stdin().lock(), output(), placements::answer_case),
         ["decisions"] => lines::answer_lines(stdin().lock(), output(), decisions::answer_decision),
         ["hex"] => hex::write_hex(stdin().lock(), output()),
         // Without a book that can be opened nothing is written.
-        ["book" | "blocks"] => Ok(()),
+        ["book" | "blocks" | "replay"] => Ok(()),
         ["book", file] => match std::fs::read(file) {
             Ok(book) => decisions::write_judgement(&book, output()),
             Err(_) => Ok(()),
@@ -77,6 +85,8 @@ fn main() -> ExitCode {
             Ok(book) => blocks::answer_blocks(&book, stdin().lock(), output()),
             Err(_) => Ok(()),
         },
+        // Further arguments are ignored.
+        ["replay", _, ..] => told(replay::replay_file(&arguments[1], stdin().lock(), output())),
         ["count"] => count::count(stdin().lock(), output()),
         ["slips"] => slips::write_slips(output()),
         ["generate", what, seed, count] => match (what, seed.parse(), count.parse()) {
@@ -86,6 +96,8 @@ fn main() -> ExitCode {
             ("decisions", Ok(seed), Ok(count)) => {
                 generate(seed, count, generate_decision::decision)
             }
+            ("trace", Ok(seed), Ok(count)) => generate_trace::write_trace(seed, count, output()),
+            ("night", Ok(seed), Ok(count)) => generate(seed, count, generate_trace::night_line),
             _ => return usage(),
         },
         ["generate", "block", seed, count, "tcp"] => match (seed.parse(), count.parse()) {
@@ -95,6 +107,9 @@ fn main() -> ExitCode {
         ["generate", "book", seed, rules, kind] => match (seed.parse(), rules.parse(), kind) {
             (Ok(seed), Ok(rules), "none" | "first") => {
                 output().write_all(&generate_measured::book(seed, rules, kind == "first"))
+            }
+            (Ok(seed), Ok(rules), "mixed") => {
+                output().write_all(&generate_mixed::book(seed, rules))
             }
             _ => return usage(),
         },
@@ -114,6 +129,11 @@ fn main() -> ExitCode {
 fn usage() -> ExitCode {
     let _ = writeln!(stderr(), "{USAGE}");
     ExitCode::from(2)
+}
+
+/// A failing read of the trace, or write, is said on standard error.
+fn told(result: Result<()>) -> Result<()> {
+    result.inspect_err(|error| drop(writeln!(stderr(), "{error}")))
 }
 
 fn output() -> impl Write {

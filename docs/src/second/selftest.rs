@@ -13,6 +13,7 @@ use crate::reader::read;
 use crate::search::{lies_at, Placed};
 use crate::selftest_blocks;
 use crate::selftest_bytes;
+use crate::selftest_replay;
 use crate::spell::Spell;
 use crate::table::*;
 use std::io::{Error, Result as Written, Write};
@@ -35,8 +36,13 @@ pub fn run(seed: u64, count: u64, mut output: impl Write) -> Written<()> {
             writeln!(output, "block {number}: {text}")?;
             wrong += 1;
         }
+        let traces = selftest_replay::aimed(&mut random);
+        if let Err(text) = traces.and_then(|()| selftest_replay::mixed(&mut random)) {
+            writeln!(output, "trace {number}: {text}")?;
+            wrong += 1;
+        }
     }
-    writeln!(output, "{count} tables, cases and blocks, {wrong} wrong")?;
+    writeln!(output, "{count} tables, cases, blocks and traces, {wrong} wrong")?;
     output.flush()?;
     if wrong == 0 {
         Ok(())

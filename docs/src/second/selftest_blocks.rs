@@ -77,9 +77,9 @@ fn agree(
 }
 
 /// A reader that gives so many bytes at most.
-struct Parts<'a> {
-    bytes: &'a [u8],
-    most: usize,
+pub struct Parts<'a> {
+    pub bytes: &'a [u8],
+    pub most: usize,
 }
 
 impl Read for Parts<'_> {
