@@ -1,88 +1,64 @@
 -- The bytes that pairs of hex digits write: the byte of each pair, and what a lent buffer holds of them.
 use mathlib.Core.Path.{_≡_, refl, sym, ap, _∙_}
-use mathlib.Core.Bool.{true, false, false≢true}
+use mathlib.Core.Bool.{true}
 use mathlib.Core.List.{List, [], _∷_, _++_}
-use Prim.Native.Nat.{ℕ, suc, _+_, _-_, _*_, _≤_, _<_}
+use Prim.Native.Nat.{ℕ, suc, _+_, _-_, _*_, _/_, _%_, _≤_, _<_}
 use native.Mathlib.Omega.{arith}
-use lib.ListN.{length, getD, take, drop, length-drop}
-use lib.Seq.{drop-cons, take-append-seam}
-use lib.Dec.{leb}
-use borrow.Author.Tests.{leb-true, lt-ltb}
-use Rattle.forms.specs.Bytes.{between}
+use lib.ListN.{length, getD, set, take, drop, length-drop}
+use lib.Seq.{take-append-seam}
 use Rattle.forms.specs.Form.{has}
-use Rattle.forms.proofs.Bools.{by-cases, both-right}
-use Rattle.scan_bytes.specs.Capped.{numberCap, capped}
-use Rattle.definitions.specs.Numbers.{hexDigits, digitValue, valueOf}
+use Rattle.definitions.specs.Numbers.{hexDigits, digitValue}
 use Rattle.definitions.specs.Cases.{pairs}
-use Rattle.list_laws.proofs.Every.{all-at}
+use Rattle.list_laws.proofs.Every.{drop-here, all-at}
 use Rattle.write_bytes.specs.Puts.{maxCounted, puts, Puts}
-use Rattle.write_bytes.proofs.Putting.{same-length}
+use Rattle.write_bytes.proofs.Putting.{one-kept, same-length}
 use Rattle.write_bytes.proofs.Whole.{most-of, puts-count, puts-buffer}
 use Rattle.line_numbers.specs.HexPairs.{isHex}
+use Rattle.line_numbers.proofs.HexDigits.{hex-high}
 use Rattle.line_numbers.proofs.HexForm.{hex-all}
 
-hex-high : (b : ℕ) → has hexDigits b ≡ true → b ≤ 102
-unfolding has
-hex-high b e =
-    by-cases (between 48 57 b)
-    (λ t. omega (arith, leb-true b 57 (both-right (leb 48 b) (leb b 57) t)))
-    (λ f.
-    by-cases (between 65 70 b)
-    (λ t. omega (arith, leb-true b 70 (both-right (leb 65 b) (leb b 70) t)))
-    (λ g.
-    by-cases (between 97 102 b)
-    (λ t. leb-true b 102 (both-right (leb 97 b) (leb b 102) t))
-    (λ h. absurd (false≢true (rw (f, g, h) at e)))))
-
-digit-small : (b : ℕ) → b ≤ 102 → digitValue b ≤ 15
-unfolding digitValue
-digit-small b h =
-    by-cases (leb b 57)
-    (λ t. rw t (omega (arith, leb-true b 57 t)))
-    (λ f. rw f (by-cases (leb b 70) (λ t. rw t (omega (arith, leb-true b 70 t))) (λ g. rw g (omega arith))))
-
-abbrev pairAt : List ℕ → ℕ → ℕ
-pairAt s i = digitValue (getD s i 0) * 16 + digitValue (getD s (suc i) 0)
-
-two-on : (s : List ℕ) (i : ℕ) → i + 1 < length s → drop i s ≡ getD s i 0 ∷ getD s (suc i) 0 ∷ drop (i + 2) s
+two-on : (s : List ℕ) (i : ℕ) → i + 1 < length s → drop i s ≡ getD s i 0 ∷ getD s (i + 1) 0 ∷ drop (i + 2) s
 two-on s i h =
-    let e : i + 2 ≡ suc (suc i) = omega arith in
-    drop-cons s i 0 (omega (arith, h))
-    ∙ ap (λ (l : List ℕ). getD s i 0 ∷ l) (drop-cons s (suc i) 0 (omega (arith, h)))
-    ∙ ap (λ (k : ℕ). getD s i 0 ∷ getD s (suc i) 0 ∷ drop k s) (sym e)
+    let e : i + 1 + 1 ≡ i + 2 = omega arith in
+    drop-here s i 0 (omega (arith, h)) ∙ ap (λ (l : List ℕ). getD s i 0 ∷ l) (drop-here s (i + 1) 0 h)
+    ∙ ap (λ (k : ℕ). getD s i 0 ∷ getD s (i + 1) 0 ∷ drop k s) e
 
-module _ (s : List ℕ) (i : ℕ) (good : isHex s ≡ true) (h : i + 1 < length s) where
-  pair-small : pairAt s i ≤ 255
-  pair-small =
-      let all = hex-all s good (omega (arith, h)) in
-      let high = digit-small (getD s i 0) (hex-high (getD s i 0) (all-at (has hexDigits) 0 s i all (omega (arith, h)))) in
-      let low = digit-small (getD s (suc i) 0) (hex-high (getD s (suc i) 0) (all-at (has hexDigits) 0 s (suc i) all (omega (arith, h)))) in
-      omega (arith, high, low)
+-- w is the two bytes from a place on as one number
+module _ (s : List ℕ) (i w : ℕ) (good : isHex s ≡ true) (h : i + 1 < length s) (e : w ≡ getD s i 0 + getD s (i + 1) 0 * 256) where
+  hex-at : (k : ℕ) → k < length s → has hexDigits (getD s k 0) ≡ true
+  hex-at k g = all-at (has hexDigits) 0 s k (hex-all s good (omega (arith, h))) g
 
-  -- what the number of two digits is
-  pair-value : (r : ℕ) → r ≡ capped (valueOf 16 0 (take (i + 2 - i) (drop i s))) → r ≡ pairAt s i
-  unfolding valueOf
-  pair-value r e =
-      let two : i + 2 - i ≡ 2 = omega arith in
-      let sum : 0 * 16 ≡ 0 = omega arith in
-      let value : (0 * 16 + digitValue (getD s i 0)) * 16 + digitValue (getD s (suc i) 0) ≡ pairAt s i = omega arith in
-      e
-      ∙ ap (λ (n : ℕ). capped (valueOf 16 0 (take n (drop i s)))) two
-      ∙ ap (λ (l : List ℕ). capped (valueOf 16 0 (take 2 l))) (two-on s i h)
-      ∙ ap capped value
-      ∙ rw (lt-ltb (pairAt s i) numberCap (omega (arith, pair-small)))
+  first-is : w % 256 ≡ getD s i 0
+  first-is = omega (arith, e, hex-high (getD s i 0) (hex-at i (omega (arith, h))))
 
-  pub pair-fits : (r : ℕ) → r ≡ capped (valueOf 16 0 (take (i + 2 - i) (drop i s))) → r ≤ 255
-  pair-fits r e = omega (arith, pair-value r e, pair-small)
+  second-is : w / 256 ≡ getD s (i + 1) 0
+  second-is = omega (arith, e, hex-high (getD s i 0) (hex-at i (omega (arith, h))))
 
+  pub pair-hex : (has hexDigits (w % 256) ≡ true) × (has hexDigits (w / 256) ≡ true)
+  pair-hex = (rw first-is (hex-at i (omega (arith, h))), rw second-is (hex-at (i + 1) h))
+
+  -- the byte that they write is the next one
   pub pair-on :
-      (r : ℕ) → r ≡ capped (valueOf 16 0 (take (i + 2 - i) (drop i s))) → {out o : List ℕ} {at n : ℕ} → Puts out at (r ∷ []) o n
+      (r : ℕ) → r ≡ digitValue (w % 256) * 16 + digitValue (w / 256) → {out o : List ℕ} {at n : ℕ} → Puts out at (r ∷ []) o n
       → puts out at (pairs (drop i s)) ≡ puts o n (pairs (drop (i + 2) s))
   unfolding pairs puts
-  pair-on r e {out = out} {at = at} p =
+  pair-on r q {out = out} {at = at} p =
+      let this : r ≡ digitValue (getD s i 0) * 16 + digitValue (getD s (i + 1) 0) = rw (← first-is, ← second-is) q in
       ap (λ (l : List ℕ). puts out at (pairs l)) (two-on s i h)
-      ∙ ap (λ (b : ℕ). puts out at (b ∷ pairs (drop (i + 2) s))) (sym (pair-value r e))
-      ∙ ap (λ (q : List ℕ × ℕ). puts (q .0) (q .1) (pairs (drop (i + 2) s))) (sym (p .is))
+      ∙ ap (λ (b : ℕ). puts out at (b ∷ pairs (drop (i + 2) s))) (sym this)
+      ∙ ap (λ (x : List ℕ × ℕ). puts (x .0) (x .1) (pairs (drop (i + 2) s))) (sym (p .is))
+
+-- the j-th of the pairs has room
+pub pair-kept :
+    (s : List ℕ) (j w : ℕ) → isHex s ≡ true → 2 * j + 1 < length s → w ≡ getD s (2 * j) 0 + getD s (2 * j + 1) 0 * 256
+    → (r : ℕ) → r ≡ digitValue (w % 256) * 16 + digitValue (w / 256) → (out : List ℕ) (at : ℕ) → at + j < maxCounted
+    → puts out (at + j) (pairs (drop (2 * j) s)) ≡ puts (set out (at + j) r) (at + (j + 1)) (pairs (drop (2 * (j + 1)) s))
+pair-kept s j w good h e r q out at few =
+    let place : suc (at + j) ≡ at + (j + 1) = omega arith in
+    let next : 2 * j + 2 ≡ 2 * (j + 1) = omega arith in
+    pair-on s (2 * j) w good h e r q (one-kept out (at + j) r few)
+    ∙ ap (λ (n : ℕ). puts (set out (at + j) r) n (pairs (drop (2 * j + 2) s))) place
+    ∙ ap (λ (n : ℕ). puts (set out (at + j) r) (at + (j + 1)) (pairs (drop n s))) next
 
 pub pairs-out : (s : List ℕ) (i : ℕ) → length s ≤ i + 1 → pairs (drop i s) ≡ []
 unfolding pairs

@@ -1,33 +1,28 @@
 -- When bytes are pairs of hex digits: `-`, or digits to the end, an even count of them and more than none.
-use mathlib.Core.Path.{_≡_, refl, sym, ap, _∙_}
-use mathlib.Core.Bool.{Bool, true, false, not, _&&_, and-false}
+use mathlib.Core.Path.{_≡_, refl, sym, _∙_}
+use mathlib.Core.Bool.{Bool, true, false, not, _&&_, and-assoc, and-true, and-false}
 use mathlib.Core.List.{List, [], _∷_}
-use Prim.Native.Nat.{ℕ, suc, _+_, _%_, _≤_}
+use Prim.Native.Nat.{ℕ, _+_, _%_, _≤_, _<_}
 use native.Mathlib.Omega.{arith}
-use lib.ListN.{length}
+use lib.ListN.{length, getD, drop, drop-of-length-le}
 use lib.Dec.{eqb}
-use borrow.Author.Tests.{eq-eqb, ne-eqb, eqb-true, eqb-false}
-use Rattle.forms.specs.Bytes.{text, run}
+use Rattle.forms.specs.Bytes.{text}
 use Rattle.forms.specs.Form.{has}
-use Rattle.forms.proofs.Bools.{by-cases, both-left, both-right}
+use Rattle.forms.proofs.Bools.{both-left, both-right}
 use Rattle.definitions.specs.Lists.{all?, none?, sameBytes}
 use Rattle.definitions.specs.Numbers.{hexDigits}
+use Rattle.list_laws.proofs.Every.{drop-here}
 use Rattle.line_numbers.specs.HexPairs.{isHex}
 
-suc-eqb : (a b : ℕ) → eqb a b ≡ eqb (suc a) (suc b)
-suc-eqb a b =
-    by-cases (eqb a b)
-    (λ t. t ∙ sym (eq-eqb (suc a) (suc b) (ap suc (eqb-true a b t))))
-    (λ f. f ∙ sym (ne-eqb (suc a) (suc b) (λ e. eqb-false a b f (omega (arith, e)))))
+-- every byte is looked at, whatever came before
+module _ (p : ℕ → Bool) (s : List ℕ) (good : Bool) (i : ℕ) (e : all? p s ≡ (good && all? p (drop i s))) where
+  pub each-on : i < length s → all? p s ≡ ((good && p (getD s i 0)) && all? p (drop (i + 1) s))
+  unfolding all?
+  each-on h = e ∙ rw (drop-here s i 0 h) (sym (and-assoc good (p (getD s i 0)) (all? p (drop (i + 1) s))))
 
--- all bytes of a list are of a class where its run goes through
-all-run : (p : ℕ → Bool) (l : List ℕ) → all? p l ≡ eqb (run p l) (length l)
-unfolding all? run
-all-run p [] = refl
-all-run p (b ∷ l) =
-    by-cases (p b)
-    (λ t. rw t (all-run p l ∙ suc-eqb (run p l) (length l)))
-    (λ f. rw f (sym (ne-eqb 0 (suc (length l)) (λ e. omega (arith, e)))))
+  pub each-out : length s ≤ i → good ≡ all? p s
+  unfolding all?
+  each-out h = sym (e ∙ rw (drop-of-length-le s h) (and-true good))
 
 not-short : (l : List ℕ) → 2 ≤ length l → sameBytes l (text "-") ≡ false
 unfolding sameBytes
@@ -44,20 +39,18 @@ unfolding isHex sameBytes
 hex-empty [] e = refl
 hex-empty (b ∷ l) e = absurd (omega (arith, e))
 
-pub hex-other : (l : List ℕ) (r : ℕ) → sameBytes l (text "-") ≡ false → r ≡ 0 + run (has hexDigits) l → (r ≡ length l → ⊥) → false ≡ isHex l
-unfolding isHex
-hex-other l r e q n =
-    let other : run (has hexDigits) l ≡ length l → ⊥ = λ z. n (omega (arith, q, z)) in
-    rw (e, all-run (has hexDigits) l, ne-eqb (run (has hexDigits) l) (length l) other) (sym (and-false (not (none? l))))
+module _ (l : List ℕ) (e : sameBytes l (text "-") ≡ false) where
+  pub hex-other : all? (has hexDigits) l ≡ false → false ≡ isHex l
+  unfolding isHex
+  hex-other f = rw (e, f) (sym (and-false (not (none? l))))
 
-pub hex-even :
-    (l : List ℕ) (r : ℕ) → sameBytes l (text "-") ≡ false → (length l ≡ 0 → ⊥) → r ≡ 0 + run (has hexDigits) l → r ≡ length l
-    → eqb (length l % 2) 0 ≡ isHex l
-unfolding isHex
-hex-even [] r e n q z = absurd (n refl)
-hex-even (b ∷ l) r e n q z =
-    let all : run (has hexDigits) (b ∷ l) ≡ suc (length l) = omega (arith, q, z) in
-    rw (e, all-run (has hexDigits) (b ∷ l), eq-eqb (run (has hexDigits) (b ∷ l)) (suc (length l)) all)
+  pub hex-even : (length l ≡ 0 → ⊥) → all? (has hexDigits) l ≡ true → eqb (length l % 2) 0 ≡ isHex l
+  unfolding isHex
+  hex-even n t = rw (e, t, some l n)
+    where
+      some : (k : List ℕ) → (length k ≡ 0 → ⊥) → none? k ≡ false
+      some [] m = absurd (m refl)
+      some (b ∷ k) m = refl
 
 pub hex-all : (l : List ℕ) → isHex l ≡ true → 2 ≤ length l → all? (has hexDigits) l ≡ true
 unfolding isHex

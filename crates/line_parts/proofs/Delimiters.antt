@@ -9,7 +9,6 @@ use lib.ListN.{length, take, drop, length-drop, drop-of-length-le}
 use lib.Seq.{length-take-le}
 use lib.Dec.{eqb}
 use borrow.Author.Tests.{ltb-false}
-use Rattle.forms.specs.Bytes.{run}
 use Rattle.list_laws.proofs.Runs.{run-le}
 use Rattle.definitions.specs.Parts.{find, contains, partBefore, partAfter, afterParts, part}
 
@@ -19,23 +18,18 @@ module _ (d : ℕ) (l : List ℕ) where
   find-le = run-le (λ b. not (eqb b d)) l
 
   -- the code's place of the first delimiter, r
-  module _ (r : ℕ) where
-    pub find-is : r ≡ 0 + run (λ b. not (eqb b d)) l → r ≡ find d l
-    unfolding find
-    find-is e = omega (arith, e)
+  module _ (r : ℕ) (e : r ≡ find d l) where
+    pub before-is : take (r - 0) (drop 0 l) ≡ partBefore d l
+    unfolding partBefore
+    before-is = let z : r - 0 ≡ find d l = omega (arith, e) in ap (λ (n : ℕ). take n l) z
 
-    module _ (e : r ≡ find d l) where
-      pub before-is : take (r - 0) (drop 0 l) ≡ partBefore d l
-      unfolding partBefore
-      before-is = let z : r - 0 ≡ find d l = omega (arith, e) in ap (λ (n : ℕ). take n l) z
+    pub after-is : drop (r + 1) l ≡ partAfter d l
+    unfolding partAfter
+    after-is = let z : r + 1 ≡ suc (find d l) = omega (arith, e) in ap (λ (n : ℕ). drop n l) z
 
-      pub after-is : drop (r + 1) l ≡ partAfter d l
-      unfolding partAfter
-      after-is = let z : r + 1 ≡ suc (find d l) = omega (arith, e) in ap (λ (n : ℕ). drop n l) z
-
-      pub after-none : length l ≤ r → drop r l ≡ partAfter d l
-      unfolding partAfter
-      after-none h = drop-of-length-le l h ∙ sym (drop-of-length-le l {i = suc (find d l)} (omega (arith, e, h)))
+    pub after-none : length l ≤ r → drop r l ≡ partAfter d l
+    unfolding partAfter
+    after-none h = drop-of-length-le l h ∙ sym (drop-of-length-le l {i = suc (find d l)} (omega (arith, e, h)))
 
   pub before-length : length (partBefore d l) ≡ find d l
   unfolding partBefore

@@ -2,19 +2,13 @@
 ghost use mathlib.Core.Path.{_≡_};
 ghost use Rattle.definitions.specs.Lists.{sameBytes};
 ghost use Rattle.definitions.specs.Parts as parts;
+use scan_find::find_from;
 
 // How many bytes stand before the first delimiter.
 fn find(s: &[u8], d: u8) -> usize
     ensures { λ r. ⌜ r ≡ parts.find d (now (s .entry)) ⌝ }
 {
-    let mut i = 0;
-    while i < s.len() {
-        if s[i] == d {
-            return i;
-        }
-        i += 1;
-    }
-    i
+    find_from(s, 0, d)
 }
 
 // Whether the delimiter stands there.

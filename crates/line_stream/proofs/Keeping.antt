@@ -157,7 +157,7 @@ pub keeps-length : {line line' part : List ℕ} {len r : ℕ} → Keeps line lin
 keeps-length {line = line} {part = part} {len = len} k = ap length (k .kept) ∙ length-sets line len part
 
 -- where all lines beyond so many bytes have one answer, any more bytes of a line are the same
-pub kept-beyond : (answer : List ℕ → List ℕ) (most : ℕ) (same : List ℕ) → ((s : List ℕ) → most < length s → answer s ≡ same)
+pub kept-beyond : {A : Type 0} (answer : List ℕ → A) (most : ℕ) (same : A) → ((s : List ℕ) → most < length s → answer s ≡ same)
     → (m : ℕ) (s : List ℕ) → most < m → answer (take m s) ≡ answer s
 kept-beyond answer most same long m s h =
     by-cases (leb (length s) m)

@@ -9,5 +9,6 @@ pub mod Loop
 pub mod Feeds
 pub mod Finish
 pub mod Whole
+pub mod Ended
 pub mod Output
 pub mod Running

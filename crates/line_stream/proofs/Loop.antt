@@ -289,5 +289,11 @@ module _ (answer : List ℕ → List ℕ) where
       pub loop-lf : t .waits ≡ true → t .fed .taken < length input
       loop-lf w = now-so-far .waits w .inside
 
+      -- the line that waits is the one begun after what was taken, and ends there
+      pub loop-line : t .waits ≡ true
+          → (take (t .fed .begun .len) line ≡ after answer (length line₀) (lineState b line₀ []) (take (t .fed .taken) input) .begun)
+          × (getD input (t .fed .taken) 0 ≡ 10)
+      loop-line w = (ap (λ (x : State). x .begun) (now-so-far .waits w .at .is), now-so-far .waits w .lf)
+
       pub loop-ends : t .waits ≡ false → Feeds answer input line₀ out₀ b line out (t .fed)
       loop-ends f = now-so-far .done f

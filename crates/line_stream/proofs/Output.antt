@@ -9,22 +9,19 @@ use lib.Dec.{eqb}
 use lib.ListN.{length, take}
 use lib.Seq.{take-nil}
 use borrow.Author.Tests.{lt-ltb}
-use Rattle.forms.specs.Bytes.{if_then_else_, text}
+use Rattle.forms.specs.Bytes.{text}
 use Rattle.forms.proofs.Bools.{by-cases}
 use Rattle.definitions.specs.Canonical.{decimal}
 use Rattle.definitions.specs.Lines.{lineTexts, linesFrom, outputOver}
 use Rattle.line_stream.specs.Stream.{maxLineNumber, nextNumber, State, start, lineAnswer, after, lastLine, outputOf}
 use Rattle.line_stream.specs.Whole.{wholeRead, wholeAfter}
+use Rattle.line_stream.specs.Ended.{endedLines}
 use Rattle.line_stream.proofs.States.{begunLine}
+use Rattle.line_stream.proofs.Ended.{texts-on}
 use Rattle.line_stream.proofs.Whole.{after-clipped, last-clipped}
 
-texts-on : (line : List ℕ) (b : ℕ) (l : List ℕ) → lineTexts line (b ∷ l) ≡ (if eqb b 10 then line ∷ lineTexts [] l else lineTexts (line ++ (b ∷ [])) l)
-unfolding lineTexts
-texts-on [] b l = refl
-texts-on (x ∷ line) b l = refl
-
 -- the next line's number, where 64 bits hold it
-next-is : (n k : ℕ) → n + suc k < 2 ^ 64 → nextNumber n ≡ suc n
+pub next-is : (n k : ℕ) → n + suc k < 2 ^ 64 → nextNumber n ≡ suc n
 next-is n k h = rw (lt-ltb n maxLineNumber (omega (arith, h))) (add-one n)
 
 module _ (answer : List ℕ → List ℕ) where
@@ -45,11 +42,11 @@ module _ (answer : List ℕ → List ℕ) where
   Comes n s w input = w ++ linesFrom answer n (lineTexts s input) ≡ outputOf answer (wholeAfter answer (begunLine n w s) input)
 
   module _ (n : ℕ) (s w : List ℕ) (b : ℕ) (l : List ℕ) where
-    read-end : n + suc (length l) < 2 ^ 64 → eqb b 10 ≡ true
+    read-end : n + suc (length (endedLines [] l)) < 2 ^ 64 → eqb b 10 ≡ true
         → wholeRead answer (begunLine n w s) b ≡ begunLine (suc n) (w ++ lineAnswer answer n s) []
-    read-end few t = rw t (ap (λ (m : ℕ). begunLine m (w ++ lineAnswer answer n s) []) (next-is n (length l) few))
+    read-end few t = rw t (ap (λ (m : ℕ). begunLine m (w ++ lineAnswer answer n s) []) (next-is n (length (endedLines [] l)) few))
 
-    comes-end : n + suc (length l) < 2 ^ 64 → eqb b 10 ≡ true → Comes (suc n) [] (w ++ lineAnswer answer n s) l → Comes n s w (b ∷ l)
+    comes-end : n + suc (length (endedLines [] l)) < 2 ^ 64 → eqb b 10 ≡ true → Comes (suc n) [] (w ++ lineAnswer answer n s) l → Comes n s w (b ∷ l)
     unfolding wholeAfter
     comes-end few t next =
         ap (λ (x : List (List ℕ)). w ++ linesFrom answer n x) (texts-on s b l ∙ rw t)
@@ -66,18 +63,20 @@ module _ (answer : List ℕ → List ℕ) where
         ∙ next
         ∙ ap (λ (x : State). outputOf answer (wholeAfter answer x l)) (sym on)
 
-  to-come : (n : ℕ) (s w input : List ℕ) → n + length input < 2 ^ 64 → Comes n s w input
-  unfolding wholeAfter
+  to-come : (n : ℕ) (s w input : List ℕ) → n + length (endedLines s input) < 2 ^ 64 → Comes n s w input
+  unfolding wholeAfter endedLines
   to-come n s w [] few = ap (λ (l : List ℕ). w ++ l) (texts-end n s)
   to-come n s w (b ∷ l) few =
       by-cases (eqb b 10)
-      (λ t. comes-end n s w b l few t (to-come (suc n) [] (w ++ lineAnswer answer n s) l (omega (arith, few))))
-      (λ f. comes-on n s w b l f (to-come n (s ++ (b ∷ [])) w l (omega (arith, few))))
+      (λ t.
+      let more : n + suc (length (endedLines [] l)) < 2 ^ 64 = rw t at few in
+      comes-end n s w b l more t (to-come (suc n) [] (w ++ lineAnswer answer n s) l (omega (arith, more))))
+      (λ f. comes-on n s w b l f (to-come n (s ++ (b ∷ [])) w l (rw f at few)))
 
   -- ---- and where more than `most` bytes of a line change no answer, and more are kept
 
   pub whole-output : (most room : ℕ) → ((m : ℕ) (s : List ℕ) → most < m → answer (take m s) ≡ answer s) → most < room → (input : List ℕ)
-      → length input + 1 < 2 ^ 64 → outputOver answer input ≡ outputOf answer (after answer room start input)
+      → length (endedLines [] input) + 1 < 2 ^ 64 → outputOver answer input ≡ outputOf answer (after answer room start input)
   unfolding outputOver
   whole-output most room kept roomy input few =
       let st = wholeAfter answer start input in

@@ -5,31 +5,15 @@ use mathlib.Core.List.{List, [], _∷_, _++_}
 use Prim.Native.Nat.{ℕ, suc, _+_, _-_, _≤_, _<_}
 use native.Mathlib.Omega.{arith}
 use native.Mathlib.Nat.{not-suc-le-zero}
-use native.Mathlib.Numerals.{add-one}
 use lib.Dec.{eqb}
-use lib.ListN.{length, getD, take, drop, length-drop, take-append-drop, drop-of-length-le}
-use lib.Seq.{length-take-le, drop-cons, drop-drop, getD-drop, take-add}
-use borrow.Author.Tests.{eq-eqb, ne-eqb, eqb-true}
+use lib.ListN.{length, getD, take, drop, length-drop, take-append-drop}
+use lib.Seq.{length-take-le, drop-drop, getD-drop, take-add}
+use borrow.Author.Tests.{eqb-true}
 use Rattle.forms.specs.Bytes.{run}
 use Rattle.forms.proofs.Bools.{by-cases}
 use Rattle.definitions.specs.Lists.{all?}
 use Rattle.line_stream.specs.Steps.{inLine, lfFrom, lineFrom}
 use Rattle.list_laws.proofs.Runs.{run-le}
-
--- ---- the search for it, byte by byte
-
-module _ (s : List ℕ) (i : ℕ) where
-  pub lf-on : i < length s → (getD s i 0 ≡ 10 → ⊥) → lfFrom s i ≡ lfFrom s (i + 1)
-  unfolding run
-  lf-on h n = rw (drop-cons s i 0 h, ne-eqb (getD s i 0) 10 n, add-one i) (omega arith)
-
-  pub lf-here : i < length s → getD s i 0 ≡ 10 → lfFrom s i ≡ i
-  unfolding run
-  lf-here h e = rw (drop-cons s i 0 h, eq-eqb (getD s i 0) 10 e) (omega arith)
-
-  pub lf-end : length s ≤ i → lfFrom s i ≡ i
-  unfolding run
-  lf-end h = rw (drop-of-length-le s h) (omega arith)
 
 -- ---- bytes before the first LF
 

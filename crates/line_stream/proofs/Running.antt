@@ -18,9 +18,11 @@ use Rattle.line_stream.specs.declared.Fed.{Fed}
 use Rattle.line_stream.specs.Stream.{maxLineNumber, State, lineState, hasRoom, lineAnswer, byteRead, after, lastLine, outputOf}
 use Rattle.line_stream.specs.Stream.{answerFits, takenOf, Feeds}
 use Rattle.line_stream.specs.Runs.{Runs, last, part}
+use Rattle.line_stream.specs.Ended.{endedLines}
 use Rattle.line_stream.proofs.Room.{room-counted, room-within}
 use Rattle.line_stream.proofs.States.{after-append}
 use Rattle.line_stream.proofs.Feeds.{taken-is, same-line, stands}
+use Rattle.line_stream.proofs.Ended.{ended-few}
 use Rattle.line_stream.proofs.Output.{whole-output}
 
 module _ (answer : List ℕ → List ℕ) where
@@ -47,7 +49,7 @@ module _ (answer : List ℕ → List ℕ) where
 
   -- ---- what a run writes from anywhere on
 
-  abbrev comes : List ℕ → List ℕ → Begun → List ℕ
+  abbrev pub comes : List ℕ → List ℕ → Begun → List ℕ
   comes input line b = outputOf answer (after answer (length line) (lineState b line []) input)
 
   last-comes : (line : List ℕ) (b : Begun) {out out' : List ℕ} {n : ℕ} → Puts out 0 (lastLine answer (b .number) (take (b .len) line)) out' n
@@ -56,7 +58,7 @@ module _ (answer : List ℕ → List ℕ) where
   last-comes line b {out = out} {out' = out'} {n = n} p t =
       placed-whole out 0 p (room-counted n (length out') t) (subst (λ (k : ℕ). n ≤ k) (same-length p) (room-within n (length out') t))
 
-  part-comes : (block rest : List ℕ) {line out line' out' : List ℕ} {b : Begun} {r : Fed} → Feeds answer block line out b line' out' r
+  pub part-comes : (block rest : List ℕ) {line out line' out' : List ℕ} {b : Begun} {r : Fed} → Feeds answer block line out b line' out' r
       → take (r .put) out' ++ comes (drop (r .taken) block ++ rest) line' (r .begun) ≡ comes (block ++ rest) line b
   part-comes block rest {line = line} {line' = line'} {out' = out'} {b = b} {r = r} f =
       let w = take (r .put) out' in
@@ -78,10 +80,16 @@ module _ (answer : List ℕ → List ℕ) where
 
   -- ---- from the start on it is the program's output
 
+  -- as long as 64 bits hold the number of each line
+  pub runs-lines : (most : ℕ) → ((m : ℕ) (s : List ℕ) → most < m → answer (take m s) ≡ answer s)
+      → {input line w : List ℕ} → most < length line → length (endedLines [] input) + 1 < 2 ^ 64
+      → Runs answer input line (record { number = 1; len = 0 }) w → w ≡ outputOver answer input
+  runs-lines most kept {input = input} {line = line} roomy few u = runs-on u ∙ sym (whole-output answer most (length line) kept roomy input few)
+
   pub runs-output : (most : ℕ) → ((m : ℕ) (s : List ℕ) → most < m → answer (take m s) ≡ answer s)
       → {input line w : List ℕ} → most < length line → length input + 1 < 2 ^ 64
       → Runs answer input line (record { number = 1; len = 0 }) w → w ≡ outputOver answer input
-  runs-output most kept {input = input} {line = line} roomy few u = runs-on u ∙ sym (whole-output answer most (length line) kept roomy input few)
+  runs-output most kept {input = input} roomy few u = runs-lines most kept roomy (omega (arith, few, ended-few [] input)) u
 
   -- ---- each turn takes some of its input, where every answer has room
 

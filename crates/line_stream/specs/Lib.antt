@@ -3,3 +3,4 @@ pub mod Stream
 pub mod Whole
 pub mod Steps
 pub mod Runs
+pub mod Ended

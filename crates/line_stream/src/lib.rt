@@ -9,6 +9,7 @@ ghost use Rattle.definitions.specs.Canonical.{decimal};
 ghost use Rattle.line_stream.specs.Stream.{hasRoom, nextNumber};
 ghost use Rattle.line_stream.specs.Steps.{Keeps, Takes, Nexts, Lasts, lfFrom};
 ghost use Rattle.write_bytes.specs.Puts.{Puts};
+use scan_find::find_from;
 use write_bytes::COUNTED;
 use write_bytes::limits::at_most;
 use write_bytes::put;
@@ -60,24 +61,17 @@ fn has_room(place: usize, len: usize) -> bool
 }
 
 // The number of the next line; the largest stays.
-fn next_number(n: u64) -> u64
+pub fn next_number(n: u64) -> u64
     ensures { λ r. ⌜ r ≡ nextNumber n ⌝ }
 {
     if n < MAX_NUMBER { n + 1 } else { n }
 }
 
 // The place of the first LF from a place on, or the end.
-fn lf_from(input: &[u8], from: usize) -> usize
+pub fn lf_from(input: &[u8], from: usize) -> usize
     ensures { λ r. ⌜ r ≡ lfFrom (now (input .entry)) from ⌝ }
 {
-    let mut i = from;
-    while i < input.len() {
-        if input[i] == b'\n' {
-            return i;
-        }
-        i += 1;
-    }
-    i
+    find_from(input, from, b'\n')
 }
 
 // The bytes of a part after the first ones of a line; what the buffer has no room for is not kept. The answer is how many are kept then.

@@ -1,6 +1,8 @@
+-- Each answer is a law of the form: `-`, no byte, another byte, or an even count of digits.
 use mathlib.Core.Path.{sym, _∙_}
-use Rattle.line_numbers.proofs.HexForm.{hex-none, hex-empty, hex-other, hex-even}
 use borrow.Author.Needs.{needs}
+use borrow.Author.Tests.{not-true, not-false}
+use Rattle.line_numbers.proofs.HexForm.{hex-none, hex-empty, hex-other, hex-even}
 use Rattle.line_numbers.proofs.hex_pairs.is_hex_pairs.Statement.{statement}
 use Rattle.line_numbers.proofs.hex_pairs.is_hex_pairs.Tie as tie
 
@@ -16,18 +18,20 @@ returns c = hex-none _ (sym (c .before .is-word .ensures) ∙ c .if1 .taken)
 returns-2 : tie.Need-returns-2
 returns-2 c = hex-empty _ (c .if2 .taken)
 
-run-of-requires : tie.Need-run-of-requires
-run-of-requires c κs = search needs
+all-hex-requires : tie.Need-all-hex-requires
+all-hex-requires c κs = search needs
 
 returns-3 : tie.Need-returns-3
 returns-3 c =
     let first = c .before .before .before in
-    hex-other _ _ (sym (first .before .is-word .ensures) ∙ first .if1 .left) (c .before .run-of .ensures) (c .if3 .taken)
+    let word = sym (first .before .is-word .ensures) ∙ first .if1 .left in
+    hex-other _ word (sym (c .before .all-hex .ensures) ∙ not-true _ (c .if3 .taken))
 
 returns-4 : tie.Need-returns-4
 returns-4 c =
     let first = c .before .before .before in
-    hex-even _ _ (sym (first .before .is-word .ensures) ∙ first .if1 .left) (c .before .before .if2 .left) (c .before .run-of .ensures) (c .if3 .left)
+    let word = sym (first .before .is-word .ensures) ∙ first .if1 .left in
+    hex-even _ word (c .before .before .if2 .left) (sym (c .before .all-hex .ensures) ∙ not-false _ (c .if3 .left))
 
 pub is-hex-pairs-spec : {M : Type 1} → statement M
 is-hex-pairs-spec =
@@ -37,6 +41,6 @@ is-hex-pairs-spec =
     is-word-requires
     returns
     returns-2
-    run-of-requires
+    all-hex-requires
     returns-3
     returns-4)

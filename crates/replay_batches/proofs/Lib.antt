@@ -1,0 +1,4 @@
+-- Lines gathered, and their numbers.
+pub mod Gathering
+pub mod Numbering
+pub mod Deciding

@@ -1,0 +1,3 @@
+-- What the contracts of `replay_batches` cite beside the definitions.
+pub mod Numbers
+pub mod Batches

@@ -1,0 +1,4 @@
+-- Laws of a replay.
+pub mod Totals
+pub mod Books
+pub mod ReplayCases

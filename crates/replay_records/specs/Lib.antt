@@ -1,0 +1,2 @@
+-- What the contracts of `replay_records` cite beside the definitions.
+pub mod RecordBytes
