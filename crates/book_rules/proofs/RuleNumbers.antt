@@ -1,21 +1,20 @@
 -- A rule's number: a number of 16 bits whose first digit is not 0; and what the answer for it tells of the bytes.
 use mathlib.Core.Path.{_≡_, refl}
-use mathlib.Core.Bool.{true, false, not, false≢true, _&&_, and-false}
+use mathlib.Core.Bool.{true, false, not, false≢true, and-false}
 use mathlib.Core.List.{List, [], _∷_}
 use Prim.Native.Nat.{ℕ, _≤_}
 use native.Mathlib.Omega.{arith}
 use lib.ListN.{length, getD}
-use lib.Dec.{eqb, leb}
-use borrow.Author.Tests.{eq-eqb, ne-eqb, leb-true}
-use Rattle.forms.specs.Form.{has}
-use Rattle.forms.proofs.Bools.{by-cases, both-left, both-right}
+use lib.Dec.{eqb}
+use borrow.Author.Tests.{eq-eqb, ne-eqb}
+use Rattle.forms.proofs.Bools.{by-cases, both-left}
 use Rattle.definitions.specs.Limits.{maxWord}
-use Rattle.definitions.specs.Lists.{all?, none?}
-use Rattle.definitions.specs.Numbers.{decimalDigits, valueOf, isNumber}
+use Rattle.definitions.specs.Numbers.{valueOf, isNumber}
 use Rattle.definitions.specs.Books.{isRuleNumber}
 use Rattle.line_parts.proofs.Results.{failed-test, parsed-test, parsed-value}
 use Rattle.line_numbers.specs.declared.decimals.NumberResult.the-variants.{Parsed, Failed}
 use Rattle.line_numbers.specs.Decimals.{parsedNumber}
+use Rattle.line_numbers.proofs.Digits.{number-le}
 use Rattle.book_rules.specs.RuleLines.{parsedRuleNumber}
 
 -- ---- the code's three ways
@@ -42,13 +41,6 @@ apart v e = false≢true cc
 same : (v w : ℕ) → Parsed v ≡ Parsed w → v ≡ w
 same v w e = cc
 
-number-le : (s : List ℕ) → isNumber maxWord s ≡ true → valueOf 10 0 s ≤ maxWord
-unfolding isNumber
-number-le s t =
-    let few = leb (valueOf 10 0 s) maxWord in
-    let digits = all? (has decimalDigits) s in
-    leb-true (valueOf 10 0 s) maxWord (both-right digits few (both-right (not (none? s)) (digits && few) t))
-
 module _ (s : List ℕ) where
   pub failed-number : parsedRuleNumber s ≡ Failed → isRuleNumber s ≡ false
   unfolding parsedRuleNumber
@@ -67,4 +59,4 @@ module _ (s : List ℕ) where
     pub number-fits : v ≤ maxWord
     unfolding isRuleNumber
     number-fits =
-        omega (arith, number-value, number-le s (both-left (isNumber maxWord s) (not (eqb (getD s 0 0) 48)) parsed-number))
+        omega (arith, number-value, number-le maxWord s (both-left (isNumber maxWord s) (not (eqb (getD s 0 0) 48)) parsed-number))

@@ -1,6 +1,6 @@
 -- A decimal number up to a limit, digit by digit: it fails at a byte that is no digit, and where the digits so far pass the limit.
 use mathlib.Core.Path.{_≡_, refl, sym, ap, _∙_}
-use mathlib.Core.Bool.{true, false, and-false}
+use mathlib.Core.Bool.{true, false, not, _&&_, and-false}
 use mathlib.Core.List.{List, [], _∷_}
 use Prim.Native.Nat.{ℕ, suc, _+_, _-_, _*_, _≤_, _<_}
 use native.Mathlib.Omega.{arith}
@@ -109,3 +109,13 @@ kept-out limit s v i k h =
     let value : valueOf 10 0 s ≡ v = k .sum ∙ ap (λ (x : List ℕ). valueOf 10 v x) l in
     let digits : all? (has decimalDigits) s ≡ true = k .digits ∙ ap (λ (x : List ℕ). all? (has decimalDigits) x) l in
     rw (k .some, digits, value, le-leb v limit (k .small))
+
+-- ---- the whole
+
+-- a number up to a limit is no more than it
+pub number-le : (limit : ℕ) (l : List ℕ) → isNumber limit l ≡ true → valueOf 10 0 l ≤ limit
+unfolding isNumber
+number-le limit l t =
+    let few = leb (valueOf 10 0 l) limit in
+    let digits = all? (has decimalDigits) l in
+    leb-true (valueOf 10 0 l) limit (both-right digits few (both-right (not (none? l)) (digits && few) t))

@@ -1,8 +1,8 @@
 -- THE TOTALS IN THE LOOP of a feed: they have counted the lines that end in what was taken. The loop begins where the first line is taken already and none has
 -- ended; each turn ends one, and counts it, unless its answer has no room.
-use mathlib.Core.Path.{_≡_, refl, sym, ap, _∙_}
+use mathlib.Core.Path.{_≡_, sym, ap, _∙_}
 use mathlib.Core.Bool.{true, false}
-use mathlib.Core.List.{List, [], _∷_, _++_, map}
+use mathlib.Core.List.{List, [], _∷_, map, map-append}
 use Prim.Native.Nat.{ℕ, _+_, _≤_, _<_}
 use native.Mathlib.Omega.{arith}
 use lib.ListN.{length, take}
@@ -32,10 +32,6 @@ module _ (lim : Limits) (rs : List Rule) where
   -- the outcomes of the lines that end in the first i bytes of the trace, where s was read before
   abbrev outcomes : List ℕ → List ℕ → ℕ → List Outcome
   outcomes s input i = map (outcome lim rs) (endedLines s (take i input))
-
-  map-one : (ls : List (List ℕ)) (l : List ℕ) → map (outcome lim rs) (ls ++ (l ∷ [])) ≡ map (outcome lim rs) ls ++ (outcome lim rs l ∷ [])
-  map-one [] l = refl
-  map-one (x ∷ ls) l = ap (λ (os : List Outcome). outcome lim rs x ∷ os) (map-one ls l)
 
   -- from where the loop begins on
   pub record Counted (input line₁ out₁ : List ℕ) (t₁ : Feeding) (sum₁ : Totals) (t : Feeding) (sum : Totals) : Type 0 where
@@ -75,7 +71,7 @@ module _ (lim : Limits) (rs : List Rule) where
     counted-with sum =
         let i = t .fed .taken in
         ap (λ (ls : List (List ℕ)). countedAll sum (map (outcome lim rs) ls)) (ended-lf s input i (loop.loop-lf answer l k waits) (loop.loop-line answer l k waits .1))
-        ∙ ap (countedAll sum) (map-one (endedLines s (take i input)) (lineLeft s (take i input)))
+        ∙ ap (countedAll sum) (map-append (outcome lim rs) (endedLines s (take i input)) (lineLeft s (take i input) ∷ []))
         ∙ counted-one sum (outcomes s input i) (outcome lim rs (lineLeft s (take i input)))
         ∙ ap (counted (countedAll sum (outcomes s input i))) (sym waiting-outcome)
 

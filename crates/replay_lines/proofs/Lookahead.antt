@@ -8,7 +8,7 @@ use native.Mathlib.Omega.{arith}
 use native.Mathlib.Numerals.{add-one}
 use lib.ListN.{length, getD, take, drop}
 use lib.Seq.{drop-cons, take-nil, sets}
-use borrow.Author.Tests.{lt-leb, ltb-true}
+use borrow.Author.Tests.{ltb-true}
 use Rattle.forms.proofs.Bools.{by-cases}
 use Rattle.definitions.specs.Limits.{Limits}
 use Rattle.definitions.specs.Books.{Rule}
@@ -22,9 +22,10 @@ use Rattle.line_stream.proofs.Parts.{line-inside}
 use Rattle.line_stream.proofs.States.{begunLine, after-line}
 use Rattle.line_stream.proofs.Whole.{after-clipped}
 use Rattle.line_stream.proofs.Ended.{ended-next, left-begun, left-inside}
-use Rattle.replay_laws.specs.Traces.{maxTraceLine, isTraceLine}
+use Rattle.replay_laws.specs.Traces.{maxTraceLine}
 use Rattle.replay_laws.specs.Replays.{replayAnswer}
 use Rattle.replay_totals.specs.OutcomeNumbers.{badNumber, lineNumber}
+use Rattle.replay_records.proofs.Lines.{long-line}
 use Rattle.replay_batches.specs.Batches.{Decides}
 use Rattle.replay_lines.specs.declared.Ahead.{Ahead}
 use Rattle.replay_lines.specs.Feeding.{Ready}
@@ -39,8 +40,8 @@ module _ (lim : Limits) (rs : List Rule) where
   number = lineNumber lim rs
 
   long-number : (s : List ℕ) → maxTraceLine < length s → number s ≡ badNumber
-  unfolding lineNumber isTraceLine
-  long-number s h = rw (lt-leb (length s) maxTraceLine h)
+  unfolding lineNumber
+  long-number s h = rw (long-line s h)
 
   kept-number : (m : ℕ) (s : List ℕ) → maxTraceLine < m → number (take m s) ≡ number s
   kept-number = kept-beyond number maxTraceLine badNumber long-number

@@ -3,11 +3,10 @@
 use mathlib.Core.Path.{_≡_, sym, ap, subst, _∙_}
 use mathlib.Core.Bool.{true}
 use mathlib.Core.List.{List, [], _∷_}
-use Prim.Native.Nat.{ℕ, _+_, _-_, _≤_, _<_}
+use Prim.Native.Nat.{ℕ, _+_, _≤_, _<_}
 use native.Mathlib.Omega.{arith}
 use lib.Dec.{ltb}
-use lib.ListN.{length, getD, take, drop, length-drop}
-use lib.Seq.{take-all}
+use lib.ListN.{length, getD, take, drop}
 use borrow.Author.Tests.{lt-ltb, le-ltb}
 use Rattle.forms.specs.Bytes.{if_then_else_}
 use Rattle.forms.proofs.Bools.{by-cases}
@@ -33,10 +32,6 @@ use Rattle.replay_lines.specs.declared.Ahead.{Ahead}
 use Rattle.replay_lines.specs.Feeding.{Ready}
 use Rattle.replay_lines.proofs.Counting.{Counted, counted-begins, counted-goes}
 use Rattle.replay_lines.proofs.Lookahead.{waitingLines, first-number, ready-none, ready-goes}
-
--- a part of a slice up to its end is the rest of it
-pub slice-rest : (s : List ℕ) (a : ℕ) → take (length s - a) (drop a s) ≡ drop a s
-slice-rest s a = take-all (length s - a) (drop a s) (omega (arith, length-drop a s))
 
 nexts-length : {input line line' o out' : List ℕ} {fed : Fed} {r : Feeding} {j : ℕ} → Nexts input line line' o out' fed j r → length line' ≡ length line
 nexts-length n = by-cases (hasRoom (n .place) (length (n .ended))) (λ y. keeps-length (n .room y .keeps)) (λ f. ap length (n .full f .0))

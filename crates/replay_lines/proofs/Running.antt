@@ -2,7 +2,7 @@
 -- on, what is written is what every program that answers lines writes from there on, and the totals of all lines.
 use mathlib.Core.Path.{_≡_, refl, sym, ap, subst, _∙_}
 use mathlib.Core.Bool.{true, false, true≢false}
-use mathlib.Core.List.{List, [], _∷_, _++_, map, append-assoc}
+use mathlib.Core.List.{List, [], _∷_, _++_, map, map-append, append-assoc}
 use Prim.Native.Nat.{ℕ, zero, suc, _+_, _≤_, _<_, _^_}
 use native.Mathlib.Omega.{arith}
 use lib.ListN.{length, take, drop, take-append-drop, length-append, length-map}
@@ -54,10 +54,6 @@ module _ (rs : List Rule) where
   abbrev total : Totals → List (List ℕ) → List ℕ
   total t ls = totalText (countedAll t (outcomes ls))
 
-  outcomes-append : (ls ms : List (List ℕ)) → outcomes (ls ++ ms) ≡ outcomes ls ++ outcomes ms
-  outcomes-append [] ms = refl
-  outcomes-append (l ∷ ls) ms = ap (λ (os : List Outcome). outcome documentLimits rs l ∷ os) (outcomes-append ls ms)
-
   -- ---- the last line, as the whole line that is kept
 
   last-kept : (room : ℕ) → maxTraceLine < room → (s : List ℕ) → outcomes (lastLines (take room s)) ≡ outcomes (lastLines s)
@@ -108,7 +104,7 @@ module _ (rs : List Rule) where
           let ls = lineTexts (lineLeft s front) back in
           ap (λ (x : Totals). total x ls) (c .whole s h)
           ∙ ap totalText (sym (counted-append t (outcomes (endedLines s front)) (outcomes ls)))
-          ∙ ap (λ (os : List Outcome). totalText (countedAll t os)) (sym (outcomes-append (endedLines s front) ls))
+          ∙ ap (λ (os : List Outcome). totalText (countedAll t os)) (sym (map-append (outcome documentLimits rs) (endedLines s front) ls))
           ∙ ap (total t) (sym (texts-append s front back))
           ∙ ap (λ (l : List ℕ). total t (lineTexts s l)) whole
 

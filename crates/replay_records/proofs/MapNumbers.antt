@@ -4,20 +4,18 @@ use mathlib.Core.Bool.{true, not, _&&_}
 use mathlib.Core.List.{List, [], _∷_}
 use Prim.Native.Nat.{ℕ, _≤_}
 use native.Mathlib.Omega.{arith}
-use lib.Dec.{leb}
-use borrow.Author.Tests.{leb-true}
 use Rattle.forms.specs.Bytes.{text}
-use Rattle.forms.specs.Form.{has}
 use Rattle.forms.proofs.Bools.{by-cases, both-left, both-right}
 use Rattle.definitions.specs.declared.table.Context.{Context}
 use Rattle.definitions.specs.declared.table.Context.the-variants as context
 use Rattle.definitions.specs.declared.packets.FieldSpan.{FieldSpan}
 use Rattle.definitions.specs.declared.packets.FieldSpan.the-variants.{Absent, At}
 use Rattle.definitions.specs.declared.packets.FieldMap.{FieldMap}
-use Rattle.definitions.specs.Lists.{all?, none?, sameBytes}
-use Rattle.definitions.specs.Numbers.{decimalDigits, valueOf, isNumber}
+use Rattle.definitions.specs.Lists.{sameBytes}
+use Rattle.definitions.specs.Numbers.{isNumber}
 use Rattle.definitions.specs.Fields.{present}
 use Rattle.definitions.specs.Parts.{contains, parts}
+use Rattle.line_numbers.proofs.Digits.{number-le}
 use Rattle.line_fields.specs.FieldMaps.{maxSpan, fieldNamed, noFields, withField, startIn, lengthIn, isSpan, lineSpan, fieldNameIn, spanIn}
 use Rattle.line_fields.specs.FieldMaps.{isField, insertField, areFields, mapFrom, isMap, mapOf}
 
@@ -47,20 +45,13 @@ pub record MapSmall (m : FieldMap) : Type 0 where
 absent-small : SpanSmall Absent
 absent-small = record { start = omega arith; len = omega arith }
 
-number-le : (l : List ℕ) → isNumber maxSpan l ≡ true → valueOf 10 0 l ≤ maxSpan
-unfolding isNumber
-number-le l t =
-    let few = leb (valueOf 10 0 l) maxSpan in
-    let digits = all? (has decimalDigits) l in
-    leb-true (valueOf 10 0 l) maxSpan (both-right digits few (both-right (not (none? l)) (digits && few) t))
-
 span-small : (s : List ℕ) → isSpan s ≡ true → SpanSmall (At (lineSpan s))
 unfolding isSpan lineSpan
 span-small s t =
     let first = isNumber maxSpan (startIn s) in
     let second = isNumber maxSpan (lengthIn s) in
     let both : (first && second) ≡ true = both-right (contains 43 s) (first && second) t in
-    record { start = number-le (startIn s) (both-left first second both); len = number-le (lengthIn s) (both-right first second both) }
+    record { start = number-le maxSpan (startIn s) (both-left first second both); len = number-le maxSpan (lengthIn s) (both-right first second both) }
 
 -- ---- a field more
 

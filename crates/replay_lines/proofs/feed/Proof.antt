@@ -2,6 +2,7 @@
 use mathlib.Core.Path.{_∙_}
 use Prim.Native.Nat.{_+_}
 use native.Mathlib.Omega.{arith}
+use borrow.Rule.Slice.PartAt.{part-to-end}
 use Rattle.definitions.specs.LoadedBooks.{rulesIn}
 use Rattle.line_stream.specs.Steps.{linesLeft}
 use Rattle.line_stream.proofs.Loop as loop
@@ -9,7 +10,7 @@ use Rattle.line_stream.proofs.Feeds.{same-out}
 use Rattle.line_stream.proofs.Keeping.{keeps-length}
 use Rattle.replay_lines.proofs.NarrowRules.{typed-narrow}
 use Rattle.replay_lines.proofs.Counting.{counted-ends}
-use Rattle.replay_lines.proofs.Replaying.{Replaying, replaying-begins, replaying-goes, slice-rest}
+use Rattle.replay_lines.proofs.Replaying.{Replaying, replaying-begins, replaying-goes}
 use Rattle.replay_lines.proofs.Whole.{feed-whole}
 use Rattle.replay_lines.proofs.feed.Statement.{statement}
 use Rattle.replay_lines.proofs.feed.Tie as tie
@@ -59,7 +60,7 @@ look-ahead-requires c κs =
     let test = c .before .before .before .before .before .before .before .before .before in
     let x = test .before .before .before .before .before .before .before .before .before .before .args in
     let after = test .before .loop .t .fed .taken + 1 in
-    rw (c .before .before .before .before .kept .ensures, slice-rest (x .input .now) after) (test .before .loop .inv .ready (test .loop-test .taken))
+    rw (c .before .before .before .before .kept .ensures, part-to-end (x .input .now) after) (test .before .loop .inv .ready (test .loop-test .taken))
 
 number-at-requires : tie.Need-number-at-requires Inv-loop μ-loop
 number-at-requires c κs =
@@ -86,7 +87,8 @@ add-t30 c =
 loop-less : tie.Need-loop-less Inv-loop μ-loop
 loop-less c =
     let next = c .before .before .before .before .before in
-    let test = next .before .before .before .before .before .before .before .before .before .before .before .before .before .before .before .before .before .before .before in
+    let ready = next .before .before .before .before .before .before .before .before .before in
+    let test = ready .before .before .before .before .before .before .before .before .before .before in
     loop.loop-less _ (test .before .loop .inv .lines) (test .loop-test .taken) (next .next-line .ensures)
 
 loop-again : tie.Need-loop-again Inv-loop μ-loop
@@ -100,7 +102,7 @@ loop-again c =
     let start = test .before .before .before .before .before .before .before .before .before .before in
     let x = start .args in
     replaying-goes _ (typed-narrow _ _ _ (start .good .1 .0)) (test .before .loop .inv) (test .loop-test .taken) (kept .kept .ensures)
-    (slice-rest (x .input .now) (test .before .loop .t .fed .taken + 1)) (ready .look-ahead .ensures .0) (ready .look-ahead .ensures .1)
+    (part-to-end (x .input .now) (test .before .loop .t .fed .taken + 1)) (ready .look-ahead .ensures .0) (ready .look-ahead .ensures .1)
     (number .number-at .ensures .0) (put .put-outcome .ensures) (next .next-line .ensures) (c .count-if .ensures)
 
 returns : tie.Need-returns Inv-loop μ-loop
