@@ -1,13 +1,13 @@
 // The answers of a block as bytes, put into a lent buffer.
 ghost use Rattle.std.specs.Prelude.{take};
 ghost use Rattle.write_bytes.specs.Puts.{Puts};
-ghost use Rattle.block_answers.specs.AnswerBytes.{answerBytes};
+ghost use Rattle.block_answers.specs.AnswerBytes.{answer_bytes};
 
 use write_bytes::put;
 
 // Three bytes for each of the first n numbers, or of all if there are fewer.
 pub fn put_answers(out: &mut [u8], at: usize, numbers: &[u32], n: usize) -> usize
-    ensures { Puts out.old at (answerBytes (take n numbers.now)) out.new result }
+    ensures { Puts out.old at (answer_bytes (take n numbers.now)) out.new result }
 {
     let mut next = at;
     let mut i = 0;

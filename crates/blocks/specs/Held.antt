@@ -4,6 +4,6 @@ use Rattle.blocks.specs.declared.Input.{Input}
 use Rattle.blocks.specs.declared.Input.TheVariants.{Held, Over}
 
 -- no more bytes than the block has
-abbrev pub heldWithin : ℕ → Input → Type 0
-heldWithin most (Held n) = n ≤ most
-heldWithin most Over = Unit
+abbrev pub HeldWithin : ℕ → Input → Type 0
+HeldWithin most (Held n) = n ≤ most
+HeldWithin most Over = Unit

@@ -2,7 +2,7 @@
 // (docs/vectors/README.md has both forms). A block of them is decided at a time. For a refused book its refusal is written, as the program `book` does, and
 // nothing is read; for a file that can't be read nothing is written.
 ghost use Rattle.std.specs.Prelude.{◌≤◌, length};
-ghost use Rattle.blocks.specs.Held.{heldWithin};
+ghost use Rattle.blocks.specs.Held.{HeldWithin};
 
 use block_answers::put_answers;
 use book_answers::answer_book;
@@ -52,7 +52,7 @@ fn write_answers(answers: &[u32; MOST], packets: usize) -> bool {
 // Fills the block after the bytes that it holds. Where nothing more comes the input has ended.
 fn fill(block: &mut [u8], held: usize) -> Input
     requires { held ≤ length block.old }
-    ensures { heldWithin (length block.old) result }
+    ensures { HeldWithin (length block.old) result }
 {
     let read = read_all(STDIN_FILENO, &mut block[held..]);
     match read {
@@ -92,7 +92,7 @@ fn decide(
     end: usize,
 ) -> Input
     requires { end ≤ length block.old }
-    ensures { heldWithin (length block.old) result }
+    ensures { HeldWithin (length block.old) result }
 {
     let answered = decide_block(book, rules, &block[0..end], answers);
     if answered.packets == 0 {
@@ -113,7 +113,7 @@ fn turn(
     held: usize,
 ) -> Input
     requires { held ≤ 1048576 }
-    ensures { heldWithin 1048576 result }
+    ensures { HeldWithin 1048576 result }
 {
     let Input::Held(end) = fill(block, held) else {
         return Input::Over;

@@ -5,12 +5,12 @@ use Rattle.definitions.specs.declared.books.Judgement.{Judgement}
 use Rattle.definitions.specs.declared.books.Judgement.TheVariants.{Accepted, Refused}
 use Rattle.definitions.specs.Limits.{Limits}
 use Rattle.definitions.specs.Canonical.{decimal}
-use Rattle.definitions.specs.Lines.{refusedLine}
+use Rattle.definitions.specs.Lines.{refused_line}
 use Rattle.definitions.specs.Books.{judge}
 
-unfoldable pub judgementText : Judgement → List ℕ
-judgementText (Accepted n) = text "ok\t" ++ decimal n
-judgementText (Refused r line) = refusedLine r line
+unfoldable pub judgement_text : Judgement → List ℕ
+judgement_text (Accepted n) = text "ok\t" ++ decimal n
+judgement_text (Refused r line) = refused_line r line
 
-unfoldable pub bookOutput : Limits → List ℕ → List ℕ
-bookOutput lim book = judgementText (judge lim book) ++ text "\n"
+unfoldable pub book_output : Limits → List ℕ → List ℕ
+book_output lim book = judgement_text (judge lim book) ++ text "\n"

@@ -1,7 +1,7 @@
 // What the program `book` writes, put into a lent buffer.
-ghost use Rattle.definitions.specs.Limits.{documentLimits};
+ghost use Rattle.definitions.specs.Limits.{document_limits};
 ghost use Rattle.write_bytes.specs.Puts.{Puts};
-ghost use Rattle.book_answers.specs.BookAnswers.{judgementText, bookOutput};
+ghost use Rattle.book_answers.specs.BookAnswers.{judgement_text, book_output};
 
 use definitions::books::Judgement;
 use line_refusals::put_refused;
@@ -10,7 +10,7 @@ use write_bytes::{put, put_decimal, put_word};
 
 // `ok`, tab and the number of rules; or the refusal, tab and the line.
 fn put_judgement(out: &mut [u8], at: usize, j: Judgement) -> usize
-    ensures { Puts out.old at (judgementText j) out.new result }
+    ensures { Puts out.old at (judgement_text j) out.new result }
 {
     match j {
         Judgement::Accepted(n) => {
@@ -23,7 +23,7 @@ fn put_judgement(out: &mut [u8], at: usize, j: Judgement) -> usize
 
 // THE ANSWER to a book, with its LF.
 pub fn answer_book(out: &mut [u8], at: usize, book: &[u8]) -> usize
-    ensures { Puts out.old at (bookOutput documentLimits book.now) out.new result }
+    ensures { Puts out.old at (book_output document_limits book.now) out.new result }
 {
     let a1 = put_judgement(out, at, judge(book));
     put(out, a1, b'\n')

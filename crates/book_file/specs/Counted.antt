@@ -4,6 +4,6 @@ use Rattle.book_file.specs.declared.BookFile.{BookFile}
 use Rattle.book_file.specs.declared.BookFile.TheVariants.{Read, Unread}
 
 -- no more bytes than the room has
-abbrev pub countWithin : ℕ → BookFile → Type 0
-countWithin most (Read n) = n ≤ most
-countWithin most Unread = Unit
+abbrev pub CountWithin : ℕ → BookFile → Type 0
+CountWithin most (Read n) = n ≤ most
+CountWithin most Unread = Unit

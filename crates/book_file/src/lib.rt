@@ -1,6 +1,6 @@
 // The file that an argument of the program names, read into lent room.
 ghost use Rattle.std.specs.Prelude.{length};
-ghost use Rattle.book_file.specs.Counted.{countWithin};
+ghost use Rattle.book_file.specs.Counted.{CountWithin};
 
 // Bytes that are read at most: one more than a book may have, so that a longer one is known to be longer.
 pub const ROOM: usize = 65537;
@@ -14,7 +14,7 @@ pub enum BookFile {
 
 // Reads until the room is full or the file ends. A read that fails is not the end of the file.
 pub fn read_all(fd: i32, room: &mut [u8]) -> BookFile
-    ensures { countWithin (length room.old) result }
+    ensures { CountWithin (length room.old) result }
 {
     let mut done = 0;
     while done < room.len() {
@@ -34,7 +34,7 @@ pub fn read_all(fd: i32, room: &mut [u8]) -> BookFile
 
 // Reads the file that an argument names, the first of them 1. Nothing says what is read, but the count is within the room.
 pub fn read_book(argument: usize, room: &mut [u8; ROOM]) -> BookFile
-    ensures { countWithin 65537 result }
+    ensures { CountWithin 65537 result }
 {
     let mut path = io::buffer();
     let length = os::arg(argument, &mut path);

@@ -6,23 +6,23 @@ use Prim.Native.Nat.{ℕ}
 use lib.ListN.{length, drop}
 use Rattle.definitions.specs.declared.books.Judgement.TheVariants.{Accepted}
 use Rattle.definitions.specs.Limits.{Limits}
-use Rattle.definitions.specs.Books.{Rule, rulesOf, judge}
+use Rattle.definitions.specs.Books.{Rule, rules_of, judge}
 use Rattle.definitions.specs.Decisions.{decision}
-use Rattle.definitions.specs.LoadedBooks.{rulesIn, loaded}
-use Rattle.definitions.specs.Blocks.{PacketRecord, recordsUpTo, decisionNumber, recordNumber, blockNumbers}
-use Rattle.book_laws.proofs.Loaded.{loaded-rules}
-use Rattle.book_laws.proofs.Deciding.{by-rules}
+use Rattle.definitions.specs.LoadedBooks.{rules_in, loaded}
+use Rattle.definitions.specs.Blocks.{PacketRecord, records_up_to, decision_number, record_number, block_numbers}
+use Rattle.book_laws.proofs.Loaded.{loaded_rules}
+use Rattle.book_laws.proofs.Deciding.{by_rules}
 
 -- the number of a book's decision on a record's packet
-abbrev pub decisionOn : Limits → List ℕ → PacketRecord → ℕ
-decisionOn lim book k = decisionNumber (decision lim k.packet k.decoded k.direction k.fields book)
+abbrev pub decision_on : Limits → List ℕ → PacketRecord → ℕ
+decision_on lim book k = decision_number (decision lim k.packet k.decoded k.direction k.fields book)
 
-pub block-decides : (lim : Limits) (book : List ℕ) (n : ℕ) → judge lim book ≡ Accepted n → (block out : List ℕ)
-    → blockNumbers lim (rulesIn book (loaded lim book).rules) block out
-    ≡ map (decisionOn lim book) (recordsUpTo (length out) block) ++ drop (length (recordsUpTo (length out) block)) out
-unfolding blockNumbers recordNumber
-block-decides lim book n accepted block out =
-    ap (λ (rs : List Rule). map (recordNumber lim rs) (recordsUpTo (length out) block) ++ drop (length (recordsUpTo (length out) block)) out)
-    (loaded-rules lim book n accepted)
-    ∙ ap (λ (f : PacketRecord → ℕ). map f (recordsUpTo (length out) block) ++ drop (length (recordsUpTo (length out) block)) out)
-    (fun_ext (λ k. ap decisionNumber (sym (by-rules lim k.packet k.decoded k.direction k.fields book n accepted))))
+pub block_decides : (lim : Limits) (book : List ℕ) (n : ℕ) → judge lim book ≡ Accepted n → (block out : List ℕ)
+    → block_numbers lim (rules_in book (loaded lim book).rules) block out
+    ≡ map (decision_on lim book) (records_up_to (length out) block) ++ drop (length (records_up_to (length out) block)) out
+unfolding block_numbers record_number
+block_decides lim book n accepted block out =
+    ap (λ (rs : List Rule). map (record_number lim rs) (records_up_to (length out) block) ++ drop (length (records_up_to (length out) block)) out)
+    (loaded_rules lim book n accepted)
+    ∙ ap (λ (f : PacketRecord → ℕ). map f (records_up_to (length out) block) ++ drop (length (records_up_to (length out) block)) out)
+    (fun_ext (λ k. ap decision_number (sym (by_rules lim k.packet k.decoded k.direction k.fields book n accepted))))

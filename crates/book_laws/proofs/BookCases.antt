@@ -3,17 +3,17 @@ use mathlib.Core.Path.{◌≡◌, refl}
 use mathlib.Core.Bool.{true}
 use Rattle.definitions.specs.Lists.{all?}
 use Rattle.definitions.specs.NumberCases.{agrees}
-use Rattle.definitions.specs.BookCases.{bookTexts, bookDecisions, blockDecisions}
+use Rattle.definitions.specs.BookCases.{book_texts, book_decisions, block_decisions}
 use Rattle.definitions.specs.Computing.{computing}
 
-pub book-texts : all? agrees bookTexts ≡ true
+pub book_texts_lem : all? agrees book_texts ≡ true
 unfolding computing
-book-texts = refl
+book_texts_lem = refl
 
-pub book-decisions : all? agrees bookDecisions ≡ true
+pub book_decisions_lem : all? agrees book_decisions ≡ true
 unfolding computing
-book-decisions = refl
+book_decisions_lem = refl
 
-pub block-decisions : all? agrees blockDecisions ≡ true
+pub block_decisions_lem : all? agrees block_decisions ≡ true
 unfolding computing
-block-decisions = refl
+block_decisions_lem = refl

@@ -1,5 +1,5 @@
 -- WHAT A DECISION DEPENDS ON beside book, direction and map: the lent lengths, the packet's first four bytes, its datagram and the present fields
--- (`decision-depends`). A rule on a field that is missing never decides (`missing-never`), whatever packet and decoded buffer hold. The user's first question, for a
+-- (`decision_depends`). A rule on a field that is missing never decides (`missing_never`), whatever packet and decoded buffer hold. The user's first question, for a
 -- whole book. Document 02, T-03.
 use mathlib.Core.Path.{◌≡◌, refl, ap, ◌∙◌}
 use mathlib.Core.Bool.{Bool, true, false, ◌&&◌, false≢true, and-false}
@@ -18,40 +18,40 @@ use Rattle.definitions.specs.Limits.{Limits}
 use Rattle.definitions.specs.Reading.{read}
 use Rattle.definitions.specs.Items.{slots_of}
 use Rattle.definitions.specs.Fields.{present}
-use Rattle.definitions.specs.Answers.{verdictAnswer}
-use Rattle.definitions.specs.Books.{Rule, rulesOf, judge}
-use Rattle.definitions.specs.Decisions.{isOn, isMet, decides, decided, decidedIf, decision}
-use Rattle.laws.proofs.Depends.{Alike, verdict-depends}
-use Rattle.laws.proofs.Absent.{fields_of, absent-verdict}
+use Rattle.definitions.specs.Answers.{verdict_answer}
+use Rattle.definitions.specs.Books.{Rule, rules_of, judge}
+use Rattle.definitions.specs.Decisions.{is_on, is_met, decides, decided, decided_if, decision}
+use Rattle.laws.proofs.Depends.{Alike, verdict_depends}
+use Rattle.laws.proofs.Absent.{fields_of, absent_verdict}
 
 module _ (lim : Limits) (p p' decoded decoded' : List ℕ) (dir : Direction) (m : FieldMap) (h : Alike p p' decoded decoded' m) where
-  decides-same : (r : Rule) → decides lim p decoded dir m r ≡ decides lim p' decoded' dir m r
+  decides_same : (r : Rule) → decides lim p decoded dir m r ≡ decides lim p' decoded' dir m r
   unfolding decides
-  decides-same r =
-      ap (λ (v : Verdict). isOn r.state && isMet v) (verdict-depends p p' decoded decoded' m h (read lim r.source).table dir)
+  decides_same r =
+      ap (λ (v : Verdict). is_on r.state && is_met v) (verdict_depends p p' decoded decoded' m h (read lim r.source).table dir)
 
-  decided-same : (rs : List Rule) → decided lim p decoded dir m rs ≡ decided lim p' decoded' dir m rs
+  decided_same : (rs : List Rule) → decided lim p decoded dir m rs ≡ decided lim p' decoded' dir m rs
   unfolding decided
-  decided-same [] = refl
-  decided-same (r ∷ rs) = rw (decides-same r, decided-same rs)
+  decided_same [] = refl
+  decided_same (r ∷ rs) = rw (decides_same r, decided_same rs)
 
-  pub decision-depends : (book : List ℕ) → decision lim p decoded dir m book ≡ decision lim p' decoded' dir m book
+  pub decision_depends : (book : List ℕ) → decision lim p decoded dir m book ≡ decision lim p' decoded' dir m book
   unfolding decision
-  decision-depends book = go (judge lim book)
+  decision_depends book = go (judge lim book)
     where
-      go : (j : Judgement) → decidedIf lim p decoded dir m j (rulesOf book) ≡ decidedIf lim p' decoded' dir m j (rulesOf book)
-      go (judgement.Accepted n) = decided-same (rulesOf book)
+      go : (j : Judgement) → decided_if lim p decoded dir m j (rules_of book) ≡ decided_if lim p' decoded' dir m j (rules_of book)
+      go (judgement.Accepted n) = decided_same (rules_of book)
       go (judgement.Refused r line) = refl
 
 -- a pattern, negated or not, or a data_size on an absent field
-pub missing-never : (lim : Limits) (r : Rule) (sl : Slot) (c : Context) → Mem sl (slots_of (read lim r.source).table) → Mem c (fields_of sl.item)
+pub missing_never : (lim : Limits) (r : Rule) (sl : Slot) (c : Context) → Mem sl (slots_of (read lim r.source).table) → Mem c (fields_of sl.item)
     → (m : FieldMap) → present m c ≡ false → (p decoded : List ℕ) (dir : Direction) → decides lim p decoded dir m r ≡ false
 unfolding decides
-missing-never lim r sl c used looks m absent p decoded dir =
-    rw (unmet (verdictAnswer (read lim r.source).table p decoded dir m)
-    (absent-verdict (read lim r.source).table sl c used looks m absent p decoded dir)) (and-false (isOn r.state))
+missing_never lim r sl c used looks m absent p decoded dir =
+    rw (unmet (verdict_answer (read lim r.source).table p decoded dir m)
+    (absent_verdict (read lim r.source).table sl c used looks m absent p decoded dir)) (and-false (is_on r.state))
   where
-    unmet : (v : Verdict) → (v ≡ verdict.Met → ⊥) → isMet v ≡ false
+    unmet : (v : Verdict) → (v ≡ verdict.Met → ⊥) → is_met v ≡ false
     unmet verdict.Met f = absurd (f refl)
     unmet verdict.NotMet f = refl
     unmet (verdict.Refused c) f = refl

@@ -1,5 +1,5 @@
--- WHAT A LOADED BOOK SAYS IS WHAT THE BOOK SAYS: the rules of an accepted book are those of its lines (`loaded-rules`), and a refused one has none
--- (`refused-rules`). Each text is found again where its line stands, since the lines one after the other are the book.
+-- WHAT A LOADED BOOK SAYS IS WHAT THE BOOK SAYS: the rules of an accepted book are those of its lines (`loaded_rules`), and a refused one has none
+-- (`refused_rules`). Each text is found again where its line stands, since the lines one after the other are the book.
 use mathlib.Core.Path.{◌≡◌, refl, sym, ap, ◌∙◌}
 use mathlib.Core.List.{List, [], ◌∷◌, ◌++◌, map, append_assoc}
 use Prim.Native.Nat.{ℕ, ◌+◌, ◌-◌, ◌≤◌}
@@ -10,57 +10,57 @@ use Rattle.definitions.specs.declared.answers.Refusal.{Refusal}
 use Rattle.definitions.specs.declared.books.Judgement.{Judgement}
 use Rattle.definitions.specs.declared.books.Judgement.TheVariants.{Accepted, Refused}
 use Rattle.definitions.specs.declared.books.LoadedRule.{LoadedRule}
-use Rattle.definitions.specs.Limits.{Limits, maxRules}
-use Rattle.definitions.specs.Books.{Rule, bookLines, ruleSource, ruleOf, rulesOf, judge}
-use Rattle.definitions.specs.LoadedBooks.{ruleAt, rulesIn, sourceStart, loaded_at, loadedFrom, unusedRule, rulesWith, loadedIf, loaded}
-use Rattle.book_laws.proofs.Lines.{joined, lines-joined}
-use Rattle.book_laws.proofs.Sources.{start-within, source-within, source-at}
+use Rattle.definitions.specs.Limits.{Limits, max_rules}
+use Rattle.definitions.specs.Books.{Rule, book_lines, rule_source, rule_of, rules_of, judge}
+use Rattle.definitions.specs.LoadedBooks.{rule_at, rules_in, source_start, loaded_at, loaded_from, unused_rule, rules_with, loaded_if, loaded}
+use Rattle.book_laws.proofs.Lines.{joined, lines_joined}
+use Rattle.book_laws.proofs.Sources.{start_within, source_within, source_at}
 
 -- a line after some bytes of the book, and before others: its text is found by its place
-text-found : (before l after : List ℕ) → take (length (ruleSource l)) (drop (length before + sourceStart l) (before ++ (l ++ after))) ≡ ruleSource l
-text-found before l after =
-    let d : drop (length before + sourceStart l) (before ++ (l ++ after)) ≡ drop (sourceStart l) l ++ after =
-    drop-append-add before (l ++ after) (sourceStart l) ∙ drop-append-le (sourceStart l) l after (start-within l) in
-    let n : length (ruleSource l) ≤ length (drop (sourceStart l) l) = omega (arith, length-drop (sourceStart l) l, source-within l, start-within l) in
-    ap (take (length (ruleSource l))) d ∙ take-append-le (length (ruleSource l)) (drop (sourceStart l) l) after n ∙ source-at l
+text_found : (before l after : List ℕ) → take (length (rule_source l)) (drop (length before + source_start l) (before ++ (l ++ after))) ≡ rule_source l
+text_found before l after =
+    let d : drop (length before + source_start l) (before ++ (l ++ after)) ≡ drop (source_start l) l ++ after =
+    drop-append-add before (l ++ after) (source_start l) ∙ drop-append-le (source_start l) l after (start_within l) in
+    let n : length (rule_source l) ≤ length (drop (source_start l) l) = omega (arith, length-drop (source_start l) l, source_within l, start_within l) in
+    ap (take (length (rule_source l))) d ∙ take-append-le (length (rule_source l)) (drop (source_start l) l) after n ∙ source_at l
 
-rule_found : (before l after : List ℕ) → ruleAt (before ++ (l ++ after)) (loaded_at (length before) l) ≡ ruleOf l
-unfolding ruleAt loaded_at ruleOf
-rule_found before l after = rw (text-found before l after)
+rule_found : (before l after : List ℕ) → rule_at (before ++ (l ++ after)) (loaded_at (length before) l) ≡ rule_of l
+unfolding rule_at loaded_at rule_of
+rule_found before l after = rw (text_found before l after)
 
 -- lines after some bytes of the book
-rules-found : (before : List ℕ) (ls : List (List ℕ)) → map (ruleAt (before ++ joined ls)) (loadedFrom (length before) ls) ≡ map ruleOf ls
-unfolding joined loadedFrom
-rules-found before [] = refl
-rules-found before (l ∷ ls) =
+rules_found : (before : List ℕ) (ls : List (List ℕ)) → map (rule_at (before ++ joined ls)) (loaded_from (length before) ls) ≡ map rule_of ls
+unfolding joined loaded_from
+rules_found before [] = refl
+rules_found before (l ∷ ls) =
     let e : before ++ (l ++ joined ls) ≡ (before ++ l) ++ joined ls = sym (append_assoc before l (joined ls)) in
     let n : length before + length l ≡ length (before ++ l) = sym (length-append before l) in
-    let rest : map (ruleAt (before ++ (l ++ joined ls))) (loadedFrom (length before + length l) ls) ≡ map ruleOf ls =
-    rw (e, n) (rules-found (before ++ l) ls) in
+    let rest : map (rule_at (before ++ (l ++ joined ls))) (loaded_from (length before + length l) ls) ≡ map rule_of ls =
+    rw (e, n) (rules_found (before ++ l) ls) in
     rw (rule_found before l (joined ls), rest)
 
 -- of an array with room after the rules
-in_use : (book : List ℕ) (rs : List LoadedRule) → rulesIn book (rulesWith rs) ≡ map (ruleAt book) rs
-unfolding rulesIn
-in_use book rs = ap (map (ruleAt book)) (take-append_seam rs (replicate (maxRules - length rs) unusedRule))
+in_use : (book : List ℕ) (rs : List LoadedRule) → rules_in book (rules_with rs) ≡ map (rule_at book) rs
+unfolding rules_in
+in_use book rs = ap (map (rule_at book)) (take-append_seam rs (replicate (max_rules - length rs) unused_rule))
 
 module _ (lim : Limits) (book : List ℕ) where
-  pub loaded-rules : (n : ℕ) → judge lim book ≡ Accepted n → rulesIn book (loaded lim book).rules ≡ rulesOf book
-  unfolding loaded rulesOf
-  loaded-rules n e =
-      rw e (in_use book (loadedFrom 0 (bookLines book))
-      ∙ ap (λ (s : List ℕ). map (ruleAt s) (loadedFrom 0 (bookLines book))) (sym (lines-joined book))
-      ∙ rules-found [] (bookLines book))
+  pub loaded_rules : (n : ℕ) → judge lim book ≡ Accepted n → rules_in book (loaded lim book).rules ≡ rules_of book
+  unfolding loaded rules_of
+  loaded_rules n e =
+      rw e (in_use book (loaded_from 0 (book_lines book))
+      ∙ ap (λ (s : List ℕ). map (rule_at s) (loaded_from 0 (book_lines book))) (sym (lines_joined book))
+      ∙ rules_found [] (book_lines book))
 
-  pub refused-rules : (r : Refusal) (line : ℕ) → judge lim book ≡ Refused r line → rulesIn book (loaded lim book).rules ≡ []
+  pub refused_rules : (r : Refusal) (line : ℕ) → judge lim book ≡ Refused r line → rules_in book (loaded lim book).rules ≡ []
   unfolding loaded
-  refused-rules r line e = rw e (in_use book [])
+  refused_rules r line e = rw e (in_use book [])
 
   -- the judgement is kept
-  pub loaded-judgement : (loaded lim book).judgement ≡ judge lim book
+  pub loaded_judgement : (loaded lim book).judgement ≡ judge lim book
   unfolding loaded
-  loaded-judgement = judgement-kept (judge lim book)
+  loaded_judgement = judgement-kept (judge lim book)
     where
-      judgement-kept : (j : Judgement) → (loadedIf j (loadedFrom 0 (bookLines book))).judgement ≡ j
+      judgement-kept : (j : Judgement) → (loaded_if j (loaded_from 0 (book_lines book))).judgement ≡ j
       judgement-kept (Accepted n) = refl
       judgement-kept (Refused r line) = refl

@@ -8,30 +8,30 @@ use lib.ListN.{length, get_or}
 use lib.Dec.{eqb}
 use borrow.Author.Tests.{eq-eqb, ne_eqb}
 use Rattle.forms.proofs.Bools.{by_cases, both_left}
-use Rattle.definitions.specs.Limits.{maxWord}
+use Rattle.definitions.specs.Limits.{max_word}
 use Rattle.definitions.specs.Numbers.{value_of, is_number}
-use Rattle.definitions.specs.Books.{isRuleNumber}
-use Rattle.line_parts.proofs.Results.{failed-test, parsed-test, parsed-value}
+use Rattle.definitions.specs.Books.{is_rule_number}
+use Rattle.line_parts.proofs.Results.{failed_test, parsed_test, parsed_value}
 use Rattle.line_numbers.specs.declared.decimals.NumberResult.TheVariants.{Parsed, Failed}
-use Rattle.line_numbers.specs.Decimals.{parsedNumber}
-use Rattle.line_numbers.proofs.Digits.{number-le}
-use Rattle.book_rules.specs.RuleLines.{parsedRuleNumber}
+use Rattle.line_numbers.specs.Decimals.{parsed_number}
+use Rattle.line_numbers.proofs.Digits.{number_le}
+use Rattle.book_rules.specs.RuleLines.{parsed_rule_number}
 
 -- ---- the code's three ways
 
-pub empty-number : (s : List ℕ) → length s ≡ 0 → Failed ≡ parsedRuleNumber s
-unfolding parsedRuleNumber isRuleNumber is_number
-empty-number [] e = refl
-empty-number (b ∷ s) e = absurd (omega (arith, e))
+pub empty_number : (s : List ℕ) → length s ≡ 0 → Failed ≡ parsed_rule_number s
+unfolding parsed_rule_number is_rule_number is_number
+empty_number [] e = refl
+empty_number (b ∷ s) e = absurd (omega (arith, e))
 
 module _ (s : List ℕ) where
-  pub zero_number : get_or s 0 0 ≡ 48 → Failed ≡ parsedRuleNumber s
-  unfolding parsedRuleNumber isRuleNumber
-  zero_number e = rw (eq-eqb (get_or s 0 0) 48 e, and-false (is_number maxWord s))
+  pub zero_number : get_or s 0 0 ≡ 48 → Failed ≡ parsed_rule_number s
+  unfolding parsed_rule_number is_rule_number
+  zero_number e = rw (eq-eqb (get_or s 0 0) 48 e, and-false (is_number max_word s))
 
-  pub other-number : (get_or s 0 0 ≡ 48 → ⊥) → parsedNumber maxWord s ≡ parsedRuleNumber s
-  unfolding parsedNumber parsedRuleNumber isRuleNumber
-  other-number n = rw (ne_eqb (get_or s 0 0) 48 n) (by_cases (is_number maxWord s) (λ t. rw t) (λ f. rw f))
+  pub other_number : (get_or s 0 0 ≡ 48 → ⊥) → parsed_number max_word s ≡ parsed_rule_number s
+  unfolding parsed_number parsed_rule_number is_rule_number
+  other_number n = rw (ne_eqb (get_or s 0 0) 48 n) (by_cases (is_number max_word s) (λ t. rw t) (λ f. rw f))
 
 -- ---- what the answer tells
 
@@ -42,21 +42,21 @@ same : (v w : ℕ) → Parsed v ≡ Parsed w → v ≡ w
 same v w e = cc
 
 module _ (s : List ℕ) where
-  pub failed-number : parsedRuleNumber s ≡ Failed → isRuleNumber s ≡ false
-  unfolding parsedRuleNumber
-  failed-number e = failed-test Parsed Failed apart (isRuleNumber s) (value_of 10 0 s) e
+  pub failed_number : parsed_rule_number s ≡ Failed → is_rule_number s ≡ false
+  unfolding parsed_rule_number
+  failed_number e = failed_test Parsed Failed apart (is_rule_number s) (value_of 10 0 s) e
 
-  module _ (v : ℕ) (e : parsedRuleNumber s ≡ Parsed v) where
-    pub parsed-number : isRuleNumber s ≡ true
-    unfolding parsedRuleNumber
-    parsed-number = parsed-test Parsed Failed apart (isRuleNumber s) (value_of 10 0 s) v e
+  module _ (v : ℕ) (e : parsed_rule_number s ≡ Parsed v) where
+    pub parsed_number_lem : is_rule_number s ≡ true
+    unfolding parsed_rule_number
+    parsed_number_lem = parsed_test Parsed Failed apart (is_rule_number s) (value_of 10 0 s) v e
 
-    pub number-value : value_of 10 0 s ≡ v
-    unfolding parsedRuleNumber
-    number-value = parsed-value Parsed Failed apart same (isRuleNumber s) (value_of 10 0 s) v e
+    pub number_value : value_of 10 0 s ≡ v
+    unfolding parsed_rule_number
+    number_value = parsed_value Parsed Failed apart same (is_rule_number s) (value_of 10 0 s) v e
 
     -- it fits 16 bits
-    pub number_fits : v ≤ maxWord
-    unfolding isRuleNumber
-    number_fits =
-        omega (arith, number-value, number-le maxWord s (both_left (is_number maxWord s) (not (eqb (get_or s 0 0) 48)) parsed-number))
+    pub number_fits_lem : v ≤ max_word
+    unfolding is_rule_number
+    number_fits_lem =
+        omega (arith, number_value, number_le max_word s (both_left (is_number max_word s) (not (eqb (get_or s 0 0) 48)) parsed_number_lem))

@@ -1,6 +1,6 @@
 // A line of a rule book: whether it has the form of a rule, and what it says.
 ghost use Rattle.std.specs.Prelude.{◌≡◌};
-ghost use Rattle.book_rules.specs.RuleLines.{parsedRuleNumber, parsedState, parsedAction, parsedRule};
+ghost use Rattle.book_rules.specs.RuleLines.{parsed_rule_number, parsed_state, parsed_action, parsed_rule};
 
 use definitions::books::{Action, LoadedRule, State};
 use definitions::limits::MAX_WORD;
@@ -30,7 +30,7 @@ pub enum RuleResult {
 
 // A rule's number: without leading zeros, and so never 0.
 fn parse_number(s: &[u8]) -> NumberResult
-    ensures { result ≡ parsedRuleNumber s.now }
+    ensures { result ≡ parsed_rule_number s.now }
 {
     if s.len() == 0 {
         return NumberResult::Failed;
@@ -43,7 +43,7 @@ fn parse_number(s: &[u8]) -> NumberResult
 
 // The state of its word.
 fn parse_state(s: &[u8]) -> StateResult
-    ensures { result ≡ parsedState s.now }
+    ensures { result ≡ parsed_state s.now }
 {
     if is_word(s, b"on") {
         return StateResult::Parsed(State::On);
@@ -56,7 +56,7 @@ fn parse_state(s: &[u8]) -> StateResult
 
 // The action of its word.
 fn parse_action(s: &[u8]) -> ActionResult
-    ensures { result ≡ parsedAction s.now }
+    ensures { result ≡ parsed_action s.now }
 {
     if is_word(s, b"pass") {
         return ActionResult::Parsed(Action::Pass);
@@ -69,7 +69,7 @@ fn parse_action(s: &[u8]) -> ActionResult
 
 // THE RULE OF A LINE, which is given with its LF: number, tab, state, tab, action, tab, text, LF.
 pub fn parse_rule(l: &[u8]) -> RuleResult
-    ensures { result ≡ parsedRule l.now }
+    ensures { result ≡ parsed_rule l.now }
 {
     let r1 = part_after(l, b'\t');
     let r2 = part_after(r1, b'\t');

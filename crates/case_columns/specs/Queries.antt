@@ -3,19 +3,19 @@ use Rattle.std.specs.Prelude.{ℕ, Bool, true, false, ◌&&◌, ◌||◌, List, 
 use Rattle.forms.specs.Bytes.{if◌then◌else◌, text}
 use Rattle.definitions.specs.declared.packets.Placement.{Placement}
 use Rattle.definitions.specs.declared.packets.Start.{Start}
-use Rattle.definitions.specs.Limits.{maxPatterns}
-use Rattle.definitions.specs.Lists.{all?, none?, sameBytes}
+use Rattle.definitions.specs.Limits.{max_patterns}
+use Rattle.definitions.specs.Lists.{all?, none?, same_bytes}
 use Rattle.definitions.specs.Numbers.{value_of, is_number}
 use Rattle.definitions.specs.Starts.{start_at}
-use Rattle.definitions.specs.Answers.{placementOf}
-use Rattle.definitions.specs.Parts.{contains, partBefore, partAfter, parts}
+use Rattle.definitions.specs.Answers.{placement_of}
+use Rattle.definitions.specs.Parts.{contains, part_before, part_after, parts}
 use Rattle.case_columns.specs.declared.Kind.{Kind}
 use Rattle.case_columns.specs.declared.Kind.TheVariants.{All, First, Next, Bad}
 use Rattle.case_columns.specs.declared.Queried.{Queried}
 
 -- the largest start
-abbrev pub maxStart : ℕ
-maxStart = 18446744073709551615
+abbrev pub max_start : ℕ
+max_start = 18446744073709551615
 
 pub data Query : Type 0 where
   all : Query
@@ -24,57 +24,57 @@ pub data Query : Type 0 where
 
 -- what stands between the first `(` and the first `)` after it
 abbrev pub inside : List ℕ → List ℕ
-inside l = partBefore 41 (partAfter 40 l)
+inside l = part_before 41 (part_after 40 l)
 
 -- `(` is the first byte and `)` the last
-unfoldable pub isEnclosed : List ℕ → Bool
-isEnclosed l = contains 40 l && (none? (partBefore 40 l) && (contains 41 (partAfter 40 l) && none? (partAfter 41 (partAfter 40 l))))
+unfoldable pub is_enclosed : List ℕ → Bool
+is_enclosed l = contains 40 l && (none? (part_before 40 l) && (contains 41 (part_after 40 l) && none? (part_after 41 (part_after 40 l))))
 
-unfoldable pub areStarts : List ℕ → Bool
-areStarts l = none? l || (all? (is_number maxStart) (parts 44 l) && leb (length (parts 44 l)) maxPatterns)
+unfoldable pub are_starts : List ℕ → Bool
+are_starts l = none? l || (all? (is_number max_start) (parts 44 l) && leb (length (parts 44 l)) max_patterns)
 
 -- the start that digits name
 abbrev pub start_of : List ℕ → Start
 start_of l = start_at (value_of 10 0 l)
 
-unfoldable pub startsIn : List ℕ → List Start
-startsIn l = if none? l then [] else map start_of (parts 44 l)
+unfoldable pub starts_in : List ℕ → List Start
+starts_in l = if none? l then [] else map start_of (parts 44 l)
 
-unfoldable pub isQuery : List ℕ → Bool
-isQuery l = sameBytes l (text "all") || (sameBytes l (text "first") || (isEnclosed l && areStarts (inside l)))
+unfoldable pub is_query : List ℕ → Bool
+is_query l = same_bytes l (text "all") || (same_bytes l (text "first") || (is_enclosed l && are_starts (inside l)))
 
-unfoldable pub queryOf : List ℕ → Query
-queryOf l = if sameBytes l (text "all") then all else if sameBytes l (text "first") then first else next (placementOf (startsIn (inside l)))
+unfoldable pub query_of : List ℕ → Query
+query_of l = if same_bytes l (text "all") then all else if same_bytes l (text "first") then first else next (placement_of (starts_in (inside l)))
 
 -- ---- the code's kinds of query: whether it is one; and the query, with the placement beside it
 
-abbrev pub isKind : Kind → Bool
-isKind All = true
-isKind First = true
-isKind Next = true
-isKind Bad = false
+abbrev pub is_kind : Kind → Bool
+is_kind All = true
+is_kind First = true
+is_kind Next = true
+is_kind Bad = false
 
-abbrev pub queryBy : Kind → Placement → Query
-queryBy All h = all
-queryBy First h = first
-queryBy Next h = next h
-queryBy Bad h = first
+abbrev pub query_by : Kind → Placement → Query
+query_by All h = all
+query_by First h = first
+query_by Next h = next h
+query_by Bad h = first
 
 -- ---- the code's answers
 
-abbrev pub queriedBy : Query → Queried
-queriedBy all = record { kind = All; placement = placementOf [] }
-queriedBy first = record { kind = First; placement = placementOf [] }
-queriedBy (next h) = record { kind = Next; placement = h }
+abbrev pub queried_by : Query → Queried
+queried_by all = record { kind = All; placement = placement_of [] }
+queried_by first = record { kind = First; placement = placement_of [] }
+queried_by (next h) = record { kind = Next; placement = h }
 
-abbrev pub noQuery : Queried
-noQuery = record { kind = Bad; placement = placementOf [] }
+abbrev pub no_query : Queried
+no_query = record { kind = Bad; placement = placement_of [] }
 
-unfoldable pub parsedStarts : List ℕ → Queried
-parsedStarts l = if areStarts l then queriedBy (next (placementOf (startsIn l))) else noQuery
+unfoldable pub parsed_starts : List ℕ → Queried
+parsed_starts l = if are_starts l then queried_by (next (placement_of (starts_in l))) else no_query
 
-unfoldable pub parsedNext : List ℕ → Queried
-parsedNext l = if isEnclosed l then parsedStarts (inside l) else noQuery
+unfoldable pub parsed_next : List ℕ → Queried
+parsed_next l = if is_enclosed l then parsed_starts (inside l) else no_query
 
-unfoldable pub parsedQuery : List ℕ → Queried
-parsedQuery l = if isQuery l then queriedBy (queryOf l) else noQuery
+unfoldable pub parsed_query : List ℕ → Queried
+parsed_query l = if is_query l then queried_by (query_of l) else no_query

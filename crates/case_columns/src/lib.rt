@@ -1,8 +1,8 @@
 // The column that a line of cases alone has, the query: `all`, `first`, or an earlier placement such as `(2,9)` or `()`.
 ghost use Rattle.std.specs.Prelude.{◌≡◌, []};
 ghost use Rattle.definitions.specs.Starts.{start_at};
-ghost use Rattle.definitions.specs.Answers.{placementOf};
-ghost use Rattle.case_columns.specs.Queries.{isEnclosed, isKind, parsedStarts, parsedNext, parsedQuery};
+ghost use Rattle.definitions.specs.Answers.{placement_of};
+ghost use Rattle.case_columns.specs.Queries.{is_enclosed, is_kind, parsed_starts, parsed_next, parsed_query};
 
 use definitions::limits::PATTERNS;
 use definitions::packets::{Placement, Start};
@@ -31,7 +31,7 @@ const MAX_START: u64 = 18446744073709551615;
 
 // Whether it is a query.
 pub fn is_query(kind: Kind) -> bool
-    ensures { result ≡ isKind kind }
+    ensures { result ≡ is_kind kind }
 {
     match kind {
         Kind::All => true,
@@ -43,7 +43,7 @@ pub fn is_query(kind: Kind) -> bool
 
 // With the placement of no starts.
 fn plain_query(kind: Kind) -> Queried
-    ensures { result ≡ record { kind = kind; placement = placementOf [] } }
+    ensures { result ≡ record { kind = kind; placement = placement_of [] } }
 {
     Queried {
         kind,
@@ -56,7 +56,7 @@ fn plain_query(kind: Kind) -> Queried
 
 // Whether `(` is the first byte and `)` the last.
 fn is_enclosed(s: &[u8]) -> bool
-    ensures { result ≡ isEnclosed s.now }
+    ensures { result ≡ is_enclosed s.now }
 {
     if !contains(s, b'(') {
         return false;
@@ -80,7 +80,7 @@ fn start_of(n: u64) -> Start
 
 // The next one after the placement whose starts stand between the commas.
 fn parse_starts(s: &[u8]) -> Queried
-    ensures { result ≡ parsedStarts s.now }
+    ensures { result ≡ parsed_starts s.now }
 {
     if s.len() == 0 {
         return plain_query(Kind::Next);
@@ -108,7 +108,7 @@ fn parse_starts(s: &[u8]) -> Queried
 
 // The starts between the brackets.
 fn parse_next(s: &[u8]) -> Queried
-    ensures { result ≡ parsedNext s.now }
+    ensures { result ≡ parsed_next s.now }
 {
     if !is_enclosed(s) {
         return plain_query(Kind::Bad);
@@ -119,7 +119,7 @@ fn parse_next(s: &[u8]) -> Queried
 
 // The query of a column.
 pub fn parse_query(s: &[u8]) -> Queried
-    ensures { result ≡ parsedQuery s.now }
+    ensures { result ≡ parsed_query s.now }
 {
     if is_word(s, b"all") {
         return plain_query(Kind::All);

@@ -4,10 +4,10 @@ use mathlib.Core.List.{List}
 use Prim.Native.Nat.{ℕ, ◌<◌}
 use lib.ListN.{take}
 use Rattle.forms.specs.Bytes.{text}
-use Rattle.case_lines.specs.CaseLines.{maxLine}
-use Rattle.case_lines.specs.CaseAnswers.{caseAnswer}
-use Rattle.case_lines.proofs.Columns.{long-line}
-use Rattle.line_stream.proofs.Keeping.{kept-beyond}
+use Rattle.case_lines.specs.CaseLines.{max_line}
+use Rattle.case_lines.specs.CaseAnswers.{case_answer}
+use Rattle.case_lines.proofs.Columns.{long_line}
+use Rattle.line_stream.proofs.Keeping.{kept_beyond}
 
-pub kept_case : (m : ℕ) (s : List ℕ) → maxLine < m → caseAnswer (take m s) ≡ caseAnswer s
-kept_case = kept-beyond caseAnswer maxLine (text "bad") long-line
+pub kept_case : (m : ℕ) (s : List ℕ) → max_line < m → case_answer (take m s) ≡ case_answer s
+kept_case = kept_beyond case_answer max_line (text "bad") long_line

@@ -11,17 +11,17 @@ use Rattle.definitions.specs.declared.packets.Placement.{Placement}
 use Rattle.case_columns.specs.contracts.Kind.{the_type}
 use Rattle.case_columns.specs.declared.Kind.{Kind}
 use Rattle.case_columns.specs.declared.Kind.TheVariants.{All, First, Next, Bad}
-use Rattle.case_columns.specs.Queries.{first, queryBy}
-use Rattle.case_lines.specs.CaseAnswers.{queryText}
+use Rattle.case_columns.specs.Queries.{first, query_by}
+use Rattle.case_lines.specs.CaseAnswers.{query_text}
 
 module _ (p decoded : List ℕ) (dir : Direction) (m : FieldMap) (t : Table) (h : Placement) where
-  pub queried : {k j : Kind} → k ≡ j → queryText p decoded dir m t (queryBy k h) ≡ queryText p decoded dir m t (queryBy j h)
-  queried e = ap (λ (k : Kind). queryText p decoded dir m t (queryBy k h)) e
+  pub queried : {k j : Kind} → k ≡ j → query_text p decoded dir m t (query_by k h) ≡ query_text p decoded dir m t (query_by j h)
+  queried e = ap (λ (k : Kind). query_text p decoded dir m t (query_by k h)) e
 
   -- what is neither `all` nor an earlier placement asks for the first
   pub queried-first :
       (k : Kind) → OneOf (tag_of the_type First ∷ tag_of the_type Bad ∷ []) (tag_of the_type k)
-      → queryText p decoded dir m t (queryBy k h) ≡ queryText p decoded dir m t first
+      → query_text p decoded dir m t (query_by k h) ≡ query_text p decoded dir m t first
   queried-first All o = absurd (miss (1 ∷ 3 ∷ []) 0 tt o)
   queried-first First o = refl
   queried-first Next o = absurd (miss (1 ∷ 3 ∷ []) 2 tt o)

@@ -9,35 +9,35 @@ use Rattle.definitions.specs.declared.answers.Refusal.{Refusal}
 use Rattle.definitions.specs.declared.answers.ReadOutcome.{ReadOutcome}
 use Rattle.definitions.specs.declared.answers.ReadOutcome.TheVariants as outcome
 use Rattle.definitions.specs.declared.answers.Reading.{Reading}
-use Rattle.definitions.specs.Limits.{documentLimits}
+use Rattle.definitions.specs.Limits.{document_limits}
 use Rattle.definitions.specs.Refusals.{number_of}
 use Rattle.definitions.specs.Reading.{read}
 use Rattle.definitions.specs.Canonical.{decimal}
-use Rattle.definitions.specs.Answers.{inputCheck, placementsOf, firstAnswer, nextAnswer}
+use Rattle.definitions.specs.Answers.{input_check, placements_of, first_answer, next_answer}
 use Rattle.case_columns.specs.Queries.{Query, all, first, next}
-use Rattle.case_lists.specs.AnswerTexts.{listText, checkText, answerText}
-use Rattle.case_lines.specs.CaseLines.{isCase, CaseLine, case_of}
+use Rattle.case_lists.specs.AnswerTexts.{list_text, check_text, answer_text}
+use Rattle.case_lines.specs.CaseLines.{is_case, CaseLine, case_of}
 
 -- a text's refusal with its place
-abbrev pub unreadText : Refusal → ℕ → List ℕ
-unreadText r place = text "text " ++ (decimal (number_of r) ++ (text " " ++ decimal place))
+abbrev pub unread_text : Refusal → ℕ → List ℕ
+unread_text r place = text "text " ++ (decimal (number_of r) ++ (text " " ++ decimal place))
 
 module _ (p decoded : List ℕ) (dir : Direction) (m : FieldMap) where
-  unfoldable pub queryText : Table → Query → List ℕ
-  queryText t all = checkText (inputCheck t p decoded dir m) (listText (placementsOf t p decoded dir m))
-  queryText t first = answerText (firstAnswer t p decoded dir m)
-  queryText t (next h) = answerText (nextAnswer t p decoded dir m h)
+  unfoldable pub query_text : Table → Query → List ℕ
+  query_text t all = check_text (input_check t p decoded dir m) (list_text (placements_of t p decoded dir m))
+  query_text t first = answer_text (first_answer t p decoded dir m)
+  query_text t (next h) = answer_text (next_answer t p decoded dir m h)
 
   -- the answer for a text's table, or its refusal
-  abbrev pub outcomeText : ReadOutcome → Table → Query → List ℕ
-  outcomeText outcome.Accepted t a = queryText t a
-  outcomeText (outcome.Refused r place) t a = unreadText r place
+  abbrev pub outcome_text : ReadOutcome → Table → Query → List ℕ
+  outcome_text outcome.Accepted t a = query_text t a
+  outcome_text (outcome.Refused r place) t a = unread_text r place
 
-  abbrev pub readingText : Reading → Query → List ℕ
-  readingText r a = outcomeText r.outcome r.table a
+  abbrev pub reading_text : Reading → Query → List ℕ
+  reading_text r a = outcome_text r.outcome r.table a
 
-abbrev pub formedText : CaseLine → List ℕ
-formedText c = readingText c.packet c.decoded c.direction c.fields (read documentLimits c.source) c.query
+abbrev pub formed_text : CaseLine → List ℕ
+formed_text c = reading_text c.packet c.decoded c.direction c.fields (read document_limits c.source) c.query
 
-unfoldable pub caseAnswer : List ℕ → List ℕ
-caseAnswer l = if isCase l then formedText (case_of l) else text "bad"
+unfoldable pub case_answer : List ℕ → List ℕ
+case_answer l = if is_case l then formed_text (case_of l) else text "bad"

@@ -1,14 +1,14 @@
 // The answer to a line of cases, put into a lent buffer.
 ghost use Rattle.std.specs.Prelude.{◌≡◌, true, ◌≤◌, length};
 ghost use Rattle.definitions.specs.Cases.{pairs};
-ghost use Rattle.definitions.specs.Limits.{documentLimits};
+ghost use Rattle.definitions.specs.Limits.{document_limits};
 ghost use Rattle.definitions.specs.Reading.{read as readText};
 ghost use Rattle.write_bytes.specs.Puts.{Puts};
-ghost use Rattle.line_numbers.specs.HexPairs.{isHex};
-ghost use Rattle.case_columns.specs.Queries.{queryBy};
-ghost use Rattle.case_lines.specs.CaseLines.{maxLine};
-ghost use Rattle.case_lines.specs.CaseAnswers.{queryText, unreadText, readingText, caseAnswer};
-ghost use Rattle.case_lines.specs.Columns.{columnsText};
+ghost use Rattle.line_numbers.specs.HexPairs.{is_hex};
+ghost use Rattle.case_columns.specs.Queries.{query_by};
+ghost use Rattle.case_lines.specs.CaseLines.{max_line};
+ghost use Rattle.case_lines.specs.CaseAnswers.{query_text, unread_text, reading_text, case_answer};
+ghost use Rattle.case_lines.specs.Columns.{columns_text};
 
 use case_columns::{Kind, Queried, is_query, parse_query};
 use case_lists::answers::put_answer;
@@ -37,7 +37,7 @@ fn put_query<'a>(
     located: PacketColumns,
     queried: Queried,
 ) -> usize
-    ensures { Puts out.old at (queryText p.now decoded.now located.direction located.fields t (queryBy queried.kind queried.placement)) out.new result }
+    ensures { Puts out.old at (query_text p.now decoded.now located.direction located.fields t (query_by queried.kind queried.placement)) out.new result }
 {
     let kind = queried.kind;
     let dir = located.direction;
@@ -54,7 +54,7 @@ fn put_query<'a>(
 
 // A text's refusal with its place.
 fn put_unread(out: &mut [u8], at: usize, r: Refusal, place: usize) -> usize
-    ensures { Puts out.old at (unreadText r place) out.new result }
+    ensures { Puts out.old at (unread_text r place) out.new result }
 {
     let a1 = put_word(out, at, b"text ");
     let a2 = put_decimal(out, a1, number_of(r));
@@ -74,8 +74,8 @@ fn put_formed(
     room: &mut [u8; PAIRS],
     more: &mut [u8; PAIRS],
 ) -> usize
-    requires { (isHex packet.now ≡ true) × (isHex decoded.now ≡ true) × (length packet.now ≤ maxLine) × (length decoded.now ≤ maxLine) }
-    ensures { Puts out.old at (readingText (pairs packet.now) (pairs decoded.now) located.direction located.fields (readText documentLimits text.now) (queryBy queried.kind queried.placement)) out.new result }
+    requires { (is_hex packet.now ≡ true) × (is_hex decoded.now ≡ true) × (length packet.now ≤ max_line) × (length decoded.now ≤ max_line) }
+    ensures { Puts out.old at (reading_text (pairs packet.now) (pairs decoded.now) located.direction located.fields (readText document_limits text.now) (query_by queried.kind queried.placement)) out.new result }
 {
     let reading = reader::read(text);
     let outcome = reading.outcome;
@@ -112,8 +112,8 @@ fn put_columns(
     room: &mut [u8; PAIRS],
     more: &mut [u8; PAIRS],
 ) -> usize
-    requires { (length packet.now ≤ maxLine) × (length decoded.now ≤ maxLine) }
-    ensures { Puts out.old at (columnsText origin.now packet.now fields.now decoded.now query.now text.now) out.new result }
+    requires { (length packet.now ≤ max_line) × (length decoded.now ≤ max_line) }
+    ensures { Puts out.old at (columns_text origin.now packet.now fields.now decoded.now query.now text.now) out.new result }
 {
     let queried = parse_query(query);
     let kind = queried.kind;
@@ -134,7 +134,7 @@ pub fn answer_case(
     room: &mut [u8; PAIRS],
     more: &mut [u8; PAIRS],
 ) -> usize
-    ensures { Puts out.old at (caseAnswer line.now) out.new result }
+    ensures { Puts out.old at (case_answer line.now) out.new result }
 {
     if CASE_BYTES < line.len() {
         return put_word(out, at, b"bad");

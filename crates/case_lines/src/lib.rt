@@ -2,9 +2,9 @@
 pub mod answers;
 
 ghost use Rattle.std.specs.Prelude.{take};
-ghost use Rattle.case_lines.specs.CaseAnswers.{caseAnswer};
+ghost use Rattle.case_lines.specs.CaseAnswers.{case_answer};
 ghost use Rattle.write_bytes.specs.Puts.{Puts};
-ghost use Rattle.line_stream.specs.Stream.{lastLine, Feeds};
+ghost use Rattle.line_stream.specs.Stream.{last_line, Feeds};
 ghost use Rattle.line_stream.specs.Whole.{WholeLines, WholeLast};
 
 use crate::answers::{CASE_BYTES, PAIRS, answer_case};
@@ -15,8 +15,8 @@ pub const LINE_BYTES: usize = CASE_BYTES + 1;
 
 // Takes bytes of the input until all are taken, or an answer has no room in the output.
 pub fn feed(input: &[u8], line: &mut [u8; LINE_BYTES], out: &mut [u8], begun: Begun) -> Fed
-    ensures feeds { Feeds caseAnswer input.now line.old out.old begun line.new out.new result }
-    ensures whole { WholeLines caseAnswer input.now line.old begun line.new out.new result }
+    ensures feeds { Feeds case_answer input.now line.old out.old begun line.new out.new result }
+    ensures whole { WholeLines case_answer input.now line.old begun line.new out.new result }
 {
     // For the bytes of a case: cleared once a feed, not once a line.
     let mut room = [0u8; PAIRS];
@@ -32,8 +32,8 @@ pub fn feed(input: &[u8], line: &mut [u8; LINE_BYTES], out: &mut [u8], begun: Be
 
 // After the last byte: the answer to a line that lacks its LF. The answer is how many bytes it has, more than the buffer's if it has no room.
 pub fn finish(line: &[u8; LINE_BYTES], out: &mut [u8], begun: Begun) -> usize
-    ensures puts { Puts out.old 0 (lastLine caseAnswer begun.number (take begun.len line.now)) out.new result }
-    ensures whole { WholeLast caseAnswer line.now out.old begun out.new result }
+    ensures puts { Puts out.old 0 (last_line case_answer begun.number (take begun.len line.now)) out.new result }
+    ensures whole { WholeLast case_answer line.now out.old begun out.new result }
 {
     let t = last_line(line, out, begun);
     if t.waits {

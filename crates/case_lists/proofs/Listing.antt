@@ -17,99 +17,99 @@ use Rattle.definitions.specs.declared.answers.Answer.{Answer}
 use Rattle.definitions.specs.contracts.answers.Found as found_type
 use Rattle.definitions.specs.Starts.{start_at}
 use Rattle.definitions.specs.Lists.{keep}
-use Rattle.definitions.specs.Placements.{lexLess}
-use Rattle.definitions.specs.Answers.{startsOf, head_of, unless}
-use Rattle.list_laws.proofs.Firsts.{first-here, first_out}
+use Rattle.definitions.specs.Placements.{lex_less}
+use Rattle.definitions.specs.Answers.{starts_of, head_of, unless}
+use Rattle.list_laws.proofs.Firsts.{first_here, first_out}
 use Rattle.write_bytes.specs.Puts.{puts, Puts}
 use Rattle.write_bytes.proofs.Putting.{then, onward}
-use Rattle.match_starts.specs.StartTexts.{startText}
+use Rattle.match_starts.specs.StartTexts.{start_text}
 use Rattle.search_state.specs.declared.outcomes.Outcome.{Outcome}
-use Rattle.search_state.specs.Outcomes.{outcomeOf}
-use Rattle.case_lists.specs.AnswerTexts.{startsAfter, startsText, placementText, placementsAfter, maxAfter, listText, checkText, answerText}
-use Rattle.case_lists.proofs.Rest.{starts-back, Ordered, first_rest, list-rest}
+use Rattle.search_state.specs.Outcomes.{outcome_of}
+use Rattle.case_lists.specs.AnswerTexts.{starts_after, starts_text, placement_text, placements_after, max_after, list_text, check_text, answer_text}
+use Rattle.case_lists.proofs.Rest.{starts_back, Ordered, first_rest, list_rest}
 
 -- ---- starts
 
-pub starts-on : (l : List Start) (n i : ℕ) → i < n → n ≤ length l
-    → startsAfter (drop i (take n l)) ≡ text "," ++ (startText (get_or l i (start_at 0)) ++ startsAfter (drop (i + 1) (take n l)))
-unfolding startsAfter
-starts-on l n i h g = ap startsAfter (first-here l n i (start_at 0) h g)
+pub starts_on : (l : List Start) (n i : ℕ) → i < n → n ≤ length l
+    → starts_after (drop i (take n l)) ≡ text "," ++ (start_text (get_or l i (start_at 0)) ++ starts_after (drop (i + 1) (take n l)))
+unfolding starts_after
+starts_on l n i h g = ap starts_after (first_here l n i (start_at 0) h g)
 
-pub starts-end : (l : List Start) (n i : ℕ) → n ≤ i → startsAfter (drop i (take n l)) ≡ []
-unfolding startsAfter
-starts-end l n i h = ap startsAfter (first_out l n i h)
+pub starts_end : (l : List Start) (n i : ℕ) → n ≤ i → starts_after (drop i (take n l)) ≡ []
+unfolding starts_after
+starts_end l n i h = ap starts_after (first_out l n i h)
 
-pub starts_none : (l : List Start) (n : ℕ) → n ≡ 0 → startsText (take n l) ≡ []
+pub starts_none : (l : List Start) (n : ℕ) → n ≡ 0 → starts_text (take n l) ≡ []
 starts_none l n e = rw e
 
-pub starts_first : (l : List Start) (n : ℕ) → 0 < n → n ≤ length l → startsText (take n l) ≡ startText (get_or l 0 (start_at 0)) ++ startsAfter (drop 1 (take n l))
-starts_first l n h g = ap startsText (first-here l n 0 (start_at 0) h g)
+pub starts_first : (l : List Start) (n : ℕ) → 0 < n → n ≤ length l → starts_text (take n l) ≡ start_text (get_or l 0 (start_at 0)) ++ starts_after (drop 1 (take n l))
+starts_first l n h g = ap starts_text (first_here l n 0 (start_at 0) h g)
 
 -- ---- what a search says of the placements left
 
-after_none : (x : Outcome) (qs : List (List Start)) (k : ℕ) → x ≡ outcomeOf qs → x.found ≡ false → placementsAfter k qs ≡ []
-unfolding placementsAfter
+after_none : (x : Outcome) (qs : List (List Start)) (k : ℕ) → x ≡ outcome_of qs → x.found ≡ false → placements_after k qs ≡ []
+unfolding placements_after
 after_none x [] k e n = refl
 after_none x (q ∷ qs) k e n = absurd (false≢true (sym n ∙ ap (λ (y : Outcome). y.found) e))
 
-after-over : (x : Outcome) (qs : List (List Start)) → x ≡ outcomeOf qs → x.found ≡ true → placementsAfter 0 qs ≡ text ";..."
-unfolding placementsAfter
-after-over x [] e n = absurd (false≢true (sym (ap (λ (y : Outcome). y.found) e) ∙ n))
-after-over x (q ∷ qs) e n = refl
+after_over : (x : Outcome) (qs : List (List Start)) → x ≡ outcome_of qs → x.found ≡ true → placements_after 0 qs ≡ text ";..."
+unfolding placements_after
+after_over x [] e n = absurd (false≢true (sym (ap (λ (y : Outcome). y.found) e) ∙ n))
+after_over x (q ∷ qs) e n = refl
 
 -- ---- what "first" answers: a refusal that is due, none, or a placement
 
-pub first-not : (w : Check) (l : List (List Start)) (a : Answer) → a ≡ unless w (head_of l) → OneOf (1 ∷ 2 ∷ []) (tag_of found_type.the_type a.found)
-    → checkText w (listText l) ≡ answerText a
-first-not Pass [] a e n = sym (ap answerText e)
-first-not Pass (q ∷ l) a e n = absurd (miss (1 ∷ 2 ∷ []) 0 tt (subst (λ (x : Answer). OneOf (1 ∷ 2 ∷ []) (tag_of found_type.the_type x.found)) e n))
-first-not (Refuse r) l a e n = sym (ap answerText e)
+pub first_not : (w : Check) (l : List (List Start)) (a : Answer) → a ≡ unless w (head_of l) → OneOf (1 ∷ 2 ∷ []) (tag_of found_type.the_type a.found)
+    → check_text w (list_text l) ≡ answer_text a
+first_not Pass [] a e n = sym (ap answer_text e)
+first_not Pass (q ∷ l) a e n = absurd (miss (1 ∷ 2 ∷ []) 0 tt (subst (λ (x : Answer). OneOf (1 ∷ 2 ∷ []) (tag_of found_type.the_type x.found)) e n))
+first_not (Refuse r) l a e n = sym (ap answer_text e)
 
 module _ (l : List (List Start)) (v : Ordered l) where
   -- a placement, and k of those after it
-  abbrev fromOne : ℕ → Placement → List ℕ
-  fromOne k h = placementText (startsOf h) ++ placementsAfter k (keep (lexLess h.starts) l)
+  abbrev from_one : ℕ → Placement → List ℕ
+  from_one k h = placement_text (starts_of h) ++ placements_after k (keep (lex_less h.starts) l)
 
-  pub first_one : (w : Check) (a : Answer) → a ≡ unless w (head_of l) → a.found ≡ Placed → checkText w (listText l) ≡ fromOne maxAfter a.placement
+  pub first_one : (w : Check) (a : Answer) → a ≡ unless w (head_of l) → a.found ≡ Placed → check_text w (list_text l) ≡ from_one max_after a.placement
   first_one w a e n = go w l refl e
     where
-      go : (w : Check) (k : List (List Start)) → l ≡ k → a ≡ unless w (head_of k) → checkText w (listText k) ≡ fromOne maxAfter a.placement
+      go : (w : Check) (k : List (List Start)) → l ≡ k → a ≡ unless w (head_of k) → check_text w (list_text k) ≡ from_one max_after a.placement
       go Pass [] le h = cc
-      go Pass (q ∷ qs) le h = sym (ap (λ (x : Answer). fromOne maxAfter x.placement) h ∙ rw (starts-back q, first_rest l v q qs le))
+      go Pass (q ∷ qs) le h = sym (ap (λ (x : Answer). from_one max_after x.placement) h ∙ rw (starts_back q, first_rest l v q qs le))
       go (Refuse r) k le h = cc
 
   -- ---- one placement more
 
-  after_one : (b : List Start) (x : Outcome) → x ≡ outcomeOf (keep (lexLess b) l) → x.found ≡ true → (k : ℕ)
-      → placementsAfter (suc k) (keep (lexLess b) l) ≡ text ";" ++ fromOne k x.placement
-  unfolding placementsAfter
-  after_one b x e n k = go (keep (lexLess b) l) refl e
+  after_one : (b : List Start) (x : Outcome) → x ≡ outcome_of (keep (lex_less b) l) → x.found ≡ true → (k : ℕ)
+      → placements_after (suc k) (keep (lex_less b) l) ≡ text ";" ++ from_one k x.placement
+  unfolding placements_after
+  after_one b x e n k = go (keep (lex_less b) l) refl e
     where
-      go : (j : List (List Start)) → keep (lexLess b) l ≡ j → x ≡ outcomeOf j → placementsAfter (suc k) j ≡ text ";" ++ fromOne k x.placement
+      go : (j : List (List Start)) → keep (lex_less b) l ≡ j → x ≡ outcome_of j → placements_after (suc k) j ≡ text ";" ++ from_one k x.placement
       go [] le h = cc
-      go (q ∷ qs) le h = sym (ap (λ (y : Outcome). text ";" ++ fromOne k y.placement) h ∙ rw (starts-back q, list-rest l v b q qs le))
+      go (q ∷ qs) le h = sym (ap (λ (y : Outcome). text ";" ++ from_one k y.placement) h ∙ rw (starts_back q, list_rest l v b q qs le))
 
   -- ---- the loop: of the bytes to write, those of the placements after b are still to come, where k are written already; x is what the search found
 
   module _ (all start : List ℕ) (at : ℕ) (b : List Start) (out : List ℕ) (next k : ℕ)
-      (left : puts start at all ≡ puts out next (placementsAfter (maxAfter - k) (keep (lexLess b) l)))
-      (x : Outcome) (e : x ≡ outcomeOf (keep (lexLess b) l)) where
-    pub left-none : x.found ≡ false → Puts start at all out next
+      (left : puts start at all ≡ puts out next (placements_after (max_after - k) (keep (lex_less b) l)))
+      (x : Outcome) (e : x ≡ outcome_of (keep (lex_less b) l)) where
+    pub left_none : x.found ≡ false → Puts start at all out next
     unfolding puts
-    left-none n = record { is = sym (left ∙ ap (puts out next) (after_none x (keep (lexLess b) l) (maxAfter - k) e n)) }
+    left_none n = record { is = sym (left ∙ ap (puts out next) (after_none x (keep (lex_less b) l) (max_after - k) e n)) }
 
-    pub left-on : k < maxAfter → x.found ≡ true → {o o' : List ℕ} {i j : ℕ} → Puts out next (59 ∷ []) o i
-        → Puts o i (placementText (startsOf x.placement)) o' j
-        → puts start at all ≡ puts o' j (placementsAfter (maxAfter - (k + 1)) (keep (lexLess x.placement.starts) l))
-    left-on g n c d =
-        let less : maxAfter - k ≡ suc (maxAfter - (k + 1)) = omega arith in
+    pub left_on : k < max_after → x.found ≡ true → {o o' : List ℕ} {i j : ℕ} → Puts out next (59 ∷ []) o i
+        → Puts o i (placement_text (starts_of x.placement)) o' j
+        → puts start at all ≡ puts o' j (placements_after (max_after - (k + 1)) (keep (lex_less x.placement.starts) l))
+    left_on g n c d =
+        let less : max_after - k ≡ suc (max_after - (k + 1)) = omega arith in
         left
-        ∙ ap (λ (y : ℕ). puts out next (placementsAfter y (keep (lexLess b) l))) less
-        ∙ ap (puts out next) (after_one b x e n (maxAfter - (k + 1)))
-        ∙ onward (placementsAfter (maxAfter - (k + 1)) (keep (lexLess x.placement.starts) l)) (then c d)
+        ∙ ap (λ (y : ℕ). puts out next (placements_after y (keep (lex_less b) l))) less
+        ∙ ap (puts out next) (after_one b x e n (max_after - (k + 1)))
+        ∙ onward (placements_after (max_after - (k + 1)) (keep (lex_less x.placement.starts) l)) (then c d)
 
-    pub left_over : maxAfter ≤ k → x.found ≡ true → {o : List ℕ} {i : ℕ} → Puts out next (text ";...") o i → Puts start at all o i
+    pub left_over : max_after ≤ k → x.found ≡ true → {o : List ℕ} {i : ℕ} → Puts out next (text ";...") o i → Puts start at all o i
     left_over g n c =
-        let none : maxAfter - k ≡ 0 = omega arith in
-        let rest = left ∙ ap (λ (y : ℕ). puts out next (placementsAfter y (keep (lexLess b) l))) none in
-        record { is = c.is ∙ sym (rest ∙ ap (puts out next) (after-over x (keep (lexLess b) l) e n)) }
+        let none : max_after - k ≡ 0 = omega arith in
+        let rest = left ∙ ap (λ (y : ℕ). puts out next (placements_after y (keep (lex_less b) l))) none in
+        record { is = c.is ∙ sym (rest ∙ ap (puts out next) (after_over x (keep (lex_less b) l) e n)) }

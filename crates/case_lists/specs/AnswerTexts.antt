@@ -12,50 +12,50 @@ use Rattle.definitions.specs.declared.answers.Found.TheVariants as found
 use Rattle.definitions.specs.declared.answers.Answer.{Answer}
 use Rattle.definitions.specs.Refusals.{number_of}
 use Rattle.definitions.specs.Canonical.{decimal}
-use Rattle.definitions.specs.Answers.{startsOf}
-use Rattle.match_starts.specs.StartTexts.{startText}
+use Rattle.definitions.specs.Answers.{starts_of}
+use Rattle.match_starts.specs.StartTexts.{start_text}
 
 -- ---- one placement, such as `(2,3)` or `()`
 
-unfoldable pub startsAfter : List Start → List ℕ
-startsAfter [] = []
-startsAfter (s ∷ q) = text "," ++ (startText s ++ startsAfter q)
+unfoldable pub starts_after : List Start → List ℕ
+starts_after [] = []
+starts_after (s ∷ q) = text "," ++ (start_text s ++ starts_after q)
 
-abbrev pub startsText : List Start → List ℕ
-startsText [] = []
-startsText (s ∷ q) = startText s ++ startsAfter q
+abbrev pub starts_text : List Start → List ℕ
+starts_text [] = []
+starts_text (s ∷ q) = start_text s ++ starts_after q
 
-abbrev pub placementText : List Start → List ℕ
-placementText q = text "(" ++ (startsText q ++ text ")")
+abbrev pub placement_text : List Start → List ℕ
+placement_text q = text "(" ++ (starts_text q ++ text ")")
 
 -- ---- a list of placements: at most 1,000 of them, and `;...` after them where there are more
 
 -- those after the first, of which k are written
-unfoldable pub placementsAfter : ℕ → List (List Start) → List ℕ
-placementsAfter k [] = []
-placementsAfter zero (q ∷ qs) = text ";..."
-placementsAfter (suc k) (q ∷ qs) = text ";" ++ (placementText q ++ placementsAfter k qs)
+unfoldable pub placements_after : ℕ → List (List Start) → List ℕ
+placements_after k [] = []
+placements_after zero (q ∷ qs) = text ";..."
+placements_after (suc k) (q ∷ qs) = text ";" ++ (placement_text q ++ placements_after k qs)
 
-abbrev pub maxAfter : ℕ
-maxAfter = 999
+abbrev pub max_after : ℕ
+max_after = 999
 
-abbrev pub listText : List (List Start) → List ℕ
-listText [] = text "none"
-listText (q ∷ qs) = placementText q ++ placementsAfter maxAfter qs
+abbrev pub list_text : List (List Start) → List ℕ
+list_text [] = text "none"
+list_text (q ∷ qs) = placement_text q ++ placements_after max_after qs
 
 -- ---- refusals, and the answer to one query
 
-abbrev pub refusedText : Refusal → List ℕ
-refusedText r = text "refused " ++ decimal (number_of r)
+abbrev pub refused_text : Refusal → List ℕ
+refused_text r = text "refused " ++ decimal (number_of r)
 
-abbrev pub checkText : Check → List ℕ → List ℕ
-checkText Pass l = l
-checkText (Refuse r) l = refusedText r
+abbrev pub check_text : Check → List ℕ → List ℕ
+check_text Pass l = l
+check_text (Refuse r) l = refused_text r
 
-abbrev pub foundText : Found → Placement → List ℕ
-foundText found.Placed h = placementText (startsOf h)
-foundText found.Nothing h = text "none"
-foundText (found.Refused r) h = refusedText r
+abbrev pub found_text : Found → Placement → List ℕ
+found_text found.Placed h = placement_text (starts_of h)
+found_text found.Nothing h = text "none"
+found_text (found.Refused r) h = refused_text r
 
-abbrev pub answerText : Answer → List ℕ
-answerText a = foundText a.found a.placement
+abbrev pub answer_text : Answer → List ℕ
+answer_text a = found_text a.found a.placement

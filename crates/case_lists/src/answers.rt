@@ -1,6 +1,6 @@
 // The answer to one query: a placement, none, or a refusal.
 ghost use Rattle.write_bytes.specs.Puts.{Puts};
-ghost use Rattle.case_lists.specs.AnswerTexts.{refusedText, answerText};
+ghost use Rattle.case_lists.specs.AnswerTexts.{refused_text, answer_text};
 
 use crate::placement_text::put_placement;
 use definitions::answers::{Answer, Found, Refusal};
@@ -9,7 +9,7 @@ use write_bytes::{put_decimal, put_word};
 
 // A refusal by its number.
 pub fn put_refused(out: &mut [u8], at: usize, r: Refusal) -> usize
-    ensures { Puts out.old at (refusedText r) out.new result }
+    ensures { Puts out.old at (refused_text r) out.new result }
 {
     let next = put_word(out, at, b"refused ");
     put_decimal(out, next, number_of(r))
@@ -17,7 +17,7 @@ pub fn put_refused(out: &mut [u8], at: usize, r: Refusal) -> usize
 
 // An answer: a placement, none, or a refusal.
 pub fn put_answer(out: &mut [u8], at: usize, a: Answer) -> usize
-    ensures { Puts out.old at (answerText a) out.new result }
+    ensures { Puts out.old at (answer_text a) out.new result }
 {
     let found = a.found;
     let placement = a.placement;

@@ -1,12 +1,12 @@
 // The list of placements: what is due is tested once, and each search is for the least after the placement written last.
 ghost use Rattle.definitions.specs.Lists.{keep};
-ghost use Rattle.definitions.specs.Fields.{fieldsCheck};
-ghost use Rattle.definitions.specs.Placements.{lexLess};
-ghost use Rattle.definitions.specs.Answers.{inputCheck, placementsOf};
+ghost use Rattle.definitions.specs.Fields.{fields_check};
+ghost use Rattle.definitions.specs.Placements.{lex_less};
+ghost use Rattle.definitions.specs.Answers.{input_check, placements_of};
 ghost use Rattle.write_bytes.specs.Puts.{Puts};
-ghost use Rattle.search.specs.Searching.{searchedTable, Searchable};
-ghost use Rattle.match_placements.specs.Listing.{listIn};
-ghost use Rattle.case_lists.specs.AnswerTexts.{placementsAfter, maxAfter, listText, checkText};
+ghost use Rattle.search.specs.Searching.{searched_table, Searchable};
+ghost use Rattle.match_placements.specs.Listing.{list_in};
+ghost use Rattle.case_lists.specs.AnswerTexts.{placements_after, max_after, list_text, check_text};
 
 use crate::answers::{put_answer, put_refused};
 use crate::placement_text::put_placement;
@@ -41,7 +41,7 @@ fn put_after<'a>(
     starts: [Start; PATTERNS],
 ) -> usize
     requires { Searchable items count bytes.now payload.now decoded.now }
-    ensures { Puts out.old at (placementsAfter maxAfter (keep (lexLess starts) (listIn (searchedTable protocol flow items count bytes.now) header payload.now decoded.now dir m))) out.new result }
+    ensures { Puts out.old at (placements_after max_after (keep (lex_less starts) (list_in (searched_table protocol flow items count bytes.now) header payload.now decoded.now dir m))) out.new result }
 {
     let mut bound = starts;
     let mut next = at;
@@ -84,7 +84,7 @@ fn put_seen<'a>(
     m: FieldMap,
 ) -> usize
     requires { Searchable items count bytes.now payload.now decoded.now }
-    ensures { Puts out.old at (checkText (fieldsCheck payload.now decoded.now m) (listText (listIn (searchedTable protocol flow items count bytes.now) header payload.now decoded.now dir m))) out.new result }
+    ensures { Puts out.old at (check_text (fields_check payload.now decoded.now m) (list_text (list_in (searched_table protocol flow items count bytes.now) header payload.now decoded.now dir m))) out.new result }
 {
     let a = first_in(
         protocol, flow, items, count, bytes, header, payload, decoded, dir, m,
@@ -111,7 +111,7 @@ pub fn put_list<'a>(
     dir: Direction,
     m: FieldMap,
 ) -> usize
-    ensures { Puts out.old at (checkText (inputCheck t p.now decoded.now dir m) (listText (placementsOf t p.now decoded.now dir m))) out.new result }
+    ensures { Puts out.old at (check_text (input_check t p.now decoded.now dir m) (list_text (placements_of t p.now decoded.now dir m))) out.new result }
 {
     let name = t.name;
     let items = t.items;

@@ -1,9 +1,9 @@
 // One placement, such as `(2,3)` or `()`.
 ghost use Rattle.std.specs.Prelude.{◌≤◌, take, drop};
-ghost use Rattle.definitions.specs.Limits.{maxPatterns};
-ghost use Rattle.definitions.specs.Answers.{startsOf};
+ghost use Rattle.definitions.specs.Limits.{max_patterns};
+ghost use Rattle.definitions.specs.Answers.{starts_of};
 ghost use Rattle.write_bytes.specs.Puts.{Puts};
-ghost use Rattle.case_lists.specs.AnswerTexts.{startsAfter, startsText, placementText};
+ghost use Rattle.case_lists.specs.AnswerTexts.{starts_after, starts_text, placement_text};
 
 use definitions::limits::PATTERNS;
 use definitions::packets::{Placement, Start};
@@ -13,8 +13,8 @@ use write_bytes::put;
 
 // The starts after the first of n.
 fn put_starts_after(out: &mut [u8], at: usize, starts: [Start; PATTERNS], n: usize) -> usize
-    requires { n ≤ maxPatterns }
-    ensures { Puts out.old at (startsAfter (drop 1 (take n starts))) out.new result }
+    requires { n ≤ max_patterns }
+    ensures { Puts out.old at (starts_after (drop 1 (take n starts))) out.new result }
 {
     let mut next = at;
     let mut i = 1;
@@ -28,7 +28,7 @@ fn put_starts_after(out: &mut [u8], at: usize, starts: [Start; PATTERNS], n: usi
 
 // So many of the starts as there are, at most all.
 fn put_starts(out: &mut [u8], at: usize, starts: [Start; PATTERNS], count: usize) -> usize
-    ensures { Puts out.old at (startsText (take count starts)) out.new result }
+    ensures { Puts out.old at (starts_text (take count starts)) out.new result }
 {
     let n = at_most(count, PATTERNS);
     if n == 0 {
@@ -40,7 +40,7 @@ fn put_starts(out: &mut [u8], at: usize, starts: [Start; PATTERNS], count: usize
 
 // A placement's starts in brackets.
 pub fn put_placement(out: &mut [u8], at: usize, h: Placement) -> usize
-    ensures { Puts out.old at (placementText (startsOf h)) out.new result }
+    ensures { Puts out.old at (placement_text (starts_of h)) out.new result }
 {
     let starts = h.starts;
     let a1 = put(out, at, b'(');

@@ -1,7 +1,7 @@
 // WHAT CHANGED BETWEEN TWO RULE BOOKS: the public entry, which takes any bytes.
-ghost use Rattle.definitions.specs.Limits.{documentLimits};
+ghost use Rattle.definitions.specs.Limits.{document_limits};
 ghost use Rattle.write_bytes.specs.Puts.{Puts};
-ghost use Rattle.compare_laws.specs.Comparisons.{compareOutput};
+ghost use Rattle.compare_laws.specs.Comparisons.{compare_output};
 
 use compare_rules::put_rules;
 use definitions::books::Judgement;
@@ -10,7 +10,7 @@ use rule_book::load;
 
 // WHAT CHANGED: the first book's refusal, else the second's, else a line for each rule that is not alike in both, by rising number.
 pub fn compare(out: &mut [u8], at: usize, first: &[u8], second: &[u8]) -> usize
-    ensures { Puts out.old at (compareOutput documentLimits first.now second.now) out.new result }
+    ensures { Puts out.old at (compare_output document_limits first.now second.now) out.new result }
 {
     let x = load(first);
     let j = x.judgement;

@@ -7,19 +7,19 @@ use Rattle.definitions.specs.declared.answers.Refusal.{Refusal}
 use Rattle.definitions.specs.declared.books.Judgement.TheVariants.{Accepted, Refused}
 use Rattle.definitions.specs.Limits.{Limits}
 use Rattle.definitions.specs.Books.{judge}
-use Rattle.compare_laws.specs.Comparisons.{readRules, rulesOutput, refusedOutput, compareOutput}
+use Rattle.compare_laws.specs.Comparisons.{read_rules, rules_output, refused_output, compare_output}
 
 module _ (lim : Limits) (first second : List ℕ) where
-  pub first-refused : (r : Refusal) (line : ℕ) → judge lim first ≡ Refused r line → compareOutput lim first second ≡ refusedOutput (text "first\t") r line
-  unfolding compareOutput
-  first-refused r line e = rw e
+  pub first_refused : (r : Refusal) (line : ℕ) → judge lim first ≡ Refused r line → compare_output lim first second ≡ refused_output (text "first\t") r line
+  unfolding compare_output
+  first_refused r line e = rw e
 
   module _ (n : ℕ) (e : judge lim first ≡ Accepted n) where
-    pub second-refused : (r : Refusal) (line : ℕ) → judge lim second ≡ Refused r line
-        → compareOutput lim first second ≡ refusedOutput (text "second\t") r line
-    unfolding compareOutput
-    second-refused r line f = rw (e, f)
+    pub second_refused : (r : Refusal) (line : ℕ) → judge lim second ≡ Refused r line
+        → compare_output lim first second ≡ refused_output (text "second\t") r line
+    unfolding compare_output
+    second_refused r line f = rw (e, f)
 
-    pub both-accepted : (m : ℕ) → judge lim second ≡ Accepted m → compareOutput lim first second ≡ rulesOutput (readRules lim first) (readRules lim second)
-    unfolding compareOutput
-    both-accepted m f = rw (e, f)
+    pub both_accepted : (m : ℕ) → judge lim second ≡ Accepted m → compare_output lim first second ≡ rules_output (read_rules lim first) (read_rules lim second)
+    unfolding compare_output
+    both_accepted m f = rw (e, f)

@@ -4,12 +4,12 @@ use mathlib.Core.Bool.{true}
 use Rattle.definitions.specs.Lists.{all?}
 use Rattle.definitions.specs.NumberCases.{agrees}
 use Rattle.definitions.specs.Computing.{computing}
-use Rattle.table_equality.specs.SameTables.{sameBy, sameItem, sameAddress, sameSlot, sameTable}
-use Rattle.compare_laws.specs.Comparisons.{readRule, readRules, differences, bothLine, newLines, mergedBy, rulesOutput, refusedOutput, compareOutput}
-use Rattle.compare_laws.specs.ComparisonCases.{compares, line, comparisonCases}
+use Rattle.table_equality.specs.SameTables.{same_by, same_item, same_address, same_slot, same_table}
+use Rattle.compare_laws.specs.Comparisons.{read_rule, read_rules, differences, both_line, new_lines, merged_by, rules_output, refused_output, compare_output}
+use Rattle.compare_laws.specs.ComparisonCases.{compares, line, comparison_cases}
 
-pub comparison-cases : all? agrees comparisonCases ≡ true
+pub comparison_cases_lem : all? agrees comparison_cases ≡ true
 unfolding
-    computing sameBy sameItem sameAddress sameSlot sameTable readRule readRules differences bothLine newLines mergedBy rulesOutput refusedOutput compareOutput
-    compares line comparisonCases
-comparison-cases = refl
+    computing same_by same_item same_address same_slot same_table read_rule read_rules differences both_line new_lines merged_by rules_output refused_output compare_output
+    compares line comparison_cases
+comparison_cases_lem = refl

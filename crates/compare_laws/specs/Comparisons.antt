@@ -12,9 +12,9 @@ use Rattle.definitions.specs.declared.books.Judgement.TheVariants.{Accepted, Ref
 use Rattle.definitions.specs.Limits.{Limits}
 use Rattle.definitions.specs.Reading.{read}
 use Rattle.definitions.specs.Canonical.{decimal}
-use Rattle.definitions.specs.Lines.{refusedLine}
-use Rattle.definitions.specs.Books.{Rule, rulesOf, judge}
-use Rattle.table_equality.specs.SameTables.{sameTable}
+use Rattle.definitions.specs.Lines.{refused_line}
+use Rattle.definitions.specs.Books.{Rule, rules_of, judge}
+use Rattle.table_equality.specs.SameTables.{same_table}
 
 -- ---- a rule with the table of its text in the place of the text
 
@@ -24,47 +24,47 @@ pub record ReadRule : Type 0 where
   pub action : Action
   pub table : Table
 
-unfoldable pub readRule : Limits → Rule → ReadRule
-readRule lim r = record { number = r.number; state = r.state; action = r.action; table = (read lim r.source).table }
+unfoldable pub read_rule : Limits → Rule → ReadRule
+read_rule lim r = record { number = r.number; state = r.state; action = r.action; table = (read lim r.source).table }
 
-unfoldable pub readRules : Limits → List ℕ → List ReadRule
-readRules lim book = map (readRule lim) (rulesOf book)
+unfoldable pub read_rules : Limits → List ℕ → List ReadRule
+read_rules lim book = map (read_rule lim) (rules_of book)
 
 -- ---- what differs between two rules of one number: those of `state`, `action`, `text`, in this order
 
-abbrev pub sameState : State → State → Bool
-sameState state.On state.On = true
-sameState state.On state.Off = false
-sameState state.Off state.On = false
-sameState state.Off state.Off = true
+abbrev pub same_state : State → State → Bool
+same_state state.On state.On = true
+same_state state.On state.Off = false
+same_state state.Off state.On = false
+same_state state.Off state.Off = true
 
-abbrev pub sameAction : Action → Action → Bool
-sameAction action.Pass action.Pass = true
-sameAction action.Pass action.Hold = false
-sameAction action.Hold action.Pass = false
-sameAction action.Hold action.Hold = true
+abbrev pub same_action : Action → Action → Bool
+same_action action.Pass action.Pass = true
+same_action action.Pass action.Hold = false
+same_action action.Hold action.Pass = false
+same_action action.Hold action.Hold = true
 
-abbrev pub wordIf : Bool → List ℕ → List (List ℕ)
-wordIf b w = if b then w ∷ [] else []
+abbrev pub word_if : Bool → List ℕ → List (List ℕ)
+word_if b w = if b then w ∷ [] else []
 
 abbrev pub differing : Bool → Bool → Bool → List (List ℕ)
-differing ofState ofAction ofText = wordIf ofState (text "state") ++ (wordIf ofAction (text "action") ++ wordIf ofText (text "text"))
+differing ofState ofAction ofText = word_if ofState (text "state") ++ (word_if ofAction (text "action") ++ word_if ofText (text "text"))
 
 -- texts differ exactly if their tables differ
 unfoldable pub differences : ReadRule → ReadRule → List (List ℕ)
-differences a b = differing (not (sameState a.state b.state)) (not (sameAction a.action b.action)) (not (sameTable a.table b.table))
+differences a b = differing (not (same_state a.state b.state)) (not (same_action a.action b.action)) (not (same_table a.table b.table))
 
 -- ---- the lines
 
 -- a word with its tab, and a rule's number
-abbrev pub numberLine : List ℕ → ℕ → List ℕ
-numberLine word n = word ++ (decimal n ++ text "\n")
+abbrev pub number_line : List ℕ → ℕ → List ℕ
+number_line word n = word ++ (decimal n ++ text "\n")
 
-abbrev pub oldLine : ReadRule → List ℕ
-oldLine a = numberLine (text "old\t") a.number
+abbrev pub old_line : ReadRule → List ℕ
+old_line a = number_line (text "old\t") a.number
 
-abbrev pub newLine : ReadRule → List ℕ
-newLine b = numberLine (text "new\t") b.number
+abbrev pub new_line : ReadRule → List ℕ
+new_line b = number_line (text "new\t") b.number
 
 -- parted by commas
 abbrev pub commas : List (List ℕ) → List ℕ
@@ -73,43 +73,43 @@ commas (w ∷ []) = w
 commas (w ∷ v ∷ ws) = w ++ (text "," ++ commas (v ∷ ws))
 
 -- rules alike in all three give no line
-abbrev pub changedLine : ℕ → List (List ℕ) → List ℕ
-changedLine n [] = []
-changedLine n (w ∷ ws) = text "changed\t" ++ (decimal n ++ (text "\t" ++ (commas (w ∷ ws) ++ text "\n")))
+abbrev pub changed_line : ℕ → List (List ℕ) → List ℕ
+changed_line n [] = []
+changed_line n (w ∷ ws) = text "changed\t" ++ (decimal n ++ (text "\t" ++ (commas (w ∷ ws) ++ text "\n")))
 
-unfoldable pub bothLine : ReadRule → ReadRule → List ℕ
-bothLine a b = changedLine a.number (differences a b)
+unfoldable pub both_line : ReadRule → ReadRule → List ℕ
+both_line a b = changed_line a.number (differences a b)
 
 -- ---- two lists of rules, by rising number: a rule of the lower number is in its own list only
 
-unfoldable pub newLines : List ReadRule → List ℕ
-newLines [] = []
-newLines (b ∷ ys) = newLine b ++ newLines ys
+unfoldable pub new_lines : List ReadRule → List ℕ
+new_lines [] = []
+new_lines (b ∷ ys) = new_line b ++ new_lines ys
 
 -- the first list begins with a; `rest` is what is written for the rules after it and some rules of the second
-unfoldable pub mergedBy : ReadRule → (List ReadRule → List ℕ) → List ReadRule → List ℕ
-mergedBy a rest [] = oldLine a ++ rest []
-mergedBy a rest (b ∷ ys) =
+unfoldable pub merged_by : ReadRule → (List ReadRule → List ℕ) → List ReadRule → List ℕ
+merged_by a rest [] = old_line a ++ rest []
+merged_by a rest (b ∷ ys) =
     if ltb a.number b.number
-    then oldLine a ++ rest (b ∷ ys)
-    else if ltb b.number a.number then newLine b ++ mergedBy a rest ys else bothLine a b ++ rest ys
+    then old_line a ++ rest (b ∷ ys)
+    else if ltb b.number a.number then new_line b ++ merged_by a rest ys else both_line a b ++ rest ys
 
-unfoldable pub rulesOutput : List ReadRule → List ReadRule → List ℕ
-rulesOutput [] ys = newLines ys
-rulesOutput (a ∷ xs) ys = mergedBy a (rulesOutput xs) ys
+unfoldable pub rules_output : List ReadRule → List ReadRule → List ℕ
+rules_output [] ys = new_lines ys
+rules_output (a ∷ xs) ys = merged_by a (rules_output xs) ys
 
 -- ---- the whole
 
 -- `first` or `second` with its tab, refusal, tab, line
-unfoldable pub refusedOutput : List ℕ → Refusal → ℕ → List ℕ
-refusedOutput which r line = which ++ (refusedLine r line ++ text "\n")
+unfoldable pub refused_output : List ℕ → Refusal → ℕ → List ℕ
+refused_output which r line = which ++ (refused_line r line ++ text "\n")
 
 -- the first book's refusal, else the second's
-abbrev pub outputIf : Judgement → Judgement → List ReadRule → List ReadRule → List ℕ
-outputIf (Refused r line) j xs ys = refusedOutput (text "first\t") r line
-outputIf (Accepted n) (Refused r line) xs ys = refusedOutput (text "second\t") r line
-outputIf (Accepted n) (Accepted m) xs ys = rulesOutput xs ys
+abbrev pub output_if : Judgement → Judgement → List ReadRule → List ReadRule → List ℕ
+output_if (Refused r line) j xs ys = refused_output (text "first\t") r line
+output_if (Accepted n) (Refused r line) xs ys = refused_output (text "second\t") r line
+output_if (Accepted n) (Accepted m) xs ys = rules_output xs ys
 
 -- ALL THAT IS WRITTEN for two books
-unfoldable pub compareOutput : Limits → List ℕ → List ℕ → List ℕ
-compareOutput lim first second = outputIf (judge lim first) (judge lim second) (readRules lim first) (readRules lim second)
+unfoldable pub compare_output : Limits → List ℕ → List ℕ → List ℕ
+compare_output lim first second = output_if (judge lim first) (judge lim second) (read_rules lim first) (read_rules lim second)

@@ -5,30 +5,30 @@ use mathlib.Core.List.{[], ◌++◌}
 use Prim.Native.Nat.{ℕ}
 use Rattle.forms.specs.Bytes.{text}
 use Rattle.forms.proofs.Sound.{never}
-use Rattle.definitions.specs.Canonical.{decimal, textIf}
-use Rattle.compare_laws.specs.Comparisons.{differing, commas, changedLine}
+use Rattle.definitions.specs.Canonical.{decimal, text_if}
+use Rattle.compare_laws.specs.Comparisons.{differing, commas, changed_line}
 
-pub words-parted : (s a t : Bool) → commas (differing s a t)
-    ≡ textIf s (text "state") ++ (textIf (s && a) (text ",") ++ (textIf a (text "action") ++ (textIf ((s || a) && t) (text ",") ++ textIf t (text "text"))))
-words-parted true true true = refl
-words-parted true true false = refl
-words-parted true false true = refl
-words-parted true false false = refl
-words-parted false true true = refl
-words-parted false true false = refl
-words-parted false false true = refl
-words-parted false false false = refl
+pub words_parted : (s a t : Bool) → commas (differing s a t)
+    ≡ text_if s (text "state") ++ (text_if (s && a) (text ",") ++ (text_if a (text "action") ++ (text_if ((s || a) && t) (text ",") ++ text_if t (text "text"))))
+words_parted true true true = refl
+words_parted true true false = refl
+words_parted true false true = refl
+words_parted true false false = refl
+words_parted false true true = refl
+words_parted false true false = refl
+words_parted false false true = refl
+words_parted false false false = refl
 
 -- no line where nothing differs
-pub nothing-changed : (n : ℕ) (s a t : Bool) → ((s || a) || t) ≡ false → changedLine n (differing s a t) ≡ []
-nothing-changed n true a t e = never (cc)
-nothing-changed n false true t e = never (cc)
-nothing-changed n false false true e = never (cc)
-nothing-changed n false false false e = refl
+pub nothing_changed : (n : ℕ) (s a t : Bool) → ((s || a) || t) ≡ false → changed_line n (differing s a t) ≡ []
+nothing_changed n true a t e = never (cc)
+nothing_changed n false true t e = never (cc)
+nothing_changed n false false true e = never (cc)
+nothing_changed n false false false e = refl
 
-pub something-changed : (n : ℕ) (s a t : Bool) → ((s || a) || t) ≡ true
-    → changedLine n (differing s a t) ≡ text "changed\t" ++ (decimal n ++ (text "\t" ++ (commas (differing s a t) ++ text "\n")))
-something-changed n true a t e = refl
-something-changed n false true t e = refl
-something-changed n false false true e = refl
-something-changed n false false false e = never (cc)
+pub something_changed : (n : ℕ) (s a t : Bool) → ((s || a) || t) ≡ true
+    → changed_line n (differing s a t) ≡ text "changed\t" ++ (decimal n ++ (text "\t" ++ (commas (differing s a t) ++ text "\n")))
+something_changed n true a t e = refl
+something_changed n false true t e = refl
+something_changed n false false true e = refl
+something_changed n false false false e = never (cc)

@@ -1,13 +1,13 @@
 // The lines that are written for two rule books, put into a lent buffer.
 ghost use Rattle.forms.specs.Bytes.{text};
 ghost use Rattle.write_bytes.specs.Puts.{Puts};
-ghost use Rattle.compare_laws.specs.Comparisons.{differing, commas, numberLine, changedLine};
+ghost use Rattle.compare_laws.specs.Comparisons.{differing, commas, number_line, changed_line};
 
 use write_bytes::{put, put_decimal, put_if, put_word};
 
 // A word with its tab, and a rule's number.
 fn put_number_line(out: &mut [u8], at: usize, word: &[u8], number: u16) -> usize
-    ensures { Puts out.old at (numberLine word.now number) out.new result }
+    ensures { Puts out.old at (number_line word.now number) out.new result }
 {
     let a1 = put_word(out, at, word);
     let a2 = put_decimal(out, a1, number as u64);
@@ -16,14 +16,14 @@ fn put_number_line(out: &mut [u8], at: usize, word: &[u8], number: u16) -> usize
 
 // A rule that is in the first book only.
 pub fn put_old(out: &mut [u8], at: usize, number: u16) -> usize
-    ensures { Puts out.old at (numberLine (text "old\t") number) out.new result }
+    ensures { Puts out.old at (number_line (text "old\t") number) out.new result }
 {
     put_number_line(out, at, b"old\t", number)
 }
 
 // A rule that is in the second book only.
 pub fn put_new(out: &mut [u8], at: usize, number: u16) -> usize
-    ensures { Puts out.old at (numberLine (text "new\t") number) out.new result }
+    ensures { Puts out.old at (number_line (text "new\t") number) out.new result }
 {
     put_number_line(out, at, b"new\t", number)
 }
@@ -48,7 +48,7 @@ pub fn put_changed(
     action: bool,
     table: bool,
 ) -> usize
-    ensures { Puts out.old at (changedLine number (differing state action table)) out.new result }
+    ensures { Puts out.old at (changed_line number (differing state action table)) out.new result }
 {
     if !(state | action | table) {
         return at;

@@ -11,13 +11,13 @@ pub record Still (out₀ : List ℕ) (at₀ : ℕ) (all out : List ℕ) (at : �
 
 module _ {out₀ : List ℕ} {at₀ : ℕ} {all out : List ℕ} {at : ℕ} {l : List ℕ} (h : Still out₀ at₀ all out at l) where
   -- a part of it was put
-  pub still-on : {k m o : List ℕ} {n : ℕ} → l ≡ k ++ m → Puts out at k o n → Still out₀ at₀ all o n m
-  still-on {m = m} e p = record { is = h.is ∙ ap (puts out at) e ∙ onward m p }
+  pub still_on : {k m o : List ℕ} {n : ℕ} → l ≡ k ++ m → Puts out at k o n → Still out₀ at₀ all o n m
+  still_on {m = m} e p = record { is = h.is ∙ ap (puts out at) e ∙ onward m p }
 
   -- nothing is left; all of it was put
-  pub still-none : l ≡ [] → Puts out₀ at₀ all out at
+  pub still_none : l ≡ [] → Puts out₀ at₀ all out at
   unfolding puts
-  still-none e = record { is = sym (h.is ∙ ap (puts out at) e) }
+  still_none e = record { is = sym (h.is ∙ ap (puts out at) e) }
 
-  pub still-last : {k o : List ℕ} {n : ℕ} → l ≡ k → Puts out at k o n → Puts out₀ at₀ all o n
-  still-last e p = record { is = p.is ∙ ap (puts out at) (sym e) ∙ sym h.is }
+  pub still_last : {k o : List ℕ} {n : ℕ} → l ≡ k → Puts out at k o n → Puts out₀ at₀ all o n
+  still_last e p = record { is = p.is ∙ ap (puts out at) (sym e) ∙ sym h.is }

@@ -1,9 +1,9 @@
 // The lines of the rules of two loaded books, put into a lent buffer. It knows what the reader and the equality of tables promise, and nothing of how they do it.
 ghost use Rattle.std.specs.Prelude.{◌≡◌, not};
 ghost use Rattle.write_bytes.specs.Puts.{Puts};
-ghost use Rattle.table_equality.specs.SameTables.{sameTable};
-ghost use Rattle.compare_laws.specs.Comparisons.{sameState, sameAction, bothLine, newLines, rulesOutput};
-ghost use Rattle.compare_rules.specs.LoadedRules.{readAt, readFrom};
+ghost use Rattle.table_equality.specs.SameTables.{same_table};
+ghost use Rattle.compare_laws.specs.Comparisons.{same_state, same_action, both_line, new_lines, rules_output};
+ghost use Rattle.compare_rules.specs.LoadedRules.{read_at, read_from};
 
 use compare_lines::{put_changed, put_new, put_old};
 use definitions::books::{Action, LoadedRule, Rules, State};
@@ -13,7 +13,7 @@ use table_equality::same_table;
 use write_bytes::limits::at_most;
 
 fn states_differ(a: State, b: State) -> bool
-    ensures { result ≡ not (sameState a b) }
+    ensures { result ≡ not (same_state a b) }
 {
     match a {
         State::On => match b {
@@ -28,7 +28,7 @@ fn states_differ(a: State, b: State) -> bool
 }
 
 fn actions_differ(a: Action, b: Action) -> bool
-    ensures { result ≡ not (sameAction a b) }
+    ensures { result ≡ not (same_action a b) }
 {
     match a {
         Action::Pass => match b {
@@ -44,7 +44,7 @@ fn actions_differ(a: Action, b: Action) -> bool
 
 // Whether the texts of two rules have different tables: both are read, whatever they look like.
 fn texts_differ(first: &[u8], a: LoadedRule, second: &[u8], b: LoadedRule) -> bool
-    ensures { result ≡ not (sameTable (readAt first.now a).table (readAt second.now b).table) }
+    ensures { result ≡ not (same_table (read_at first.now a).table (read_at second.now b).table) }
 {
     let x = reader::read(text_at(first, a.start, a.len));
     let y = reader::read(text_at(second, b.start, b.len));
@@ -60,7 +60,7 @@ fn put_both(
     second: &[u8],
     b: LoadedRule,
 ) -> usize
-    ensures { Puts out.old at (bothLine (readAt first.now a) (readAt second.now b)) out.new result }
+    ensures { Puts out.old at (both_line (read_at first.now a) (read_at second.now b)) out.new result }
 {
     let s = a.state;
     let t = b.state;
@@ -74,7 +74,7 @@ fn put_both(
 
 // The lines of rules that are in the second book only: those from a place on.
 fn put_news(out: &mut [u8], at: usize, second: &[u8], rules: Rules, from: usize) -> usize
-    ensures { Puts out.old at (newLines (readFrom second.now rules from)) out.new result }
+    ensures { Puts out.old at (new_lines (read_from second.now rules from)) out.new result }
 {
     let n = at_most(rules.count, RULES);
     let mut next = at;
@@ -96,7 +96,7 @@ pub fn put_rules(
     second: &[u8],
     b: Rules,
 ) -> usize
-    ensures { Puts out.old at (rulesOutput (readFrom first.now a 0) (readFrom second.now b 0)) out.new result }
+    ensures { Puts out.old at (rules_output (read_from first.now a 0) (read_from second.now b 0)) out.new result }
 {
     let n = at_most(a.count, RULES);
     let m = at_most(b.count, RULES);

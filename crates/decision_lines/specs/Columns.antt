@@ -1,24 +1,24 @@
 -- The answer by the five columns of a line.
 use Rattle.std.specs.Prelude.{Bool, ◌&&◌, List, ℕ}
 use Rattle.forms.specs.Bytes.{if◌then◌else◌, text}
-use Rattle.definitions.specs.Limits.{documentLimits}
+use Rattle.definitions.specs.Limits.{document_limits}
 use Rattle.definitions.specs.Decisions.{decision}
 use Rattle.definitions.specs.Cases.{pairs}
-use Rattle.line_numbers.specs.HexPairs.{isHex}
-use Rattle.line_packets.specs.Directions.{isDirection, directionOf}
-use Rattle.line_fields.specs.FieldMaps.{isMap, mapOf}
-use Rattle.decision_lines.specs.DecisionLines.{decisionText}
+use Rattle.line_numbers.specs.HexPairs.{is_hex}
+use Rattle.line_packets.specs.Directions.{is_direction, direction_of}
+use Rattle.line_fields.specs.FieldMaps.{is_map, map_of}
+use Rattle.decision_lines.specs.DecisionLines.{decision_text}
 
 -- bytes that the pairs of a column write at most
-abbrev pub maxPairs : ℕ
-maxPairs = 131072
+abbrev pub max_pairs : ℕ
+max_pairs = 131072
 
 module _ (origin packet fields decoded book : List ℕ) where
-  unfoldable pub areColumns : Bool
-  areColumns = isDirection origin && (isHex packet && (isMap fields && (isHex decoded && isHex book)))
+  unfoldable pub are_columns : Bool
+  are_columns = is_direction origin && (is_hex packet && (is_map fields && (is_hex decoded && is_hex book)))
 
-  unfoldable pub columnsText : List ℕ
-  columnsText =
-      if areColumns
-      then decisionText (decision documentLimits (pairs packet) (pairs decoded) (directionOf origin) (mapOf fields) (pairs book))
+  unfoldable pub columns_text : List ℕ
+  columns_text =
+      if are_columns
+      then decision_text (decision document_limits (pairs packet) (pairs decoded) (direction_of origin) (map_of fields) (pairs book))
       else text "bad"

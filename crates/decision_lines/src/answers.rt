@@ -3,11 +3,11 @@ ghost use Rattle.std.specs.Prelude.{◌≡◌, true, ◌≤◌, length};
 ghost use Rattle.definitions.specs.declared.books.Decision.TheVariants as decided;
 ghost use Rattle.definitions.specs.Cases.{pairs};
 ghost use Rattle.definitions.specs.Decisions.{decision};
-ghost use Rattle.definitions.specs.Limits.{documentLimits};
+ghost use Rattle.definitions.specs.Limits.{document_limits};
 ghost use Rattle.write_bytes.specs.Puts.{Puts};
-ghost use Rattle.line_numbers.specs.HexPairs.{isHex};
-ghost use Rattle.decision_lines.specs.DecisionLines.{maxLine, actionText, decisionText, decisionAnswer};
-ghost use Rattle.decision_lines.specs.Columns.{columnsText};
+ghost use Rattle.line_numbers.specs.HexPairs.{is_hex};
+ghost use Rattle.decision_lines.specs.DecisionLines.{max_line, action_text, decision_text, decision_answer};
+ghost use Rattle.decision_lines.specs.Columns.{columns_text};
 
 use definitions::answers::Refusal;
 use definitions::books::{Action, Decision};
@@ -25,7 +25,7 @@ pub const PAIRS: usize = DECISION_BYTES / 2;
 
 // The action's word and a space.
 fn put_action(out: &mut [u8], at: usize, a: Action) -> usize
-    ensures { Puts out.old at (actionText a) out.new result }
+    ensures { Puts out.old at (action_text a) out.new result }
 {
     match a {
         Action::Pass => put_word(out, at, b"pass "),
@@ -35,7 +35,7 @@ fn put_action(out: &mut [u8], at: usize, a: Action) -> usize
 
 // A book's refusal with its line.
 fn put_unjudged(out: &mut [u8], at: usize, r: Refusal, line: usize) -> usize
-    ensures { Puts out.old at (decisionText (decided.Refused r line)) out.new result }
+    ensures { Puts out.old at (decision_text (decided.Refused r line)) out.new result }
 {
     let a1 = put_word(out, at, b"refused ");
     let a2 = put_decimal(out, a1, number_of(r));
@@ -45,7 +45,7 @@ fn put_unjudged(out: &mut [u8], at: usize, r: Refusal, line: usize) -> usize
 
 // Action and rule, or the book's refusal with its line.
 fn put_decision(out: &mut [u8], at: usize, d: Decision) -> usize
-    ensures { Puts out.old at (decisionText d) out.new result }
+    ensures { Puts out.old at (decision_text d) out.new result }
 {
     match d {
         Decision::Decided(action, number) => {
@@ -68,8 +68,8 @@ fn put_formed(
     more: &mut [u8; PAIRS],
     book_room: &mut [u8; PAIRS],
 ) -> usize
-    requires { (isHex packet.now ≡ true) × (isHex decoded.now ≡ true) × (isHex book.now ≡ true) × (length packet.now ≤ maxLine) × (length decoded.now ≤ maxLine) × (length book.now ≤ maxLine) }
-    ensures { Puts out.old at (decisionText (decision documentLimits (pairs packet.now) (pairs decoded.now) located.direction located.fields (pairs book.now))) out.new result }
+    requires { (is_hex packet.now ≡ true) × (is_hex decoded.now ≡ true) × (is_hex book.now ≡ true) × (length packet.now ≤ max_line) × (length decoded.now ≤ max_line) × (length book.now ≤ max_line) }
+    ensures { Puts out.old at (decision_text (decision document_limits (pairs packet.now) (pairs decoded.now) located.direction located.fields (pairs book.now))) out.new result }
 {
     let n = put_pairs(room, 0, packet);
     let d = put_pairs(more, 0, decoded);
@@ -101,8 +101,8 @@ fn put_columns(
     more: &mut [u8; PAIRS],
     book_room: &mut [u8; PAIRS],
 ) -> usize
-    requires { (length packet.now ≤ maxLine) × (length decoded.now ≤ maxLine) × (length book.now ≤ maxLine) }
-    ensures { Puts out.old at (columnsText origin.now packet.now fields.now decoded.now book.now) out.new result }
+    requires { (length packet.now ≤ max_line) × (length decoded.now ≤ max_line) × (length book.now ≤ max_line) }
+    ensures { Puts out.old at (columns_text origin.now packet.now fields.now decoded.now book.now) out.new result }
 {
     if !is_hex_pairs(book) {
         return put_word(out, at, b"bad");
@@ -124,7 +124,7 @@ pub fn answer_decision(
     more: &mut [u8; PAIRS],
     book_room: &mut [u8; PAIRS],
 ) -> usize
-    ensures { Puts out.old at (decisionAnswer line.now) out.new result }
+    ensures { Puts out.old at (decision_answer line.now) out.new result }
 {
     if DECISION_BYTES < line.len() {
         return put_word(out, at, b"bad");

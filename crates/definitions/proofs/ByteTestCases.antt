@@ -4,13 +4,13 @@ use mathlib.Core.Bool.{true}
 use Rattle.definitions.specs.Lists.{all?}
 use Rattle.definitions.specs.Cases.{right}
 use Rattle.definitions.specs.NumberCases.{agrees}
-use Rattle.definitions.specs.ByteTestCases.{byteTestTexts, byteTestCases}
+use Rattle.definitions.specs.ByteTestCases.{byte_test_texts, byte_test_cases}
 use Rattle.definitions.specs.Computing.{computing}
 
-pub byte-test-texts : all? agrees byteTestTexts ≡ true
+pub byte_test_texts_lem : all? agrees byte_test_texts ≡ true
 unfolding computing
-byte-test-texts = refl
+byte_test_texts_lem = refl
 
-pub byte-test-cases : all? right byteTestCases ≡ true
+pub byte_test_cases_lem : all? right byte_test_cases ≡ true
 unfolding computing
-byte-test-cases = refl
+byte_test_cases_lem = refl

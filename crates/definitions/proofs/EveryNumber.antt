@@ -3,20 +3,20 @@
 use mathlib.Core.Path.{◌≡◌, refl}
 use mathlib.Core.Bool.{true, ◌&&◌}
 use Rattle.definitions.specs.Lists.{all?}
-use Rattle.definitions.specs.NumberCases.{agrees, shownIn, refusalNumbers, numberCases}
-use Rattle.definitions.specs.PlaceCases.{formPlaces, limitPlaces}
+use Rattle.definitions.specs.NumberCases.{agrees, shown_in, refusal_numbers, number_cases}
+use Rattle.definitions.specs.PlaceCases.{form_places, limit_places}
 use Rattle.definitions.specs.Computing.{computing}
 
 -- what is said of each example is what the definitions give, and every number is among them
-pub every-number : (all? agrees numberCases && all? (shownIn numberCases) refusalNumbers) ≡ true
+pub every_number_lem : (all? agrees number_cases && all? (shown_in number_cases) refusal_numbers) ≡ true
 unfolding computing
-every-number = refl
+every_number_lem = refl
 
 -- 6 and 7 are placed as document 02 has it, and what stands beside them keeps its place
-pub form-places : all? agrees formPlaces ≡ true
+pub form_places_lem : all? agrees form_places ≡ true
 unfolding computing
-form-places = refl
+form_places_lem = refl
 
-pub limit-places : all? agrees limitPlaces ≡ true
+pub limit_places_lem : all? agrees limit_places ≡ true
 unfolding computing
-limit-places = refl
+limit_places_lem = refl

@@ -3,13 +3,13 @@ use mathlib.Core.Path.{◌≡◌, refl}
 use mathlib.Core.Bool.{true}
 use Rattle.definitions.specs.Lists.{all?}
 use Rattle.definitions.specs.NumberCases.{agrees}
-use Rattle.definitions.specs.IpIdCases.{ipIdCases, oldKindCases}
+use Rattle.definitions.specs.IpIdCases.{ip_id_cases, old_kind_cases}
 use Rattle.definitions.specs.Computing.{computing}
 
-pub ip-id-cases : all? agrees ipIdCases ≡ true
+pub ip_id_cases_lem : all? agrees ip_id_cases ≡ true
 unfolding computing
-ip-id-cases = refl
+ip_id_cases_lem = refl
 
-pub old-kind-cases : all? agrees oldKindCases ≡ true
+pub old_kind_cases_lem : all? agrees old_kind_cases ≡ true
 unfolding computing
-old-kind-cases = refl
+old_kind_cases_lem = refl

@@ -9,9 +9,9 @@ use lib.ListN.{length}
 use lib.Dec.{eqb}
 use Rattle.forms.specs.Bytes.{text}
 use Rattle.definitions.specs.declared.answers.ReadOutcome.{ReadOutcome}
-use Rattle.definitions.specs.Limits.{documentLimits}
+use Rattle.definitions.specs.Limits.{document_limits}
 use Rattle.definitions.specs.Lists.{all?}
-use Rattle.definitions.specs.Refusals.{readNumber, read_place}
+use Rattle.definitions.specs.Refusals.{read_number, read_place}
 use Rattle.definitions.specs.Reading.{read}
 use Rattle.definitions.specs.Computing.{computing}
 
@@ -24,8 +24,8 @@ pub record LeftOut : Type 0 where
 pub row : ℕ → ℕ → String → LeftOut
 row n p s = record { number = n; passed = p; option = s }
 
-pub leftOut : List LeftOut
-leftOut =
+pub left_out : List LeftOut
+left_out =
     row 5 0 "pcre 1;" ∷
     row 5 0 "byte_jump 1;" ∷
     row 5 0 "tag 1;" ∷
@@ -52,12 +52,12 @@ leftOut =
 pub front : List ℕ
 front = text "F-SBID(--name \"n\";--protocol 6;"
 
-pub refusedAt : ℕ → ℕ → ReadOutcome → Bool
-refusedAt n p o = eqb (readNumber o) n && eqb (read_place o) p
+pub refused_at : ℕ → ℕ → ReadOutcome → Bool
+refused_at n p o = eqb (read_number o) n && eqb (read_place o) p
 
 pub refused : LeftOut → Bool
-refused l = refusedAt l.number (length front + l.passed) (read documentLimits (front ++ (text "--" ++ (text l.option ++ text ")")))).outcome
+refused l = refused_at l.number (length front + l.passed) (read document_limits (front ++ (text "--" ++ (text l.option ++ text ")")))).outcome
 
-pub left_out : all? refused leftOut ≡ true
-unfolding computing row leftOut front refusedAt refused
-left_out = refl
+pub left_out_lem : all? refused left_out ≡ true
+unfolding computing row left_out front refused_at refused
+left_out_lem = refl

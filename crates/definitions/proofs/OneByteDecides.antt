@@ -2,13 +2,13 @@
 use mathlib.Core.Path.{◌≡◌, refl}
 use mathlib.Core.Bool.{Bool, true, ◌&&◌}
 use mathlib.Core.List.{List, [], ◌∷◌}
-use Rattle.forms.specs.Scan.{isLL1}
-use Rattle.definitions.specs.Options.{Option, optionTable}
+use Rattle.forms.specs.Scan.{is_ll1}
+use Rattle.definitions.specs.Options.{Option, option_table}
 
-unfoldable pub allLL1 : List Option → Bool
-allLL1 [] = true
-allLL1 (o ∷ os) = isLL1 o.form && allLL1 os
+unfoldable pub all_ll1 : List Option → Bool
+all_ll1 [] = true
+all_ll1 (o ∷ os) = is_ll1 o.form && all_ll1 os
 
-pub options-one-byte : allLL1 optionTable ≡ true
-unfolding allLL1 optionTable
-options-one-byte = refl
+pub options_one_byte : all_ll1 option_table ≡ true
+unfolding all_ll1 option_table
+options_one_byte = refl

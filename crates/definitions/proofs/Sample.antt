@@ -3,8 +3,8 @@ use mathlib.Core.Path.{◌≡◌, refl}
 use mathlib.Core.List.{List, ◌++◌}
 use Prim.Native.Nat.{ℕ}
 use Rattle.forms.specs.Bytes.{text}
-use Rattle.definitions.specs.Limits.{documentLimits}
-use Rattle.definitions.specs.Lines.{programOutput}
+use Rattle.definitions.specs.Limits.{document_limits}
+use Rattle.definitions.specs.Lines.{program_output}
 use Rattle.definitions.specs.Computing.{computing}
 
 pub input : List ℕ
@@ -17,6 +17,6 @@ output =
     text "1\tok\tF-SBID( --name \"H.SET\"; --protocol 6; --pattern \"SET \"; --within 10; )\n"
     ++ text "2\t12\t8\n"
 
-pub sample : programOutput documentLimits input ≡ output
+pub sample : program_output document_limits input ≡ output
 unfolding computing input output
 sample = refl

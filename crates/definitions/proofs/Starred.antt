@@ -2,7 +2,7 @@
 use mathlib.Core.Path.{◌≡◌, refl}
 use mathlib.Core.Bool.{true}
 use Rattle.definitions.specs.Lists.{all?}
-use Rattle.definitions.specs.Cases.{cases, knownMistakes, dataAtCases, right}
+use Rattle.definitions.specs.Cases.{cases, known_mistakes, data_at_cases, right}
 use Rattle.definitions.specs.Computing.{computing}
 
 pub starred : all? right cases ≡ true
@@ -10,11 +10,11 @@ unfolding computing
 starred = refl
 
 -- and so do the cases of the slips
-pub known-mistakes-avoided : all? right knownMistakes ≡ true
+pub known_mistakes_avoided : all? right known_mistakes ≡ true
 unfolding computing
-known-mistakes-avoided = refl
+known_mistakes_avoided = refl
 
 -- and those of data_at from both starting points
-pub data-at-cases : all? right dataAtCases ≡ true
+pub data_at_cases_lem : all? right data_at_cases ≡ true
 unfolding computing
-data-at-cases = refl
+data_at_cases_lem = refl

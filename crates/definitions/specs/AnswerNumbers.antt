@@ -21,68 +21,68 @@ use Rattle.definitions.specs.declared.books.Judgement.{Judgement}
 use Rattle.definitions.specs.declared.books.Judgement.TheVariants as judgement
 use Rattle.definitions.specs.declared.books.Decision.{Decision}
 use Rattle.definitions.specs.declared.books.Decision.TheVariants as decision
-use Rattle.definitions.specs.Limits.{Limits, maxPatterns}
+use Rattle.definitions.specs.Limits.{Limits, max_patterns}
 use Rattle.definitions.specs.Lists.{keep, padded}
-use Rattle.definitions.specs.Starts.{startNumber}
-use Rattle.definitions.specs.Refusals.{number_of, checkNumber, readNumber, read_place, writeNumber, writeLength, packetNumber, verdictNumber, verdictMet}
-use Rattle.definitions.specs.Refusals.{foundNumber, foundOne, and_then}
+use Rattle.definitions.specs.Starts.{start_number}
+use Rattle.definitions.specs.Refusals.{number_of, check_number, read_number, read_place, write_number, write_length, packet_number, verdict_number, verdict_met}
+use Rattle.definitions.specs.Refusals.{found_number, found_one, and_then}
 use Rattle.definitions.specs.Reading.{read}
-use Rattle.definitions.specs.Canonical.{canonicalText}
-use Rattle.definitions.specs.Writing.{writingCheck}
-use Rattle.definitions.specs.Packet.{datagramOf, headerOf, packetCheck}
-use Rattle.definitions.specs.Fields.{fieldsCheck}
-use Rattle.definitions.specs.Placements.{lexLess}
-use Rattle.definitions.specs.Answers.{startsOf, inputCheck, placementsOf, earlierCheck}
+use Rattle.definitions.specs.Canonical.{canonical_text}
+use Rattle.definitions.specs.Writing.{writing_check}
+use Rattle.definitions.specs.Packet.{datagram_of, header_of, packet_check}
+use Rattle.definitions.specs.Fields.{fields_check}
+use Rattle.definitions.specs.Placements.{lex_less}
+use Rattle.definitions.specs.Answers.{starts_of, input_check, placements_of, earlier_check}
 use Rattle.definitions.specs.Books.{judge}
 use Rattle.definitions.specs.Decisions.{decision as decisionOf}
 
 -- ---- of an answer, case by case
 
 -- number, place
-abbrev pub readNumbers : ReadOutcome → List ℕ
-readNumbers o = readNumber o ∷ read_place o ∷ []
+abbrev pub read_numbers : ReadOutcome → List ℕ
+read_numbers o = read_number o ∷ read_place o ∷ []
 
 -- number, bytes written
-abbrev pub writeNumbers : Writing → List ℕ
-writeNumbers w = writeNumber w ∷ writeLength w ∷ []
+abbrev pub write_numbers : Writing → List ℕ
+write_numbers w = write_number w ∷ write_length w ∷ []
 
 -- number, header fields; a refusal has none
-abbrev pub headerNumbers : PacketHeader → List ℕ
-headerNumbers h =
+abbrev pub header_numbers : PacketHeader → List ℕ
+header_numbers h =
     h.total ∷ h.payload ∷ h.protocol ∷ h.tos ∷ h.id ∷ h.ttl ∷ h.checksum ∷ h.source ∷ h.destination ∷ h.sport ∷ h.dport ∷ []
 
-abbrev pub headerValues : PacketAnswer → List ℕ
-headerValues (Seen h) = headerNumbers h
-headerValues (Refused r) = []
+abbrev pub header_values : PacketAnswer → List ℕ
+header_values (Seen h) = header_numbers h
+header_values (Refused r) = []
 
-abbrev pub packetNumbers : PacketAnswer → List ℕ
-packetNumbers a = packetNumber a ∷ headerValues a
+abbrev pub packet_numbers : PacketAnswer → List ℕ
+packet_numbers a = packet_number a ∷ header_values a
 
 -- a check: number
-abbrev pub checkNumbers : Check → List ℕ
-checkNumbers c = checkNumber c ∷ []
+abbrev pub check_numbers : Check → List ℕ
+check_numbers c = check_number c ∷ []
 
 -- number, 1 for met
-abbrev pub verdictNumbers : Verdict → List ℕ
-verdictNumbers v = verdictNumber v ∷ verdictMet v ∷ []
+abbrev pub verdict_numbers : Verdict → List ℕ
+verdict_numbers v = verdict_number v ∷ verdict_met v ∷ []
 
 -- number, 1 for found, count, starts and unused room
-abbrev pub answerNumbers : Answer → List ℕ
-answerNumbers a = foundNumber a.found ∷ foundOne a.found ∷ a.placement.count ∷ map startNumber a.placement.starts
+abbrev pub answer_numbers : Answer → List ℕ
+answer_numbers a = found_number a.found ∷ found_one a.found ∷ a.placement.count ∷ map start_number a.placement.starts
 
 -- a book: number, line, how many rules
-abbrev pub judgementNumbers : Judgement → List ℕ
-judgementNumbers (judgement.Accepted n) = 0 ∷ 0 ∷ n ∷ []
-judgementNumbers (judgement.Refused r line) = number_of r ∷ line ∷ 0 ∷ []
+abbrev pub judgement_numbers : Judgement → List ℕ
+judgement_numbers (judgement.Accepted n) = 0 ∷ 0 ∷ n ∷ []
+judgement_numbers (judgement.Refused r line) = number_of r ∷ line ∷ 0 ∷ []
 
 -- a decision: number, line, 1 for pass, rule; a refusal passes nothing
-abbrev pub passNumber : Action → ℕ
-passNumber action.Pass = 1
-passNumber action.Hold = 0
+abbrev pub pass_number : Action → ℕ
+pass_number action.Pass = 1
+pass_number action.Hold = 0
 
-abbrev pub decisionNumbers : Decision → List ℕ
-decisionNumbers (decision.Decided a n) = 0 ∷ 0 ∷ passNumber a ∷ n ∷ []
-decisionNumbers (decision.Refused r line) = number_of r ∷ line ∷ 0 ∷ 0 ∷ []
+abbrev pub decision_numbers : Decision → List ℕ
+decision_numbers (decision.Decided a n) = 0 ∷ 0 ∷ pass_number a ∷ n ∷ []
+decision_numbers (decision.Refused r line) = number_of r ∷ line ∷ 0 ∷ 0 ∷ []
 
 -- ---- of what an entry is given
 
@@ -92,54 +92,54 @@ numbered Pass v w = 0 ∷ v
 numbered (Refuse r) v w = number_of r ∷ w
 
 -- reading a text: 1 to 12, and the place; a success has number and place 0
-abbrev pub readInNumbers : Limits → List ℕ → List ℕ
-readInNumbers lim s = readNumbers (read lim s).outcome
+abbrev pub read_in_numbers : Limits → List ℕ → List ℕ
+read_in_numbers lim s = read_numbers (read lim s).outcome
 
 -- writing a table into a buffer of n bytes: 20 to 22, and nothing is written; else the canonical text's length
-abbrev pub writeInNumbers : Limits → Table → ℕ → List ℕ
-writeInNumbers lim t n = numbered (writingCheck lim t n) (length (canonicalText t) ∷ []) (0 ∷ [])
+abbrev pub write_in_numbers : Limits → Table → ℕ → List ℕ
+write_in_numbers lim t n = numbered (writing_check lim t n) (length (canonical_text t) ∷ []) (0 ∷ [])
 
 -- a packet: 30 to 34, else its header fields
-abbrev pub packetInNumbers : List ℕ → List ℕ → List ℕ
-packetInNumbers p decoded = numbered (packetCheck p decoded) (headerNumbers (headerOf (datagramOf p))) []
+abbrev pub packet_in_numbers : List ℕ → List ℕ → List ℕ
+packet_in_numbers p decoded = numbered (packet_check p decoded) (header_numbers (header_of (datagram_of p))) []
 
 -- a packet's fields: 35
-abbrev pub fieldsInNumbers : List ℕ → List ℕ → FieldMap → List ℕ
-fieldsInNumbers payload decoded m = numbered (fieldsCheck payload decoded m) [] []
+abbrev pub fields_in_numbers : List ℕ → List ℕ → FieldMap → List ℕ
+fields_in_numbers payload decoded m = numbered (fields_check payload decoded m) [] []
 
 -- met if the list of placements is not empty
-abbrev pub metNumber : List (List Start) → ℕ
-metNumber [] = 0
-metNumber (q ∷ qs) = 1
+abbrev pub met_number : List (List Start) → ℕ
+met_number [] = 0
+met_number (q ∷ qs) = 1
 
 -- the first of a list of placements: found, count, starts, unused room zero. None's placement, and a refusal's, has count 0
-abbrev pub noneNumbers : List ℕ
-noneNumbers = 0 ∷ 0 ∷ replicate maxPatterns 0
+abbrev pub none_numbers : List ℕ
+none_numbers = 0 ∷ 0 ∷ replicate max_patterns 0
 
-abbrev pub placedNumbers : List (List Start) → List ℕ
-placedNumbers [] = noneNumbers
-placedNumbers (q ∷ qs) = 1 ∷ length q ∷ padded maxPatterns 0 (map startNumber q)
+abbrev pub placed_numbers : List (List Start) → List ℕ
+placed_numbers [] = none_numbers
+placed_numbers (q ∷ qs) = 1 ∷ length q ∷ padded max_patterns 0 (map start_number q)
 
 module _ (t : Table) (p decoded : List ℕ) (dir : Direction) (m : FieldMap) where
   -- the verdict: 20, 30 to 35, else met or not
-  abbrev pub verdictInNumbers : List ℕ
-  verdictInNumbers = numbered (inputCheck t p decoded dir m) (metNumber (placementsOf t p decoded dir m) ∷ []) (0 ∷ [])
+  abbrev pub verdict_in_numbers : List ℕ
+  verdict_in_numbers = numbered (input_check t p decoded dir m) (met_number (placements_of t p decoded dir m) ∷ []) (0 ∷ [])
 
   -- first: 20, 30 to 35, else the first of the list of placements
-  abbrev pub firstInNumbers : List ℕ
-  firstInNumbers = numbered (inputCheck t p decoded dir m) (placedNumbers (placementsOf t p decoded dir m)) noneNumbers
+  abbrev pub first_in_numbers : List ℕ
+  first_in_numbers = numbered (input_check t p decoded dir m) (placed_numbers (placements_of t p decoded dir m)) none_numbers
 
   -- next: 20, 30 to 36, else the least of the list after the earlier placement
-  abbrev pub nextInNumbers : Placement → List ℕ
-  nextInNumbers h =
-      numbered (and_then (inputCheck t p decoded dir m) (earlierCheck t p decoded dir m h))
-      (placedNumbers (keep (lexLess (startsOf h)) (placementsOf t p decoded dir m)))
-      noneNumbers
+  abbrev pub next_in_numbers : Placement → List ℕ
+  next_in_numbers h =
+      numbered (and_then (input_check t p decoded dir m) (earlier_check t p decoded dir m h))
+      (placed_numbers (keep (lex_less (starts_of h)) (placements_of t p decoded dir m)))
+      none_numbers
 
 -- judging a book: 1 to 12 and 50 to 53 with the line, else how many rules it has
-abbrev pub judgementInNumbers : Limits → List ℕ → List ℕ
-judgementInNumbers lim book = judgementNumbers (judge lim book)
+abbrev pub judgement_in_numbers : Limits → List ℕ → List ℕ
+judgement_in_numbers lim book = judgement_numbers (judge lim book)
 
 -- deciding: the same refusals, else pass or hold and the rule
-abbrev pub decisionInNumbers : Limits → List ℕ → List ℕ → Direction → FieldMap → List ℕ → List ℕ
-decisionInNumbers lim p decoded dir m book = decisionNumbers (decisionOf lim p decoded dir m book)
+abbrev pub decision_in_numbers : Limits → List ℕ → List ℕ → Direction → FieldMap → List ℕ → List ℕ
+decision_in_numbers lim p decoded dir m book = decision_numbers (decisionOf lim p decoded dir m book)

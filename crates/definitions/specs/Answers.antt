@@ -13,69 +13,69 @@ use Rattle.definitions.specs.declared.answers.Verdict.{Verdict}
 use Rattle.definitions.specs.declared.answers.Verdict.TheVariants as verdict
 use Rattle.definitions.specs.declared.answers.Found.TheVariants.{Placed, Nothing, Refused}
 use Rattle.definitions.specs.declared.answers.Answer.{Answer}
-use Rattle.definitions.specs.Limits.{maxPatterns}
+use Rattle.definitions.specs.Limits.{max_patterns}
 use Rattle.definitions.specs.Lists.{keep, padded}
 use Rattle.definitions.specs.Starts.{start_at}
-use Rattle.definitions.specs.Refusals.{refuseIf, and_then}
-use Rattle.definitions.specs.WellFormed.{wellFormed}
-use Rattle.definitions.specs.Packet.{datagramOf, payloadOf, packetCheck}
-use Rattle.definitions.specs.Fields.{view_of, fieldsCheck}
-use Rattle.definitions.specs.Placements.{lexLess, items_of, positives, listed}
+use Rattle.definitions.specs.Refusals.{refuse_if, and_then}
+use Rattle.definitions.specs.WellFormed.{well_formed}
+use Rattle.definitions.specs.Packet.{datagram_of, payload_of, packet_check}
+use Rattle.definitions.specs.Fields.{view_of, fields_check}
+use Rattle.definitions.specs.Placements.{lex_less, items_of, positives, listed}
 
 -- a placement's starts; and the placement with the starts q, unused room zero
-abbrev pub startsOf : Placement → List Start
-startsOf h = take h.count h.starts
+abbrev pub starts_of : Placement → List Start
+starts_of h = take h.count h.starts
 
-abbrev pub placementOf : List Start → Placement
-placementOf q = record { count = length q; starts = padded maxPatterns (start_at 0) q }
+abbrev pub placement_of : List Start → Placement
+placement_of q = record { count = length q; starts = padded max_patterns (start_at 0) q }
 
 -- the placement of a refusal, and of none, has count 0
-abbrev pub foundAnswer : List Start → Answer
-foundAnswer q = record { found = Placed; placement = placementOf q }
+abbrev pub found_answer : List Start → Answer
+found_answer q = record { found = Placed; placement = placement_of q }
 
-abbrev pub noneAnswer : Answer
-noneAnswer = record { found = Nothing; placement = placementOf [] }
+abbrev pub none_answer : Answer
+none_answer = record { found = Nothing; placement = placement_of [] }
 
-abbrev pub refusedAnswer : Refusal → Answer
-refusedAnswer r = record { found = Refused r; placement = placementOf [] }
+abbrev pub refused_answer : Refusal → Answer
+refused_answer r = record { found = Refused r; placement = placement_of [] }
 
 -- the first of a list of placements, or none
 abbrev pub head_of : List (List Start) → Answer
-head_of [] = noneAnswer
-head_of (q ∷ qs) = foundAnswer q
+head_of [] = none_answer
+head_of (q ∷ qs) = found_answer q
 
 abbrev pub unless : Check → Answer → Answer
 unless Pass a = a
-unless (Refuse r) a = refusedAnswer r
+unless (Refuse r) a = refused_answer r
 
-abbrev pub verdictBy : Check → List (List Start) → Verdict
-verdictBy Pass [] = verdict.NotMet
-verdictBy Pass (q ∷ qs) = verdict.Met
-verdictBy (Refuse r) l = verdict.Refused r
+abbrev pub verdict_by : Check → List (List Start) → Verdict
+verdict_by Pass [] = verdict.NotMet
+verdict_by Pass (q ∷ qs) = verdict.Met
+verdict_by (Refuse r) l = verdict.Refused r
 
 -- a table, a lent packet and a lent decoded buffer, a direction and a map
 module _ (t : Table) (p decoded : List ℕ) (dir : Direction) (m : FieldMap) where
   -- 20, then 30 to 35
-  unfoldable pub inputCheck : Check
-  inputCheck =
-      refuseIf (not (wellFormed t)) refusal.IllFormed
-      (and_then (packetCheck p decoded) (fieldsCheck (payloadOf (datagramOf p)) decoded m))
+  unfoldable pub input_check : Check
+  input_check =
+      refuse_if (not (well_formed t)) refusal.IllFormed
+      (and_then (packet_check p decoded) (fields_check (payload_of (datagram_of p)) decoded m))
 
-  unfoldable pub placementsOf : List (List Start)
-  placementsOf = listed t (view_of p decoded m) dir
+  unfoldable pub placements_of : List (List Start)
+  placements_of = listed t (view_of p decoded m) dir
 
   -- THE VERDICT: met exactly if some placement meets the table
-  unfoldable pub verdictAnswer : Verdict
-  verdictAnswer = verdictBy inputCheck placementsOf
+  unfoldable pub verdict_answer : Verdict
+  verdict_answer = verdict_by input_check placements_of
 
   -- FIRST: the first of the list of placements, or none
-  unfoldable pub firstAnswer : Answer
-  firstAnswer = unless inputCheck (head_of placementsOf)
+  unfoldable pub first_answer : Answer
+  first_answer = unless input_check (head_of placements_of)
 
   -- 36: the earlier placement's count is not the number of positive patterns
-  abbrev pub earlierCheck : Placement → Check
-  earlierCheck h = refuseIf (not (eqb h.count (positives (items_of t)))) refusal.EarlierCount Pass
+  abbrev pub earlier_check : Placement → Check
+  earlier_check h = refuse_if (not (eqb h.count (positives (items_of t)))) refusal.EarlierCount Pass
 
   -- NEXT: the least of the list after the earlier placement, or none
-  unfoldable pub nextAnswer : Placement → Answer
-  nextAnswer h = unless (and_then inputCheck (earlierCheck h)) (head_of (keep (lexLess (startsOf h)) placementsOf))
+  unfoldable pub next_answer : Placement → Answer
+  next_answer h = unless (and_then input_check (earlier_check h)) (head_of (keep (lex_less (starts_of h)) placements_of))

@@ -14,7 +14,7 @@ use Rattle.definitions.specs.declared.books.Decision.{Decision}
 use Rattle.definitions.specs.declared.books.Decision.TheVariants.{Decided, Refused}
 use Rattle.definitions.specs.declared.books.Answered.{Answered}
 use Rattle.definitions.specs.Limits.{Limits}
-use Rattle.definitions.specs.Packet.{bigEndian}
+use Rattle.definitions.specs.Packet.{big_endian}
 use Rattle.definitions.specs.Books.{Rule}
 use Rattle.definitions.specs.Decisions.{decided}
 
@@ -26,77 +26,77 @@ pub record PacketRecord : Type 0 where
   pub direction : Direction
   pub fields : FieldMap
 
-abbrev pub recordHead : ℕ
-recordHead = 30
+abbrev pub record_head : ℕ
+record_head = 30
 
 -- by the first bytes of a record: the lengths of packet, decoded buffer and record
-abbrev pub packetLength : List ℕ → ℕ
-packetLength l = bigEndian 2 l 2
+abbrev pub packet_length : List ℕ → ℕ
+packet_length l = big_endian 2 l 2
 
-abbrev pub decodedLength : List ℕ → ℕ
-decodedLength l = bigEndian 2 l 4
+abbrev pub decoded_length : List ℕ → ℕ
+decoded_length l = big_endian 2 l 4
 
-unfoldable pub recordLength : List ℕ → ℕ
-recordLength l = recordHead + packetLength l + decodedLength l
+unfoldable pub record_length : List ℕ → ℕ
+record_length l = record_head + packet_length l + decoded_length l
 
-unfoldable pub recordDirection : List ℕ → Direction
-recordDirection l = if eqb (get_or l 0 0) 0 then Client else Server
+unfoldable pub record_direction : List ℕ → Direction
+record_direction l = if eqb (get_or l 0 0) 0 then Client else Server
 
 -- the field whose bit has a weight and whose numbers stand at a place; these play no part where it is absent
-unfoldable pub recordField : List ℕ → ℕ → ℕ → FieldSpan
-recordField l weight at =
-    if eqb (get_or l 1 0 / weight % 2) 1 then At (record { start = bigEndian 2 l at; len = bigEndian 2 l (at + 2) }) else Absent
+unfoldable pub record_field : List ℕ → ℕ → ℕ → FieldSpan
+record_field l weight at =
+    if eqb (get_or l 1 0 / weight % 2) 1 then At (record { start = big_endian 2 l at; len = big_endian 2 l (at + 2) }) else Absent
 
-unfoldable pub recordFields : List ℕ → FieldMap
-recordFields l =
+unfoldable pub record_fields : List ℕ → FieldMap
+record_fields l =
     record {
-      body = recordField l 1 6;
-      banner = recordField l 2 10;
-      file = recordField l 4 14;
-      uri = recordField l 8 18;
-      header = recordField l 16 22;
-      host = recordField l 32 26;
+      body = record_field l 1 6;
+      banner = record_field l 2 10;
+      file = record_field l 4 14;
+      uri = record_field l 8 18;
+      header = record_field l 16 22;
+      host = record_field l 32 26;
     }
 
-unfoldable pub recordOf : List ℕ → PacketRecord
-recordOf l =
+unfoldable pub record_of : List ℕ → PacketRecord
+record_of l =
     record {
-      packet = take (packetLength l) (drop recordHead l);
-      decoded = take (decodedLength l) (drop (recordHead + packetLength l) l);
-      direction = recordDirection l;
-      fields = recordFields l;
+      packet = take (packet_length l) (drop record_head l);
+      decoded = take (decoded_length l) (drop (record_head + packet_length l) l);
+      direction = record_direction l;
+      fields = record_fields l;
     }
 
 -- ---- a block
 
 -- up to n whole records
-unfoldable pub recordsUpTo : ℕ → List ℕ → List PacketRecord
-recordsUpTo zero l = []
-recordsUpTo (suc n) l = if leb (recordLength l) (length l) then recordOf l ∷ recordsUpTo n (drop (recordLength l) l) else []
+unfoldable pub records_up_to : ℕ → List ℕ → List PacketRecord
+records_up_to zero l = []
+records_up_to (suc n) l = if leb (record_length l) (length l) then record_of l ∷ records_up_to n (drop (record_length l) l) else []
 
 -- the bytes of up to n whole records
-unfoldable pub bytesUpTo : ℕ → List ℕ → ℕ
-bytesUpTo zero l = 0
-bytesUpTo (suc n) l = if leb (recordLength l) (length l) then recordLength l + bytesUpTo n (drop (recordLength l) l) else 0
+unfoldable pub bytes_up_to : ℕ → List ℕ → ℕ
+bytes_up_to zero l = 0
+bytes_up_to (suc n) l = if leb (record_length l) (length l) then record_length l + bytes_up_to n (drop (record_length l) l) else 0
 
 -- ---- the answers, a number for each packet: the deciding rule's, and 65536 more for pass
 
-abbrev pub actionNumber : Action → ℕ
-actionNumber action.Pass = 65536
-actionNumber action.Hold = 0
+abbrev pub action_number : Action → ℕ
+action_number action.Pass = 65536
+action_number action.Hold = 0
 
-abbrev pub decisionNumber : Decision → ℕ
-decisionNumber (Decided a n) = actionNumber a + n
-decisionNumber (Refused r line) = 0
+abbrev pub decision_number : Decision → ℕ
+decision_number (Decided a n) = action_number a + n
+decision_number (Refused r line) = 0
 
 module _ (lim : Limits) (rs : List Rule) where
-  unfoldable pub recordNumber : PacketRecord → ℕ
-  recordNumber k = decisionNumber (decided lim k.packet k.decoded k.direction k.fields rs)
+  unfoldable pub record_number : PacketRecord → ℕ
+  record_number k = decision_number (decided lim k.packet k.decoded k.direction k.fields rs)
 
   -- THE ANSWERS to a block: as many as there are whole records and room for; the room after them is as it was
-  unfoldable pub blockNumbers : List ℕ → List ℕ → List ℕ
-  blockNumbers block out = map recordNumber (recordsUpTo (length out) block) ++ drop (length (recordsUpTo (length out) block)) out
+  unfoldable pub block_numbers : List ℕ → List ℕ → List ℕ
+  block_numbers block out = map record_number (records_up_to (length out) block) ++ drop (length (records_up_to (length out) block)) out
 
 -- how many packets are answered, and their bytes, for so much room
-unfoldable pub blockAnswered : List ℕ → ℕ → Answered
-blockAnswered block n = record { packets = length (recordsUpTo n block); bytes = bytesUpTo n block }
+unfoldable pub block_answered : List ℕ → ℕ → Answered
+block_answered block n = record { packets = length (records_up_to n block); bytes = bytes_up_to n block }

@@ -12,48 +12,48 @@ use Rattle.definitions.specs.declared.books.Action.{Action}
 use Rattle.definitions.specs.declared.books.Action.TheVariants as action
 use Rattle.definitions.specs.declared.books.Judgement.{Judgement}
 use Rattle.definitions.specs.declared.books.Judgement.TheVariants.{Accepted, Refused}
-use Rattle.definitions.specs.Limits.{Limits, maxWord, maxBook, maxRules}
-use Rattle.definitions.specs.Lists.{sameBytes}
+use Rattle.definitions.specs.Limits.{Limits, max_word, max_book, max_rules}
+use Rattle.definitions.specs.Lists.{same_bytes}
 use Rattle.definitions.specs.Numbers.{value_of, is_number}
-use Rattle.definitions.specs.Parts.{contains, partBefore, afterParts, part}
-use Rattle.definitions.specs.Refusals.{refuseIf}
+use Rattle.definitions.specs.Parts.{contains, part_before, after_parts, part}
+use Rattle.definitions.specs.Refusals.{refuse_if}
 use Rattle.definitions.specs.Reading.{read}
 
 -- ---- the lines of a book
 
 -- a byte before the lines that follow: LF ends its line, any other byte belongs to the first of them
-abbrev pub intoLines : Bool → ℕ → List (List ℕ) → List (List ℕ)
-intoLines true b ls = (b ∷ []) ∷ ls
-intoLines false b [] = (b ∷ []) ∷ []
-intoLines false b (l ∷ ls) = (b ∷ l) ∷ ls
+abbrev pub into_lines : Bool → ℕ → List (List ℕ) → List (List ℕ)
+into_lines true b ls = (b ∷ []) ∷ ls
+into_lines false b [] = (b ∷ []) ∷ []
+into_lines false b (l ∷ ls) = (b ∷ l) ∷ ls
 
 -- each line with its LF; bytes after the last LF are a line too, which has none
-unfoldable pub bookLines : List ℕ → List (List ℕ)
-bookLines [] = []
-bookLines (b ∷ l) = intoLines (eqb b 10) b (bookLines l)
+unfoldable pub book_lines : List ℕ → List (List ℕ)
+book_lines [] = []
+book_lines (b ∷ l) = into_lines (eqb b 10) b (book_lines l)
 
 -- ---- a rule: number, tab, state, tab, action, tab, signature text, LF
 
 -- 1 to 65535 without leading zeros
-unfoldable pub isRuleNumber : List ℕ → Bool
-isRuleNumber l = is_number maxWord l && not (eqb (get_or l 0 0) 48)
+unfoldable pub is_rule_number : List ℕ → Bool
+is_rule_number l = is_number max_word l && not (eqb (get_or l 0 0) 48)
 
-unfoldable pub isState : List ℕ → Bool
-isState l = sameBytes l (text "on") || sameBytes l (text "off")
+unfoldable pub is_state : List ℕ → Bool
+is_state l = same_bytes l (text "on") || same_bytes l (text "off")
 
 unfoldable pub state_of : List ℕ → State
-state_of l = if sameBytes l (text "on") then state.On else state.Off
+state_of l = if same_bytes l (text "on") then state.On else state.Off
 
-unfoldable pub isAction : List ℕ → Bool
-isAction l = sameBytes l (text "pass") || sameBytes l (text "hold")
+unfoldable pub is_action : List ℕ → Bool
+is_action l = same_bytes l (text "pass") || same_bytes l (text "hold")
 
-unfoldable pub actionOf : List ℕ → Action
-actionOf l = if sameBytes l (text "pass") then action.Pass else action.Hold
+unfoldable pub action_of : List ℕ → Action
+action_of l = if same_bytes l (text "pass") then action.Pass else action.Hold
 
 -- the LF, three tabs or more, and the parts before the third of their forms; the text is all between that tab and the LF
-unfoldable pub isRule : List ℕ → Bool
-isRule l =
-    contains 10 l && (contains 9 (afterParts 9 2 l) && (isRuleNumber (part 9 0 l) && (isState (part 9 1 l) && isAction (part 9 2 l))))
+unfoldable pub is_rule : List ℕ → Bool
+is_rule l =
+    contains 10 l && (contains 9 (after_parts 9 2 l) && (is_rule_number (part 9 0 l) && (is_state (part 9 1 l) && is_action (part 9 2 l))))
 
 pub record Rule : Type 0 where
   pub number : ℕ
@@ -61,41 +61,41 @@ pub record Rule : Type 0 where
   pub action : Action
   pub source : List ℕ
 
-unfoldable pub ruleNumber : List ℕ → ℕ
-ruleNumber l = value_of 10 0 (part 9 0 l)
+unfoldable pub rule_number : List ℕ → ℕ
+rule_number l = value_of 10 0 (part 9 0 l)
 
-unfoldable pub ruleSource : List ℕ → List ℕ
-ruleSource l = partBefore 10 (afterParts 9 3 l)
+unfoldable pub rule_source : List ℕ → List ℕ
+rule_source l = part_before 10 (after_parts 9 3 l)
 
-unfoldable pub ruleOf : List ℕ → Rule
-ruleOf l = record { number = ruleNumber l; state = state_of (part 9 1 l); action = actionOf (part 9 2 l); source = ruleSource l }
+unfoldable pub rule_of : List ℕ → Rule
+rule_of l = record { number = rule_number l; state = state_of (part 9 1 l); action = action_of (part 9 2 l); source = rule_source l }
 
-unfoldable pub rulesOf : List ℕ → List Rule
-rulesOf book = map ruleOf (bookLines book)
+unfoldable pub rules_of : List ℕ → List Rule
+rules_of book = map rule_of (book_lines book)
 
 -- ---- judging: 50, then line by line 53, 51, 52, the text's own refusal, whether the rule is on or off
 
-abbrev pub textCheck : ReadOutcome → Check
-textCheck outcome.Accepted = Pass
-textCheck (outcome.Refused r place) = Refuse r
+abbrev pub text_check : ReadOutcome → Check
+text_check outcome.Accepted = Pass
+text_check (outcome.Refused r place) = Refuse r
 
 -- line n, after a rule of the number `last`; before the first rule that is 0
-unfoldable pub lineCheck : Limits → ℕ → ℕ → List ℕ → Check
-lineCheck lim n last l =
-    refuseIf (ltb maxRules n) refusal.RuleCount
-    (refuseIf (not (isRule l)) refusal.RuleForm
-    (refuseIf (leb (ruleNumber l) last) refusal.RuleOrder
-    (textCheck (read lim (ruleSource l)).outcome)))
+unfoldable pub line_check : Limits → ℕ → ℕ → List ℕ → Check
+line_check lim n last l =
+    refuse_if (ltb max_rules n) refusal.RuleCount
+    (refuse_if (not (is_rule l)) refusal.RuleForm
+    (refuse_if (leb (rule_number l) last) refusal.RuleOrder
+    (text_check (read lim (rule_source l)).outcome)))
 
-abbrev pub unlessLine : Check → ℕ → Judgement → Judgement
-unlessLine Pass n j = j
-unlessLine (Refuse r) n j = Refused r n
+abbrev pub unless_line : Check → ℕ → Judgement → Judgement
+unless_line Pass n j = j
+unless_line (Refuse r) n j = Refused r n
 
 -- the lines after n good ones
-unfoldable pub judgeLines : Limits → ℕ → ℕ → List (List ℕ) → Judgement
-judgeLines lim n last [] = Accepted n
-judgeLines lim n last (l ∷ ls) = unlessLine (lineCheck lim (suc n) last l) (suc n) (judgeLines lim (suc n) (ruleNumber l) ls)
+unfoldable pub judge_lines : Limits → ℕ → ℕ → List (List ℕ) → Judgement
+judge_lines lim n last [] = Accepted n
+judge_lines lim n last (l ∷ ls) = unless_line (line_check lim (suc n) last l) (suc n) (judge_lines lim (suc n) (rule_number l) ls)
 
 -- THE JUDGEMENT of a book: how many rules it has, or the first refusal with its line
 unfoldable pub judge : Limits → List ℕ → Judgement
-judge lim book = if ltb maxBook (length book) then Refused refusal.BookLength 0 else judgeLines lim 0 0 (bookLines book)
+judge lim book = if ltb max_book (length book) then Refused refusal.BookLength 0 else judge_lines lim 0 0 (book_lines book)

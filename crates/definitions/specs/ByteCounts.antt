@@ -5,8 +5,8 @@ use Rattle.definitions.specs.declared.table.Width.{Width}
 use Rattle.definitions.specs.declared.table.Width.TheVariants.{One, Two, Four}
 
 -- byte count 1, 2 or 4; another is a number beyond its limit
-abbrev pub isByteCount : ℕ → Bool
-isByteCount n = eqb n 1 || (eqb n 2 || eqb n 4)
+abbrev pub is_byte_count : ℕ → Bool
+is_byte_count n = eqb n 1 || (eqb n 2 || eqb n 4)
 
 -- how many bytes a width is
 abbrev pub byte_count : Width → ℕ

@@ -2,11 +2,11 @@
 -- statements.
 use Rattle.std.specs.Prelude.{List, [], ◌∷◌}
 use Rattle.definitions.specs.declared.answers.Query.TheVariants.{First, Next}
-use Rattle.definitions.specs.Cases.{Case, found, none, onPayload}
-use Rattle.definitions.specs.NumberCases.{Example, readsOption, rewrites}
+use Rattle.definitions.specs.Cases.{Case, found, none, on_payload}
+use Rattle.definitions.specs.NumberCases.{Example, reads_option, rewrites}
 
-unfoldable pub byteTestTexts : List Example
-byteTestTexts =
+unfoldable pub byte_test_texts : List Example
+byte_test_texts =
     -- the value in decimal; `little` is kept with one byte, too
     rewrites " --byte_test 2,>,0X12,3;" " --byte_test 2,>,18,3;" ∷
     rewrites " --BYTE_TEST  02,>,0018,003,RELATIVE,Little ;" " --byte_test 2,>,18,3,relative,little;" ∷
@@ -14,48 +14,48 @@ byteTestTexts =
     rewrites " --byte_test 1,=,5,0,little;" " --byte_test 1,=,5,0,little;" ∷
     rewrites " --byte_test 1,<,256,0,relative;" " --byte_test 1,<,256,0,relative;" ∷
     -- the longest run is the name; no spaces inside; `,relative` before `,little`, each once
-    readsOption "--byte_test2,>,1,0;" (5 ∷ 31 ∷ []) ∷
-    readsOption "--byte_test;" (6 ∷ 42 ∷ []) ∷
-    readsOption "--byte_test 2, >,1,0;" (6 ∷ 45 ∷ []) ∷
-    readsOption "--byte_test 2,>,1,0,little,relative;" (6 ∷ 57 ∷ []) ∷
-    readsOption "--byte_test 2,>,1,0,relative,relative;" (6 ∷ 60 ∷ []) ∷
+    reads_option "--byte_test2,>,1,0;" (5 ∷ 31 ∷ []) ∷
+    reads_option "--byte_test;" (6 ∷ 42 ∷ []) ∷
+    reads_option "--byte_test 2, >,1,0;" (6 ∷ 45 ∷ []) ∷
+    reads_option "--byte_test 2,>,1,0,little,relative;" (6 ∷ 57 ∷ []) ∷
+    reads_option "--byte_test 2,>,1,0,relative,relative;" (6 ∷ 60 ∷ []) ∷
     -- hex in the value alone
-    readsOption "--byte_test 0x2,>,1,4;" (6 ∷ 44 ∷ []) ∷
-    readsOption "--byte_test 2,>,0x,0;" (6 ∷ 49 ∷ []) ∷
-    readsOption "--byte_test 2,>,1,0x4;" (6 ∷ 50 ∷ []) ∷
+    reads_option "--byte_test 0x2,>,1,4;" (6 ∷ 44 ∷ []) ∷
+    reads_option "--byte_test 2,>,0x,0;" (6 ∷ 49 ∷ []) ∷
+    reads_option "--byte_test 2,>,1,0x4;" (6 ∷ 50 ∷ []) ∷
     -- other counts, operators and values of the guides
-    readsOption "--byte_test *,>,1,0;" (6 ∷ 43 ∷ []) ∷
-    readsOption "--byte_test 2,>=,1,0;" (6 ∷ 46 ∷ []) ∷
-    readsOption "--byte_test 2,&,1,0;" (6 ∷ 45 ∷ []) ∷
-    readsOption "--byte_test 4,>,$PKT_SIZE,4,relative;" (6 ∷ 47 ∷ []) ∷
-    readsOption "--byte_test 3,>,1;" (6 ∷ 48 ∷ []) ∷
+    reads_option "--byte_test *,>,1,0;" (6 ∷ 43 ∷ []) ∷
+    reads_option "--byte_test 2,>=,1,0;" (6 ∷ 46 ∷ []) ∷
+    reads_option "--byte_test 2,&,1,0;" (6 ∷ 45 ∷ []) ∷
+    reads_option "--byte_test 4,>,$PKT_SIZE,4,relative;" (6 ∷ 47 ∷ []) ∷
+    reads_option "--byte_test 3,>,1;" (6 ∷ 48 ∷ []) ∷
     -- numbers beyond their limit: the first of them, a byte count too
-    readsOption "--byte_test 0,>,1,0;" (7 ∷ 43 ∷ []) ∷
-    readsOption "--byte_test 3,>,1,0;" (7 ∷ 43 ∷ []) ∷
-    readsOption "--byte_test 3,>,4294967296,65536;" (7 ∷ 43 ∷ []) ∷
-    readsOption "--byte_test 2,>,4294967296,0;" (7 ∷ 47 ∷ []) ∷
-    readsOption "--byte_test 2,>,0x100000000,0;" (7 ∷ 49 ∷ []) ∷
-    readsOption "--byte_test 2,>,1,65536;" (7 ∷ 49 ∷ []) ∷
+    reads_option "--byte_test 0,>,1,0;" (7 ∷ 43 ∷ []) ∷
+    reads_option "--byte_test 3,>,1,0;" (7 ∷ 43 ∷ []) ∷
+    reads_option "--byte_test 3,>,4294967296,65536;" (7 ∷ 43 ∷ []) ∷
+    reads_option "--byte_test 2,>,4294967296,0;" (7 ∷ 47 ∷ []) ∷
+    reads_option "--byte_test 2,>,0x100000000,0;" (7 ∷ 49 ∷ []) ∷
+    reads_option "--byte_test 2,>,1,65536;" (7 ∷ 49 ∷ []) ∷
     []
 
 -- on the payload `aaXbbX`, bytes 61 61 58 62 62 58
-unfoldable pub byteTestCases : List Case
-byteTestCases =
+unfoldable pub byte_test_cases : List Case
+byte_test_cases =
     -- big end first, and little
-    onPayload "aaXbbX" "--byte_test 2,=,0x6258,4;" [] (First ∷ Next ∷ []) (found [] ∷ none ∷ []) ∷
-    onPayload "aaXbbX" "--byte_test 2,=,0x5862,4,little;" [] (First ∷ []) (found [] ∷ []) ∷
-    onPayload "aaXbbX" "--byte_test 4,=,0x61615862,0;" [] (First ∷ []) (found [] ∷ []) ∷
-    onPayload "aaXbbX" "--byte_test 4,=,0x62586161,0,little;" [] (First ∷ []) (found [] ∷ []) ∷
+    on_payload "aaXbbX" "--byte_test 2,=,0x6258,4;" [] (First ∷ Next ∷ []) (found [] ∷ none ∷ []) ∷
+    on_payload "aaXbbX" "--byte_test 2,=,0x5862,4,little;" [] (First ∷ []) (found [] ∷ []) ∷
+    on_payload "aaXbbX" "--byte_test 4,=,0x61615862,0;" [] (First ∷ []) (found [] ∷ []) ∷
+    on_payload "aaXbbX" "--byte_test 4,=,0x62586161,0,little;" [] (First ∷ []) (found [] ∷ []) ∷
     -- up to the last byte, and past the end, where `!` doesn't hold either
-    onPayload "aaXbbX" "--byte_test 1,=,0x58,5;" [] (First ∷ []) (found [] ∷ []) ∷
-    onPayload "aaXbbX" "--byte_test 4,=,0x58626258,2;" [] (First ∷ []) (found [] ∷ []) ∷
-    onPayload "aaXbbX" "--byte_test 4,>,0,3;" [] (First ∷ []) (none ∷ []) ∷
-    onPayload "aaXbbX" "--byte_test 2,>,0,5;" [] (First ∷ []) (none ∷ []) ∷
-    onPayload "aaXbbX" "--byte_test 1,!,1,6;" [] (First ∷ []) (none ∷ []) ∷
+    on_payload "aaXbbX" "--byte_test 1,=,0x58,5;" [] (First ∷ []) (found [] ∷ []) ∷
+    on_payload "aaXbbX" "--byte_test 4,=,0x58626258,2;" [] (First ∷ []) (found [] ∷ []) ∷
+    on_payload "aaXbbX" "--byte_test 4,>,0,3;" [] (First ∷ []) (none ∷ []) ∷
+    on_payload "aaXbbX" "--byte_test 2,>,0,5;" [] (First ∷ []) (none ∷ []) ∷
+    on_payload "aaXbbX" "--byte_test 1,!,1,6;" [] (First ∷ []) (none ∷ []) ∷
     -- values that the bytes can't say
-    onPayload "aaXbbX" "--byte_test 1,<,256,0;" [] (First ∷ []) (found [] ∷ []) ∷
-    onPayload "aaXbbX" "--byte_test 1,=,256,0;" [] (First ∷ []) (none ∷ []) ∷
+    on_payload "aaXbbX" "--byte_test 1,<,256,0;" [] (First ∷ []) (found [] ∷ []) ∷
+    on_payload "aaXbbX" "--byte_test 1,=,256,0;" [] (First ∷ []) (none ∷ []) ∷
     -- from the end of the last positive pattern before, from the payload's start if there is none
-    onPayload "aaXbbX" "--pattern \"X\"; --byte_test 1,=,0x62,0,relative;" [] (First ∷ Next ∷ []) (found (2 ∷ []) ∷ none ∷ []) ∷
-    onPayload "aaXbbX" "--pattern !\"q\"; --byte_test 1,=,0x61,0,relative;" [] (First ∷ []) (found [] ∷ []) ∷
+    on_payload "aaXbbX" "--pattern \"X\"; --byte_test 1,=,0x62,0,relative;" [] (First ∷ Next ∷ []) (found (2 ∷ []) ∷ none ∷ []) ∷
+    on_payload "aaXbbX" "--pattern !\"q\"; --byte_test 1,=,0x61,0,relative;" [] (First ∷ []) (found [] ∷ []) ∷
     []

@@ -2,28 +2,28 @@
 use Rattle.std.specs.Prelude.{pos, length}
 use Rattle.definitions.specs.declared.limits.DocumentLimits.{DocumentLimits}
 use Rattle.definitions.specs.Limits as limits
-use Rattle.definitions.specs.Options.{optionTable}
+use Rattle.definitions.specs.Options.{option_table}
 
-abbrev pub codeLimits : DocumentLimits
-codeLimits = record {
-  text = (limits.documentLimits).text;
-  canonical = (limits.documentLimits).canonical;
-  room = (limits.documentLimits).room;
-  name = limits.maxName;
-  patterns = limits.maxPatterns;
-  tests = limits.maxTests;
-  items = limits.maxItems;
-  addresses = limits.maxAddresses;
-  packet = limits.maxPacket;
-  decoded = limits.maxDecoded;
-  book = limits.maxBook;
-  rules = limits.maxRules;
-  byte = limits.maxByte;
-  word = limits.maxWord;
-  long = limits.maxLong;
+abbrev pub code_limits : DocumentLimits
+code_limits = record {
+  text = (limits.document_limits).text;
+  canonical = (limits.document_limits).canonical;
+  room = (limits.document_limits).room;
+  name = limits.max_name;
+  patterns = limits.max_patterns;
+  tests = limits.max_tests;
+  items = limits.max_items;
+  addresses = limits.max_addresses;
+  packet = limits.max_packet;
+  decoded = limits.max_decoded;
+  book = limits.max_book;
+  rules = limits.max_rules;
+  byte = limits.max_byte;
+  word = limits.max_word;
+  long = limits.max_long;
   -- a distance either way
-  offset = pos limits.maxWord;
-  prefix = limits.maxPrefix;
+  offset = pos limits.max_word;
+  prefix = limits.max_prefix;
   -- the rows of the table of options
-  options = length optionTable;
+  options = length option_table;
 }

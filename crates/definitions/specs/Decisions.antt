@@ -14,23 +14,23 @@ use Rattle.definitions.specs.declared.books.Decision.{Decision}
 use Rattle.definitions.specs.declared.books.Decision.TheVariants.{Decided, Refused}
 use Rattle.definitions.specs.Limits.{Limits}
 use Rattle.definitions.specs.Reading.{read}
-use Rattle.definitions.specs.Answers.{verdictAnswer}
-use Rattle.definitions.specs.Books.{Rule, rulesOf, judge}
+use Rattle.definitions.specs.Answers.{verdict_answer}
+use Rattle.definitions.specs.Books.{Rule, rules_of, judge}
 
-abbrev pub isOn : State → Bool
-isOn state.On = true
-isOn state.Off = false
+abbrev pub is_on : State → Bool
+is_on state.On = true
+is_on state.Off = false
 
 -- there is a placement; a refusal has none
-abbrev pub isMet : Verdict → Bool
-isMet verdict.Met = true
-isMet verdict.NotMet = false
-isMet (verdict.Refused r) = false
+abbrev pub is_met : Verdict → Bool
+is_met verdict.Met = true
+is_met verdict.NotMet = false
+is_met (verdict.Refused r) = false
 
 module _ (lim : Limits) (p decoded : List ℕ) (dir : Direction) (m : FieldMap) where
   -- the rule is on and has a placement
   unfoldable pub decides : Rule → Bool
-  decides r = isOn r.state && isMet (verdictAnswer (read lim r.source).table p decoded dir m)
+  decides r = is_on r.state && is_met (verdict_answer (read lim r.source).table p decoded dir m)
 
   -- the first of some rules that decides; hold with rule 0 if none does
   unfoldable pub decided : List Rule → Decision
@@ -38,10 +38,10 @@ module _ (lim : Limits) (p decoded : List ℕ) (dir : Direction) (m : FieldMap) 
   decided (r ∷ rs) = if decides r then Decided r.action r.number else decided rs
 
   -- the book is judged before the packet
-  abbrev pub decidedIf : Judgement → List Rule → Decision
-  decidedIf (judgement.Accepted n) rs = decided rs
-  decidedIf (judgement.Refused r line) rs = Refused r line
+  abbrev pub decided_if : Judgement → List Rule → Decision
+  decided_if (judgement.Accepted n) rs = decided rs
+  decided_if (judgement.Refused r line) rs = Refused r line
 
   -- THE DECISION: by the lowest numbered rule that is on and has a placement, since numbers rise in an accepted book; or the book's refusal
   unfoldable pub decision : List ℕ → Decision
-  decision book = decidedIf (judge lim book) (rulesOf book)
+  decision book = decided_if (judge lim book) (rules_of book)

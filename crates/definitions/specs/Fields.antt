@@ -4,7 +4,7 @@ use Rattle.forms.specs.Bytes.{if◌then◌else◌}
 use Rattle.definitions.specs.declared.table.Context.{Context}
 use Rattle.definitions.specs.declared.table.Context.TheVariants as context
 use Rattle.definitions.specs.declared.table.SizeField.{SizeField}
-use Rattle.definitions.specs.declared.table.SizeField.TheVariants as sizeField
+use Rattle.definitions.specs.declared.table.SizeField.TheVariants as size_field
 use Rattle.definitions.specs.declared.packets.Span.{Span}
 use Rattle.definitions.specs.declared.packets.FieldSpan.{FieldSpan}
 use Rattle.definitions.specs.declared.packets.FieldSpan.TheVariants.{Absent, At}
@@ -14,18 +14,18 @@ use Rattle.definitions.specs.declared.answers.Refusal.TheVariants as refusal
 use Rattle.definitions.specs.declared.answers.Check.{Check}
 use Rattle.definitions.specs.declared.answers.Check.TheVariants.{Pass}
 use Rattle.definitions.specs.Lists.{any?}
-use Rattle.definitions.specs.Refusals.{refuseIf}
-use Rattle.definitions.specs.Packet.{datagramOf, headerOf, payloadOf}
+use Rattle.definitions.specs.Refusals.{refuse_if}
+use Rattle.definitions.specs.Packet.{datagram_of, header_of, payload_of}
 
 -- body, banner and file lie in the payload, as context packet does; uri, header and host in the decoded buffer
-abbrev pub bufferOf : List ℕ → List ℕ → Context → List ℕ
-bufferOf payload decoded context.Packet = payload
-bufferOf payload decoded context.Uri = decoded
-bufferOf payload decoded context.Header = decoded
-bufferOf payload decoded context.Body = payload
-bufferOf payload decoded context.Banner = payload
-bufferOf payload decoded context.Host = decoded
-bufferOf payload decoded context.File = payload
+abbrev pub buffer_of : List ℕ → List ℕ → Context → List ℕ
+buffer_of payload decoded context.Packet = payload
+buffer_of payload decoded context.Uri = decoded
+buffer_of payload decoded context.Header = decoded
+buffer_of payload decoded context.Body = payload
+buffer_of payload decoded context.Banner = payload
+buffer_of payload decoded context.Host = decoded
+buffer_of payload decoded context.File = payload
 
 -- context packet is the payload, always present
 abbrev pub span_of : List ℕ → FieldMap → Context → FieldSpan
@@ -55,31 +55,31 @@ abbrev pub cut : Span → List ℕ → List ℕ
 cut sp b = take sp.len (drop sp.start b)
 
 -- THE FIELD ENTRY: where the field's part stands in its buffer, and its bytes
-abbrev pub fieldSpan : List ℕ → List ℕ → FieldMap → Context → Span
-fieldSpan payload decoded m c = shown (span_of payload m c) (bufferOf payload decoded c)
+abbrev pub field_span : List ℕ → List ℕ → FieldMap → Context → Span
+field_span payload decoded m c = shown (span_of payload m c) (buffer_of payload decoded c)
 
 unfoldable pub field_of : List ℕ → List ℕ → FieldMap → Context → List ℕ
-field_of payload decoded m c = cut (fieldSpan payload decoded m c) (bufferOf payload decoded c)
+field_of payload decoded m c = cut (field_span payload decoded m c) (buffer_of payload decoded c)
 
 unfoldable pub present : FieldMap → Context → Bool
 present m c = is_at (span_of [] m c)
 
 -- 35: a present field's span passes its buffer
-abbrev pub fieldPasses : List ℕ → List ℕ → FieldMap → Context → Bool
-fieldPasses payload decoded m c = passes (span_of payload m c) (bufferOf payload decoded c)
+abbrev pub field_passes : List ℕ → List ℕ → FieldMap → Context → Bool
+field_passes payload decoded m c = passes (span_of payload m c) (buffer_of payload decoded c)
 
 abbrev pub mapped : List Context
 mapped = context.Uri ∷ context.Header ∷ context.Body ∷ context.Banner ∷ context.Host ∷ context.File ∷ []
 
-unfoldable pub fieldsCheck : List ℕ → List ℕ → FieldMap → Check
-fieldsCheck payload decoded m = refuseIf (any? (fieldPasses payload decoded m) mapped) refusal.FieldSpan Pass
+unfoldable pub fields_check : List ℕ → List ℕ → FieldMap → Check
+fields_check payload decoded m = refuse_if (any? (field_passes payload decoded m) mapped) refusal.FieldSpan Pass
 
 -- the field of data_size
-abbrev pub sizeContext : SizeField → Context
-sizeContext sizeField.Payload = context.Packet
-sizeContext sizeField.Uri = context.Uri
-sizeContext sizeField.Header = context.Header
-sizeContext sizeField.Body = context.Body
+abbrev pub size_context : SizeField → Context
+size_context size_field.Payload = context.Packet
+size_context size_field.Uri = context.Uri
+size_context size_field.Header = context.Header
+size_context size_field.Body = context.Body
 
 -- ALL THAT A VERDICT SEES where nothing is refused, besides the table, the direction and an earlier placement: the datagram's header fields,
 -- which fields are present, and the bytes of each; an absent field has none
@@ -91,7 +91,7 @@ pub record View : Type 0 where
 abbrev pub view_of : List ℕ → List ℕ → FieldMap → View
 view_of p decoded m =
     record {
-      header = headerOf (datagramOf p);
+      header = header_of (datagram_of p);
       present = present m;
-      field = field_of (payloadOf (datagramOf p)) decoded m;
+      field = field_of (payload_of (datagram_of p)) decoded m;
     }

@@ -11,34 +11,34 @@ use Rattle.definitions.specs.declared.answers.Reading.{Reading}
 use Rattle.definitions.specs.Limits.{Limits}
 use Rattle.definitions.specs.Refusals.{number_of}
 use Rattle.definitions.specs.Reading.{read}
-use Rattle.definitions.specs.Canonical.{decimal, canonicalText}
-use Rattle.definitions.specs.Writing.{writingCheck}
+use Rattle.definitions.specs.Canonical.{decimal, canonical_text}
+use Rattle.definitions.specs.Writing.{writing_check}
 
 -- refusal, tab, place
-abbrev pub refusedLine : Refusal → ℕ → List ℕ
-refusedLine r place = decimal (number_of r) ++ (text "\t" ++ decimal place)
+abbrev pub refused_line : Refusal → ℕ → List ℕ
+refused_line r place = decimal (number_of r) ++ (text "\t" ++ decimal place)
 
 -- `ok`, tab, canonical text; or the writer's refusal at place 0, its buffer being as long as a canonical text may be
-abbrev pub canonicalLine : Check → Table → List ℕ
-canonicalLine Pass t = text "ok\t" ++ canonicalText t
-canonicalLine (Refuse r) t = refusedLine r 0
+abbrev pub canonical_line : Check → Table → List ℕ
+canonical_line Pass t = text "ok\t" ++ canonical_text t
+canonical_line (Refuse r) t = refused_line r 0
 
-abbrev pub lineBy : Limits → ReadOutcome → Table → List ℕ
-lineBy lim Accepted t = canonicalLine (writingCheck lim t lim.canonical) t
-lineBy lim (Refused r p) t = refusedLine r p
+abbrev pub line_by : Limits → ReadOutcome → Table → List ℕ
+line_by lim Accepted t = canonical_line (writing_check lim t lim.canonical) t
+line_by lim (Refused r p) t = refused_line r p
 
-abbrev pub readingLine : Limits → Reading → List ℕ
-readingLine lim r = lineBy lim r.outcome r.table
+abbrev pub reading_line : Limits → Reading → List ℕ
+reading_line lim r = line_by lim r.outcome r.table
 
 -- the answer to a text
 unfoldable pub line_of : Limits → List ℕ → List ℕ
-line_of lim s = readingLine lim (read lim s)
+line_of lim s = reading_line lim (read lim s)
 
 -- one text a line ended by LF; a last line may lack it. `line` is what was read of the line so far
-unfoldable pub lineTexts : List ℕ → List ℕ → List (List ℕ)
-lineTexts [] [] = []
-lineTexts (b ∷ line) [] = (b ∷ line) ∷ []
-lineTexts line (b ∷ l) = if eqb b 10 then line ∷ lineTexts [] l else lineTexts (line ++ (b ∷ [])) l
+unfoldable pub line_texts : List ℕ → List ℕ → List (List ℕ)
+line_texts [] [] = []
+line_texts (b ∷ line) [] = (b ∷ line) ∷ []
+line_texts line (b ∷ l) = if eqb b 10 then line ∷ line_texts [] l else line_texts (line ++ (b ∷ [])) l
 
 -- line number, tab, answer, LF, for each text in turn
 unfoldable pub lines_from : (List ℕ → List ℕ) → ℕ → List (List ℕ) → List ℕ
@@ -46,9 +46,9 @@ lines_from answer n [] = []
 lines_from answer n (s ∷ ss) = decimal n ++ (text "\t" ++ (answer s ++ (text "\n" ++ lines_from answer (suc n) ss)))
 
 -- what a program writes that answers each line of its input
-unfoldable pub outputOver : (List ℕ → List ℕ) → List ℕ → List ℕ
-outputOver answer input = lines_from answer 1 (lineTexts [] input)
+unfoldable pub output_over : (List ℕ → List ℕ) → List ℕ → List ℕ
+output_over answer input = lines_from answer 1 (line_texts [] input)
 
 -- THE PROGRAM'S OUTPUT
-unfoldable pub programOutput : Limits → List ℕ → List ℕ
-programOutput lim input = outputOver (line_of lim) input
+unfoldable pub program_output : Limits → List ℕ → List ℕ
+program_output lim input = output_over (line_of lim) input

@@ -14,13 +14,13 @@ abbrev pub none? : {A : Type 0} → List A → Bool
 none? [] = true
 none? (x ∷ xs) = false
 
-abbrev pub keepOne : {A : Type 0} → Bool → A → List A → List A
-keepOne b y ys = if b then y ∷ ys else ys
+abbrev pub keep_one : {A : Type 0} → Bool → A → List A → List A
+keep_one b y ys = if b then y ∷ ys else ys
 
 -- those elements that pass a test
 unfoldable pub keep : {A : Type 0} → (A → Bool) → List A → List A
 keep f [] = []
-keep f (x ∷ xs) = keepOne (f x) x (keep f xs)
+keep f (x ∷ xs) = keep_one (f x) x (keep f xs)
 
 -- how many pass a test
 abbrev pub count : {A : Type 0} → (A → Bool) → List A → ℕ
@@ -31,8 +31,8 @@ abbrev pub padded : {A : Type 0} → ℕ → A → List A → List A
 padded n x l = l ++ replicate (n - length l) x
 
 -- whether two lists of bytes are the same
-unfoldable pub sameBytes : List ℕ → List ℕ → Bool
-sameBytes [] [] = true
-sameBytes [] (y ∷ ys) = false
-sameBytes (x ∷ xs) [] = false
-sameBytes (x ∷ xs) (y ∷ ys) = eqb x y && sameBytes xs ys
+unfoldable pub same_bytes : List ℕ → List ℕ → Bool
+same_bytes [] [] = true
+same_bytes [] (y ∷ ys) = false
+same_bytes (x ∷ xs) [] = false
+same_bytes (x ∷ xs) (y ∷ ys) = eqb x y && same_bytes xs ys

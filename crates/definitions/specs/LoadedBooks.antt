@@ -7,53 +7,53 @@ use Rattle.definitions.specs.declared.books.Judgement.TheVariants.{Accepted, Ref
 use Rattle.definitions.specs.declared.books.LoadedRule.{LoadedRule}
 use Rattle.definitions.specs.declared.books.Rules.{Rules}
 use Rattle.definitions.specs.declared.books.LoadedBook.{LoadedBook}
-use Rattle.definitions.specs.Limits.{Limits, maxRules}
+use Rattle.definitions.specs.Limits.{Limits, max_rules}
 use Rattle.definitions.specs.Lists.{padded}
-use Rattle.definitions.specs.Parts.{afterParts}
-use Rattle.definitions.specs.Books.{Rule, bookLines, ruleSource, ruleOf, judge}
+use Rattle.definitions.specs.Parts.{after_parts}
+use Rattle.definitions.specs.Books.{Rule, book_lines, rule_source, rule_of, judge}
 
 -- ---- what rules say of a book, whatever stands in them
 
 -- the bytes of the book at a rule's place, as many of them as there are
-unfoldable pub ruleAt : List ℕ → LoadedRule → Rule
-ruleAt book r = record { number = r.number; state = r.state; action = r.action; source = take r.len (drop r.start book) }
+unfoldable pub rule_at : List ℕ → LoadedRule → Rule
+rule_at book r = record { number = r.number; state = r.state; action = r.action; source = take r.len (drop r.start book) }
 
-unfoldable pub rulesIn : List ℕ → Rules → List Rule
-rulesIn book rs = map (ruleAt book) (take rs.count rs.list)
+unfoldable pub rules_in : List ℕ → Rules → List Rule
+rules_in book rs = map (rule_at book) (take rs.count rs.list)
 
 -- ---- the rules of a book
 
 -- how far into its line a rule's text stands
-unfoldable pub sourceStart : List ℕ → ℕ
-sourceStart l = length l - length (afterParts 9 3 l)
+unfoldable pub source_start : List ℕ → ℕ
+source_start l = length l - length (after_parts 9 3 l)
 
 -- the rule of a line that stands at a place of the book
 unfoldable pub loaded_at : ℕ → List ℕ → LoadedRule
 loaded_at at l =
     record {
-      number = (ruleOf l).number;
-      state = (ruleOf l).state;
-      action = (ruleOf l).action;
-      start = at + sourceStart l;
-      len = length (ruleSource l);
+      number = (rule_of l).number;
+      state = (rule_of l).state;
+      action = (rule_of l).action;
+      start = at + source_start l;
+      len = length (rule_source l);
     }
 
 -- the rules of lines of which the first stands at a place of the book
-unfoldable pub loadedFrom : ℕ → List (List ℕ) → List LoadedRule
-loadedFrom at [] = []
-loadedFrom at (l ∷ ls) = loaded_at at l ∷ loadedFrom (at + length l) ls
+unfoldable pub loaded_from : ℕ → List (List ℕ) → List LoadedRule
+loaded_from at [] = []
+loaded_from at (l ∷ ls) = loaded_at at l ∷ loaded_from (at + length l) ls
 
-abbrev pub unusedRule : LoadedRule
-unusedRule = record { number = 0; state = state.Off; action = action.Hold; start = 0; len = 0 }
+abbrev pub unused_rule : LoadedRule
+unused_rule = record { number = 0; state = state.Off; action = action.Hold; start = 0; len = 0 }
 
-abbrev pub rulesWith : List LoadedRule → Rules
-rulesWith rs = record { count = length rs; list = padded maxRules unusedRule rs }
+abbrev pub rules_with : List LoadedRule → Rules
+rules_with rs = record { count = length rs; list = padded max_rules unused_rule rs }
 
 -- an accepted book's rules; a refused one has none
-abbrev pub loadedIf : Judgement → List LoadedRule → LoadedBook
-loadedIf (Accepted n) rs = record { judgement = Accepted n; rules = rulesWith rs }
-loadedIf (Refused r line) rs = record { judgement = Refused r line; rules = rulesWith [] }
+abbrev pub loaded_if : Judgement → List LoadedRule → LoadedBook
+loaded_if (Accepted n) rs = record { judgement = Accepted n; rules = rules_with rs }
+loaded_if (Refused r line) rs = record { judgement = Refused r line; rules = rules_with [] }
 
 -- THE LOADED BOOK
 unfoldable pub loaded : Limits → List ℕ → LoadedBook
-loaded lim book = loadedIf (judge lim book) (loadedFrom 0 (bookLines book))
+loaded lim book = loaded_if (judge lim book) (loaded_from 0 (book_lines book))

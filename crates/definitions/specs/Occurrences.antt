@@ -3,37 +3,37 @@ use Rattle.std.specs.Prelude.{ℕ, Bool, ◌||◌, List, [], ◌∷◌, length, 
 use Rattle.definitions.specs.declared.answers.Refusal.TheVariants as refusal
 use Rattle.definitions.specs.declared.answers.Check.{Check}
 use Rattle.definitions.specs.declared.answers.Check.TheVariants.{Pass}
-use Rattle.definitions.specs.Limits.{maxPatterns, maxTests, maxAddresses}
+use Rattle.definitions.specs.Limits.{max_patterns, max_tests, max_addresses}
 use Rattle.definitions.specs.Lists.{any?, count}
 use Rattle.definitions.specs.OptionValues.{Modifier, Context, NoCase, Distance, Within, OptionValue, Name, Protocol, Flow, Test, Pattern, Modified}
-use Rattle.definitions.specs.Refusals.{refuseIf}
+use Rattle.definitions.specs.Refusals.{refuse_if}
 
 -- the kinds of option that are counted or may stand once
-abbrev pub kindNumber : OptionValue → ℕ
-kindNumber (Name n) = 0
-kindNumber (Protocol p) = 1
-kindNumber (Flow f) = 2
-kindNumber (Test it al) = 3
-kindNumber (Pattern n b) = 4
-kindNumber (Modified m) = 5
+abbrev pub kind_number : OptionValue → ℕ
+kind_number (Name n) = 0
+kind_number (Protocol p) = 1
+kind_number (Flow f) = 2
+kind_number (Test it al) = 3
+kind_number (Pattern n b) = 4
+kind_number (Modified m) = 5
 
-abbrev pub sameKind : OptionValue → OptionValue → Bool
-sameKind e d = eqb (kindNumber e) (kindNumber d)
+abbrev pub same_kind : OptionValue → OptionValue → Bool
+same_kind e d = eqb (kind_number e) (kind_number d)
 
-abbrev pub isTest : OptionValue → Bool
-isTest e = eqb (kindNumber e) 3
+abbrev pub is_test : OptionValue → Bool
+is_test e = eqb (kind_number e) 3
 
-abbrev pub isPattern : OptionValue → Bool
-isPattern e = eqb (kindNumber e) 4
+abbrev pub is_pattern : OptionValue → Bool
+is_pattern e = eqb (kind_number e) 4
 
-abbrev pub modifierNumber : Modifier → ℕ
-modifierNumber (Context c) = 0
-modifierNumber NoCase = 1
-modifierNumber (Distance d) = 2
-modifierNumber (Within w) = 3
+abbrev pub modifier_number : Modifier → ℕ
+modifier_number (Context c) = 0
+modifier_number NoCase = 1
+modifier_number (Distance d) = 2
+modifier_number (Within w) = 3
 
-abbrev pub sameModifier : Modifier → Modifier → Bool
-sameModifier m n = eqb (modifierNumber m) (modifierNumber n)
+abbrev pub same_modifier : Modifier → Modifier → Bool
+same_modifier m n = eqb (modifier_number m) (modifier_number n)
 
 -- the modifiers after the last pattern; ms are those that were met
 unfoldable pub latest : List Modifier → List OptionValue → List Modifier
@@ -47,19 +47,19 @@ latest ms (Modified m ∷ es) = latest (m ∷ ms) es
 
 -- given again where once is allowed
 abbrev pub once : List OptionValue → OptionValue → Check
-once es e = refuseIf (any? (sameKind e) es) refusal.Repeated Pass
+once es e = refuse_if (any? (same_kind e) es) refusal.Repeated Pass
 
 -- whether an option may stand after the options es, or 8, 9 or 11
-unfoldable pub occurrenceCheck : List OptionValue → OptionValue → Check
-occurrenceCheck es (Name n) = once es (Name n)
-occurrenceCheck es (Protocol p) = once es (Protocol p)
-occurrenceCheck es (Flow f) = once es (Flow f)
-occurrenceCheck es (Test it al) = refuseIf (ltb maxAddresses (length al) || leb maxTests (count isTest es)) refusal.CountExceeded Pass
-occurrenceCheck es (Pattern n b) = refuseIf (leb maxPatterns (count isPattern es)) refusal.CountExceeded Pass
-occurrenceCheck es (Modified m) =
-    refuseIf (eqb (count isPattern es) 0) refusal.ModifierWithoutPattern
-    (refuseIf (any? (sameModifier m) (latest [] es)) refusal.Repeated Pass)
+unfoldable pub occurrence_check : List OptionValue → OptionValue → Check
+occurrence_check es (Name n) = once es (Name n)
+occurrence_check es (Protocol p) = once es (Protocol p)
+occurrence_check es (Flow f) = once es (Flow f)
+occurrence_check es (Test it al) = refuse_if (ltb max_addresses (length al) || leb max_tests (count is_test es)) refusal.CountExceeded Pass
+occurrence_check es (Pattern n b) = refuse_if (leb max_patterns (count is_pattern es)) refusal.CountExceeded Pass
+occurrence_check es (Modified m) =
+    refuse_if (eqb (count is_pattern es) 0) refusal.ModifierWithoutPattern
+    (refuse_if (any? (same_modifier m) (latest [] es)) refusal.Repeated Pass)
 
 -- name and protocol must stand
 unfoldable pub missing : List OptionValue → Bool
-missing es = eqb (count (sameKind (Name [])) es) 0 || eqb (count (sameKind (Protocol 0)) es) 0
+missing es = eqb (count (same_kind (Name [])) es) 0 || eqb (count (same_kind (Protocol 0)) es) 0

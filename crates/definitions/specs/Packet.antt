@@ -8,118 +8,118 @@ use Rattle.definitions.specs.declared.answers.Check.{Check}
 use Rattle.definitions.specs.declared.answers.Check.TheVariants.{Pass, Refuse}
 use Rattle.definitions.specs.declared.answers.PacketAnswer.{PacketAnswer}
 use Rattle.definitions.specs.declared.answers.PacketAnswer.TheVariants.{Seen, Refused}
-use Rattle.definitions.specs.Limits.{maxPacket, maxDecoded}
-use Rattle.definitions.specs.Refusals.{refuseIf}
+use Rattle.definitions.specs.Limits.{max_packet, max_decoded}
+use Rattle.definitions.specs.Refusals.{refuse_if}
 
 -- a header field of so many bytes at a place, big end first
-unfoldable pub bigEndian : ℕ → List ℕ → ℕ → ℕ
-bigEndian zero d at = 0
-bigEndian (suc n) d at = bigEndian n d at * 256 + get_or d (at + n) 0
+unfoldable pub big_endian : ℕ → List ℕ → ℕ → ℕ
+big_endian zero d at = 0
+big_endian (suc n) d at = big_endian n d at * 256 + get_or d (at + n) 0
 
 -- ---- the IP header
 
-abbrev pub versionOf : List ℕ → ℕ
-versionOf d = bigEndian 1 d 0 / 16
+abbrev pub version_of : List ℕ → ℕ
+version_of d = big_endian 1 d 0 / 16
 
-abbrev pub headerWords : List ℕ → ℕ
-headerWords d = bigEndian 1 d 0 % 16
+abbrev pub header_words : List ℕ → ℕ
+header_words d = big_endian 1 d 0 % 16
 
-abbrev pub headerLength : List ℕ → ℕ
-headerLength d = headerWords d * 4
+abbrev pub header_length : List ℕ → ℕ
+header_length d = header_words d * 4
 
-abbrev pub totalLength : List ℕ → ℕ
-totalLength d = bigEndian 2 d 2
+abbrev pub total_length : List ℕ → ℕ
+total_length d = big_endian 2 d 2
 
 -- the more-fragments bit and the 13 bits of the offset
-abbrev pub isFragment : List ℕ → Bool
-isFragment d = eqb (bigEndian 2 d 6 / 8192 % 2) 1 || not (eqb (bigEndian 2 d 6 % 8192) 0)
+abbrev pub is_fragment : List ℕ → Bool
+is_fragment d = eqb (big_endian 2 d 6 / 8192 % 2) 1 || not (eqb (big_endian 2 d 6 % 8192) 0)
 
-abbrev pub protocolOf : List ℕ → ℕ
-protocolOf d = bigEndian 1 d 9
+abbrev pub protocol_of : List ℕ → ℕ
+protocol_of d = big_endian 1 d 9
 
 -- The datagram is the first total-length bytes of the packet; the rest is padding
-abbrev pub datagramOf : List ℕ → List ℕ
-datagramOf p = take (totalLength p) p
+abbrev pub datagram_of : List ℕ → List ℕ
+datagram_of p = take (total_length p) p
 
 -- ---- after the IP header of a datagram
 
-abbrev pub afterHeader : List ℕ → List ℕ
-afterHeader d = drop (headerLength d) d
+abbrev pub after_header : List ℕ → List ℕ
+after_header d = drop (header_length d) d
 
-abbrev pub isTcp : ℕ → Bool
-isTcp protocol = eqb protocol 6
+abbrev pub is_tcp : ℕ → Bool
+is_tcp protocol = eqb protocol 6
 
 -- UDP and ICMP have headers of 8 bytes
-abbrev pub isUdp : ℕ → Bool
-isUdp protocol = eqb protocol 17
+abbrev pub is_udp : ℕ → Bool
+is_udp protocol = eqb protocol 17
 
-abbrev pub isIcmp : ℕ → Bool
-isIcmp protocol = eqb protocol 1
+abbrev pub is_icmp : ℕ → Bool
+is_icmp protocol = eqb protocol 1
 
 -- TCP and UDP have ports
-abbrev pub hasPorts : ℕ → Bool
-hasPorts protocol = isTcp protocol || isUdp protocol
+abbrev pub has_ports : ℕ → Bool
+has_ports protocol = is_tcp protocol || is_udp protocol
 
 -- the TCP header's offset field, in words
-abbrev pub tcpWords : List ℕ → ℕ
-tcpWords d = bigEndian 1 (afterHeader d) 12 / 16
+abbrev pub tcp_words : List ℕ → ℕ
+tcp_words d = big_endian 1 (after_header d) 12 / 16
 
-abbrev pub transportLength : List ℕ → ℕ
-transportLength d =
-    if isTcp (protocolOf d) then tcpWords d * 4
-    else if isUdp (protocolOf d) || isIcmp (protocolOf d) then 8
+abbrev pub transport_length : List ℕ → ℕ
+transport_length d =
+    if is_tcp (protocol_of d) then tcp_words d * 4
+    else if is_udp (protocol_of d) || is_icmp (protocol_of d) then 8
     else 0
 
-abbrev pub portAt : List ℕ → ℕ → ℕ
-portAt d at = if hasPorts (protocolOf d) then bigEndian 2 (afterHeader d) at else 0
+abbrev pub port_at : List ℕ → ℕ → ℕ
+port_at d at = if has_ports (protocol_of d) then big_endian 2 (after_header d) at else 0
 
 -- THE HEADER FIELDS of a datagram; the payload follows the TCP header, 8 bytes of UDP or ICMP header, or the IP header for other protocols
-unfoldable pub headerOf : List ℕ → PacketHeader
-headerOf d =
+unfoldable pub header_of : List ℕ → PacketHeader
+header_of d =
     record {
-      total = totalLength d;
-      payload = headerLength d + transportLength d;
-      protocol = protocolOf d;
-      tos = bigEndian 1 d 1;
-      id = bigEndian 2 d 4;
-      ttl = bigEndian 1 d 8;
-      checksum = bigEndian 2 d 10;
-      source = bigEndian 4 d 12;
-      destination = bigEndian 4 d 16;
-      sport = portAt d 0;
-      dport = portAt d 2;
+      total = total_length d;
+      payload = header_length d + transport_length d;
+      protocol = protocol_of d;
+      tos = big_endian 1 d 1;
+      id = big_endian 2 d 4;
+      ttl = big_endian 1 d 8;
+      checksum = big_endian 2 d 10;
+      source = big_endian 4 d 12;
+      destination = big_endian 4 d 16;
+      sport = port_at d 0;
+      dport = port_at d 2;
     }
 
-abbrev pub payloadOf : List ℕ → List ℕ
-payloadOf d = drop (headerOf d).payload d
+abbrev pub payload_of : List ℕ → List ℕ
+payload_of d = drop (header_of d).payload d
 
 -- ---- 30 to 34, in this order, of a lent packet and a lent decoded buffer
 
 -- 34: under 20 bytes left, offset under 5 words or past the datagram; UDP, ICMP: under 8 left
-abbrev pub tcpShort : List ℕ → Bool
-tcpShort d =
-    ltb (length (afterHeader d)) 20 || (ltb (tcpWords d) 5 || ltb (length (afterHeader d)) (tcpWords d * 4))
+abbrev pub tcp_short : List ℕ → Bool
+tcp_short d =
+    ltb (length (after_header d)) 20 || (ltb (tcp_words d) 5 || ltb (length (after_header d)) (tcp_words d * 4))
 
-abbrev pub transportShort : List ℕ → Bool
-transportShort d =
-    if isTcp (protocolOf d) then tcpShort d
-    else (isUdp (protocolOf d) || isIcmp (protocolOf d)) && ltb (length (afterHeader d)) 8
+abbrev pub transport_short : List ℕ → Bool
+transport_short d =
+    if is_tcp (protocol_of d) then tcp_short d
+    else (is_udp (protocol_of d) || is_icmp (protocol_of d)) && ltb (length (after_header d)) 8
 
 -- 33 and 34 are the datagram's own
-abbrev pub datagramCheck : List ℕ → Check
-datagramCheck d = refuseIf (isFragment d) refusal.Fragment (refuseIf (transportShort d) refusal.Transport Pass)
+abbrev pub datagram_check : List ℕ → Check
+datagram_check d = refuse_if (is_fragment d) refusal.Fragment (refuse_if (transport_short d) refusal.Transport Pass)
 
-unfoldable pub packetCheck : List ℕ → List ℕ → Check
-packetCheck p decoded =
-    refuseIf (ltb maxPacket (length p) || ltb maxDecoded (length decoded)) refusal.BufferLength
-    (refuseIf (ltb (length p) 20 || not (eqb (versionOf p) 4)) refusal.NotIpv4
-    (refuseIf (ltb (headerWords p) 5 || (ltb (totalLength p) (headerLength p) || ltb (length p) (totalLength p))) refusal.Lengths
-    (datagramCheck (datagramOf p))))
+unfoldable pub packet_check : List ℕ → List ℕ → Check
+packet_check p decoded =
+    refuse_if (ltb max_packet (length p) || ltb max_decoded (length decoded)) refusal.BufferLength
+    (refuse_if (ltb (length p) 20 || not (eqb (version_of p) 4)) refusal.NotIpv4
+    (refuse_if (ltb (header_words p) 5 || (ltb (total_length p) (header_length p) || ltb (length p) (total_length p))) refusal.Lengths
+    (datagram_check (datagram_of p))))
 
-abbrev pub packetBy : Check → List ℕ → PacketAnswer
-packetBy Pass d = Seen (headerOf d)
-packetBy (Refuse r) d = Refused r
+abbrev pub packet_by : Check → List ℕ → PacketAnswer
+packet_by Pass d = Seen (header_of d)
+packet_by (Refuse r) d = Refused r
 
 -- the header fields of a lent packet, or 30 to 34
-unfoldable pub packetAnswer : List ℕ → List ℕ → PacketAnswer
-packetAnswer p decoded = packetBy (packetCheck p decoded) (datagramOf p)
+unfoldable pub packet_answer : List ℕ → List ℕ → PacketAnswer
+packet_answer p decoded = packet_by (packet_check p decoded) (datagram_of p)

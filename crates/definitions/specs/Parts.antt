@@ -9,11 +9,11 @@ find d l = run (λ b. not (eqb b d)) l
 unfoldable pub contains : ℕ → List ℕ → Bool
 contains d l = ltb (find d l) (length l)
 
-unfoldable pub partBefore : ℕ → List ℕ → List ℕ
-partBefore d l = take (find d l) l
+unfoldable pub part_before : ℕ → List ℕ → List ℕ
+part_before d l = take (find d l) l
 
-unfoldable pub partAfter : ℕ → List ℕ → List ℕ
-partAfter d l = drop (suc (find d l)) l
+unfoldable pub part_after : ℕ → List ℕ → List ℕ
+part_after d l = drop (suc (find d l)) l
 
 -- the parts between the delimiters, one more than there are of these
 abbrev pub onto : ℕ → List (List ℕ) → List (List ℕ)
@@ -25,9 +25,9 @@ parts d [] = [] ∷ []
 parts d (b ∷ l) = if eqb b d then [] ∷ parts d l else onto b (parts d l)
 
 -- what stands after k delimiters; the part from there on: part 0 is the first
-unfoldable pub afterParts : ℕ → ℕ → List ℕ → List ℕ
-afterParts d zero l = l
-afterParts d (suc k) l = afterParts d k (partAfter d l)
+unfoldable pub after_parts : ℕ → ℕ → List ℕ → List ℕ
+after_parts d zero l = l
+after_parts d (suc k) l = after_parts d k (part_after d l)
 
 abbrev pub part : ℕ → ℕ → List ℕ → List ℕ
-part d k l = partBefore d (afterParts d k l)
+part d k l = part_before d (after_parts d k l)

@@ -7,15 +7,15 @@ use Rattle.definitions.specs.declared.packets.Placement.{Placement}
 use Rattle.definitions.specs.declared.answers.Answer.{Answer}
 use Rattle.definitions.specs.declared.answers.Query.{Query}
 use Rattle.definitions.specs.declared.answers.Query.TheVariants.{First, Next}
-use Rattle.definitions.specs.Answers.{firstAnswer, nextAnswer}
+use Rattle.definitions.specs.Answers.{first_answer, next_answer}
 
 module _ (t : Table) (p decoded : List ℕ) (dir : Direction) (m : FieldMap) where
   -- the model holds the placement h, at the start any numbers
-  abbrev pub queryAnswer : Placement → Query → Answer
-  queryAnswer h First = firstAnswer t p decoded dir m
-  queryAnswer h Next = nextAnswer t p decoded dir m h
+  abbrev pub query_answer : Placement → Query → Answer
+  query_answer h First = first_answer t p decoded dir m
+  query_answer h Next = next_answer t p decoded dir m h
 
   -- then it holds the answer's placement
   unfoldable pub answers : Placement → List Query → List Answer
   answers h [] = []
-  answers h (a ∷ rest) = queryAnswer h a ∷ answers (queryAnswer h a).placement rest
+  answers h (a ∷ rest) = query_answer h a ∷ answers (query_answer h a).placement rest

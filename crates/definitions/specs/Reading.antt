@@ -11,12 +11,12 @@ use Rattle.definitions.specs.declared.answers.ReadOutcome.TheVariants as outcome
 use Rattle.definitions.specs.declared.answers.Reading.{Reading}
 use Rattle.definitions.specs.declared.table.Table.{Table}
 use Rattle.definitions.specs.Limits.{Limits}
-use Rattle.definitions.specs.Lists.{none?, keep, count, sameBytes}
+use Rattle.definitions.specs.Lists.{none?, keep, count, same_bytes}
 use Rattle.definitions.specs.OptionValues.{OptionValue}
-use Rattle.definitions.specs.Options.{NamedOption, unlisted, listed, optionAt, printable, opening}
+use Rattle.definitions.specs.Options.{NamedOption, unlisted, listed, option_at, printable, opening}
 use Rattle.definitions.specs.Tables.{table_of}
-use Rattle.definitions.specs.References.{usableIn}
-use Rattle.definitions.specs.Occurrences.{isPattern, occurrenceCheck, missing}
+use Rattle.definitions.specs.References.{usable_in}
+use Rattle.definitions.specs.Occurrences.{is_pattern, occurrence_check, missing}
 
 -- ---- options left to right, the first bad one deciding, with its lowest number among 4 to 9 and 11
 
@@ -25,17 +25,17 @@ pub record Located : Type 0 where
   pub dash : ℕ
   pub value : OptionValue
 
-abbrev pub optionValuesOf : List Located → List OptionValue
-optionValuesOf located = map (λ (d : Located). d.value) located
+abbrev pub option_values_of : List Located → List OptionValue
+option_values_of located = map (λ (d : Located). d.value) located
 
 -- the last `)` was met after these options; or a refusal and its place
 pub data Options : Type 0 where
   ended : List Located → Options
   refused : Refusal → ℕ → Options
 
-abbrev pub unlessRefused : Check → ℕ → Options → Options
-unlessRefused check.Pass at k = k
-unlessRefused (check.Refuse r) at k = refused r at
+abbrev pub unless_refused : Check → ℕ → Options → Options
+unless_refused check.Pass at k = k
+unless_refused (check.Refuse r) at k = refused r at
 
 -- where 6 and 7 are placed: by the option's first dash, and by the place that its form answers with, for 6 the first at which it cannot go on, for 7
 -- that of the first broken limit
@@ -44,79 +44,79 @@ pub record Placing : Type 0 where
   pub limit : ℕ → ℕ → ℕ
 
 -- document 01: at the dash
-abbrev pub atDash : Placing
-atDash = record { form = λ dash p. dash; limit = λ dash p. dash }
+abbrev pub at_dash : Placing
+at_dash = record { form = λ dash p. dash; limit = λ dash p. dash }
 
 -- T-02: at the wrong letter
-abbrev pub atLetter : Placing
-atLetter = record { form = λ dash p. p; limit = λ dash p. p }
+abbrev pub at_letter : Placing
+at_letter = record { form = λ dash p. p; limit = λ dash p. p }
 
 -- the option whose first dash stands at a place, after the options es: 5, then 6, then 7, then 8, 9 or 11; all but 6 and 7 at that dash
-abbrev pub optionStep : Placing → NamedOption → List OptionValue → ℕ → (OptionValue → ℕ → Options) → Options
-optionStep P unlisted es at k = refused refusal.NotListed at
-optionStep P (listed (Failed p)) es at k = refused refusal.Form (P.form at p)
-optionStep P (listed (OutOfRange p next)) es at k = refused refusal.Limit (P.limit at p)
-optionStep P (listed (Parsed e next)) es at k = unlessRefused (occurrenceCheck es e) at (k e next)
+abbrev pub option_step : Placing → NamedOption → List OptionValue → ℕ → (OptionValue → ℕ → Options) → Options
+option_step P unlisted es at k = refused refusal.NotListed at
+option_step P (listed (Failed p)) es at k = refused refusal.Form (P.form at p)
+option_step P (listed (OutOfRange p next)) es at k = refused refusal.Limit (P.limit at p)
+option_step P (listed (Parsed e next)) es at k = unless_refused (occurrence_check es e) at (k e next)
 
-abbrev pub isSpace : ℕ → Bool
-isSpace b = eqb b 32
+abbrev pub is_space : ℕ → Bool
+is_space b = eqb b 32
 
 -- `--` stands at the front
 abbrev pub dashes : List ℕ → Bool
-dashes l = sameBytes (take 2 l) (text "--")
+dashes l = same_bytes (take 2 l) (text "--")
 
 -- The text s from a place on, where the bytes l begin; `passed` of these belong to the option that was read last
 unfoldable pub options : Placing → List ℕ → List ℕ → ℕ → ℕ → List Located → Options
 options P s [] passed at located = refused refusal.NeitherOptionNorEnd at
 options P s (b ∷ l) (suc passed) at located = options P s l passed (at + 1) located
 options P s (b ∷ l) zero at located =
-    if isSpace b then options P s l zero (at + 1) located
+    if is_space b then options P s l zero (at + 1) located
     else if eqb b 41 then (if none? l then ended located else refused refusal.NeitherOptionNorEnd (at + 1))
     else if dashes (b ∷ l)
-    then optionStep P (optionAt s at) (optionValuesOf located) at
+    then option_step P (option_at s at) (option_values_of located) at
     (λ e next. options P s l (next - (at + 1)) (at + 1) (located ++ (record { dash = at; value = e } ∷ [])))
     else refused refusal.NeitherOptionNorEnd at
 
 -- ---- then 10 by pattern, then 12
 
 -- the first dash of pattern k
-abbrev pub patternDash : List Located → ℕ → ℕ
-patternDash located k = get_or (map (λ (d : Located). d.dash) (keep (λ (d : Located). isPattern d.value) located)) k 0
+abbrev pub pattern_dash : List Located → ℕ → ℕ
+pattern_dash located k = get_or (map (λ (d : Located). d.dash) (keep (λ (d : Located). is_pattern d.value) located)) k 0
 
 -- a refusal's table has no name, protocol 0, no items
-abbrev pub refusedReading : ℕ → Refusal → ℕ → Reading
-refusedReading room r p = record { outcome = outcome.Refused r p; table = table_of room [] }
+abbrev pub refused_reading : ℕ → Refusal → ℕ → Reading
+refused_reading room r p = record { outcome = outcome.Refused r p; table = table_of room [] }
 
-abbrev pub acceptedReading : Table → Reading
-acceptedReading t = record { outcome = outcome.Accepted; table = t }
+abbrev pub accepted_reading : Table → Reading
+accepted_reading t = record { outcome = outcome.Accepted; table = t }
 
-unfoldable pub checkedTable : ℕ → List ℕ → List Located → Reading
-checkedTable room s located =
-    if ltb (usableIn (optionValuesOf located)) (count isPattern (optionValuesOf located))
-    then refusedReading room refusal.Unusable (patternDash located (usableIn (optionValuesOf located)))
-    else if missing (optionValuesOf located) then refusedReading room refusal.Missing (length s)
-    else acceptedReading (table_of room (optionValuesOf located))
+unfoldable pub checked_table : ℕ → List ℕ → List Located → Reading
+checked_table room s located =
+    if ltb (usable_in (option_values_of located)) (count is_pattern (option_values_of located))
+    then refused_reading room refusal.Unusable (pattern_dash located (usable_in (option_values_of located)))
+    else if missing (option_values_of located) then refused_reading room refusal.Missing (length s)
+    else accepted_reading (table_of room (option_values_of located))
 
 abbrev pub finished : ℕ → List ℕ → Options → Reading
-finished room s (ended located) = checkedTable room s located
-finished room s (refused r p) = refusedReading room r p
+finished room s (ended located) = checked_table room s located
+finished room s (refused r p) = refused_reading room r p
 
 -- ---- the whole text: 1, 2, 3, then the options
 
 -- reading with rule 1's upper bound lifted, into a table with room for so many pattern bytes; 6 and 7 are placed so
-unfoldable pub unboundedPlacing : Placing → ℕ → List ℕ → Reading
-unboundedPlacing P room s =
-    if none? s then refusedReading room refusal.TextLength 0
-    else if ltb (run printable s) (length s) then refusedReading room refusal.TextByte (run printable s)
-    else if not (sameBytes (take (length opening) s) opening) then refusedReading room refusal.Opening 0
+unfoldable pub unbounded_placing : Placing → ℕ → List ℕ → Reading
+unbounded_placing P room s =
+    if none? s then refused_reading room refusal.TextLength 0
+    else if ltb (run printable s) (length s) then refused_reading room refusal.TextByte (run printable s)
+    else if not (same_bytes (take (length opening) s) opening) then refused_reading room refusal.Opening 0
     else finished room s (options P s (drop (length opening) s) 0 (length opening) [])
 
-unfoldable pub readPlacing : Placing → Limits → List ℕ → Reading
-readPlacing P lim s = if ltb lim.text (length s) then refusedReading lim.room refusal.TextLength 0 else unboundedPlacing P lim.room s
+unfoldable pub read_placing : Placing → Limits → List ℕ → Reading
+read_placing P lim s = if ltb lim.text (length s) then refused_reading lim.room refusal.TextLength 0 else unbounded_placing P lim.room s
 
 -- READING; and without rule 1's upper bound
 abbrev pub read : Limits → List ℕ → Reading
-read = readPlacing atLetter
+read = read_placing at_letter
 
-abbrev pub readUnbounded : ℕ → List ℕ → Reading
-readUnbounded = unboundedPlacing atLetter
+abbrev pub read_unbounded : ℕ → List ℕ → Reading
+read_unbounded = unbounded_placing at_letter

@@ -16,73 +16,73 @@ use Rattle.definitions.specs.declared.packets.LastMatch.{LastMatch}
 use Rattle.definitions.specs.declared.packets.LastMatch.TheVariants.{None, Some}
 use Rattle.definitions.specs.declared.packets.Start.{Start}
 use Rattle.definitions.specs.OptionValues.{OptionValue}
-use Rattle.definitions.specs.Tables.{slotsIn}
-use Rattle.definitions.specs.Items.{patternsOf}
+use Rattle.definitions.specs.Tables.{slots_in}
+use Rattle.definitions.specs.Items.{patterns_of}
 use Rattle.definitions.specs.Starts.{start_at}
 
-abbrev pub contextNumber : Context → ℕ
-contextNumber context.Packet = 0
-contextNumber context.Uri = 1
-contextNumber context.Header = 2
-contextNumber context.Body = 3
-contextNumber context.Banner = 4
-contextNumber context.Host = 5
-contextNumber context.File = 6
+abbrev pub context_number : Context → ℕ
+context_number context.Packet = 0
+context_number context.Uri = 1
+context_number context.Header = 2
+context_number context.Body = 3
+context_number context.Banner = 4
+context_number context.Host = 5
+context_number context.File = 6
 
-abbrev pub sameContext : Context → Context → Bool
-sameContext a b = eqb (contextNumber a) (contextNumber b)
+abbrev pub same_context : Context → Context → Bool
+same_context a b = eqb (context_number a) (context_number b)
 
-abbrev pub referenceNumber : Reference → ℕ
-referenceNumber reference.Match = 0
-referenceNumber reference.Packet = 1
-referenceNumber reference.Context = 2
+abbrev pub reference_number : Reference → ℕ
+reference_number reference.Match = 0
+reference_number reference.Packet = 1
+reference_number reference.Context = 2
 
-abbrev pub sameReference : Reference → Reference → Bool
-sameReference a b = eqb (referenceNumber a) (referenceNumber b)
+abbrev pub same_reference : Reference → Reference → Bool
+same_reference a b = eqb (reference_number a) (reference_number b)
 
 -- the last positive pattern, after the pattern p that lies at the start s; a negated one moves no reference
-abbrev pub lastAfter : LastMatch → Pattern → Start → LastMatch
-lastAfter last p s = if p.negated then last else Some (record { context = p.context; end = s.at + p.len })
+abbrev pub last_after : LastMatch → Pattern → Start → LastMatch
+last_after last p s = if p.negated then last else Some (record { context = p.context; end = s.at + p.len })
 
 -- the last positive pattern before, if there is one, stands in the context
-abbrev pub lastIn : LastMatch → Context → Bool
-lastIn None c = true
-lastIn (Some m) c = sameContext m.context c
+abbrev pub last_in : LastMatch → Context → Bool
+last_in None c = true
+last_in (Some m) c = same_context m.context c
 
 -- not `packet` with another context than packet; not `match` in a range where the last positive pattern before stands in another context
-abbrev pub referenceUsable : LastMatch → Context → Reference → Bool
-referenceUsable last c reference.Match = lastIn last c
-referenceUsable last c reference.Packet = sameContext c context.Packet
-referenceUsable last c reference.Context = true
+abbrev pub reference_usable : LastMatch → Context → Reference → Bool
+reference_usable last c reference.Match = last_in last c
+reference_usable last c reference.Packet = same_context c context.Packet
+reference_usable last c reference.Context = true
 
 -- not reverse with `match` or with a `-` and a number other than 0
-abbrev pub reverseUsable : DistanceValue → Bool
-reverseUsable d = not d.reverse || (not (sameReference d.reference reference.Match) && le_z (pos 0) d.offset)
+abbrev pub reverse_usable : DistanceValue → Bool
+reverse_usable d = not d.reverse || (not (same_reference d.reference reference.Match) && le_z (pos 0) d.offset)
 
-abbrev pub distanceUsable : LastMatch → Context → Distance → Bool
-distanceUsable last c distance.Unset = true
-distanceUsable last c (distance.Given d) = referenceUsable last c d.reference && reverseUsable d
+abbrev pub distance_usable : LastMatch → Context → Distance → Bool
+distance_usable last c distance.Unset = true
+distance_usable last c (distance.Given d) = reference_usable last c d.reference && reverse_usable d
 
-abbrev pub withinUsable : LastMatch → Context → Within → Bool
-withinUsable last c within.Unset = true
-withinUsable last c (within.Given w) = referenceUsable last c w.reference
+abbrev pub within_usable : LastMatch → Context → Within → Bool
+within_usable last c within.Unset = true
+within_usable last c (within.Given w) = reference_usable last c w.reference
 
 -- not distance and within of one pattern with unlike references
-abbrev pub referencesAlike : Distance → Within → Bool
-referencesAlike distance.Unset w = true
-referencesAlike (distance.Given d) within.Unset = true
-referencesAlike (distance.Given d) (within.Given w) = sameReference d.reference w.reference
+abbrev pub references_alike : Distance → Within → Bool
+references_alike distance.Unset w = true
+references_alike (distance.Given d) within.Unset = true
+references_alike (distance.Given d) (within.Given w) = same_reference d.reference w.reference
 
 unfoldable pub usable : LastMatch → Pattern → Bool
 usable last p =
-    distanceUsable last p.context p.distance
-    && (withinUsable last p.context p.within && referencesAlike p.distance p.within)
+    distance_usable last p.context p.distance
+    && (within_usable last p.context p.within && references_alike p.distance p.within)
 
 -- how many patterns at the front are usable; where a pattern lies plays no part
-unfoldable pub usableRun : LastMatch → List Pattern → ℕ
-usableRun last [] = 0
-usableRun last (p ∷ ps) = if usable last p then 1 + usableRun (lastAfter last p (start_at 0)) ps else 0
+unfoldable pub usable_run : LastMatch → List Pattern → ℕ
+usable_run last [] = 0
+usable_run last (p ∷ ps) = if usable last p then 1 + usable_run (last_after last p (start_at 0)) ps else 0
 
 -- how many of the options' patterns from the first on have usable references
-abbrev pub usableIn : List OptionValue → ℕ
-usableIn es = usableRun None (patternsOf (slotsIn es))
+abbrev pub usable_in : List OptionValue → ℕ
+usable_in es = usable_run None (patterns_of (slots_in es))

@@ -48,60 +48,60 @@ number_of refusal.RuleCount = 53
 -- ---- A success has number and place 0
 
 -- what is due: its number, of a packet's fields too
-abbrev pub checkNumber : Check → ℕ
-checkNumber Pass = 0
-checkNumber (Refuse r) = number_of r
+abbrev pub check_number : Check → ℕ
+check_number Pass = 0
+check_number (Refuse r) = number_of r
 
 -- reading: number and place
-abbrev pub readNumber : ReadOutcome → ℕ
-readNumber outcome.Accepted = 0
-readNumber (outcome.Refused r p) = number_of r
+abbrev pub read_number : ReadOutcome → ℕ
+read_number outcome.Accepted = 0
+read_number (outcome.Refused r p) = number_of r
 
 abbrev pub read_place : ReadOutcome → ℕ
 read_place outcome.Accepted = 0
 read_place (outcome.Refused r p) = p
 
 -- writing: number, and how many bytes are written
-abbrev pub writeNumber : Writing → ℕ
-writeNumber (writing.Written n) = 0
-writeNumber (writing.Refused r) = number_of r
+abbrev pub write_number : Writing → ℕ
+write_number (writing.Written n) = 0
+write_number (writing.Refused r) = number_of r
 
-abbrev pub writeLength : Writing → ℕ
-writeLength (writing.Written n) = n
-writeLength (writing.Refused r) = 0
+abbrev pub write_length : Writing → ℕ
+write_length (writing.Written n) = n
+write_length (writing.Refused r) = 0
 
 -- a packet's header fields: number
-abbrev pub packetNumber : PacketAnswer → ℕ
-packetNumber (packet.Seen f) = 0
-packetNumber (packet.Refused r) = number_of r
+abbrev pub packet_number : PacketAnswer → ℕ
+packet_number (packet.Seen f) = 0
+packet_number (packet.Refused r) = number_of r
 
 -- verdicts: number, and 1 for met
-abbrev pub verdictNumber : Verdict → ℕ
-verdictNumber verdict.Met = 0
-verdictNumber verdict.NotMet = 0
-verdictNumber (verdict.Refused r) = number_of r
+abbrev pub verdict_number : Verdict → ℕ
+verdict_number verdict.Met = 0
+verdict_number verdict.NotMet = 0
+verdict_number (verdict.Refused r) = number_of r
 
-abbrev pub verdictMet : Verdict → ℕ
-verdictMet verdict.Met = 1
-verdictMet verdict.NotMet = 0
-verdictMet (verdict.Refused r) = 0
+abbrev pub verdict_met : Verdict → ℕ
+verdict_met verdict.Met = 1
+verdict_met verdict.NotMet = 0
+verdict_met (verdict.Refused r) = 0
 
 -- "first" and "next": number, and 1 for found
-abbrev pub foundNumber : Found → ℕ
-foundNumber found.Placed = 0
-foundNumber found.Nothing = 0
-foundNumber (found.Refused r) = number_of r
+abbrev pub found_number : Found → ℕ
+found_number found.Placed = 0
+found_number found.Nothing = 0
+found_number (found.Refused r) = number_of r
 
-abbrev pub foundOne : Found → ℕ
-foundOne found.Placed = 1
-foundOne found.Nothing = 0
-foundOne (found.Refused r) = 0
+abbrev pub found_one : Found → ℕ
+found_one found.Placed = 1
+found_one found.Nothing = 0
+found_one (found.Refused r) = 0
 
 -- ---- the order of refusals
 
 -- the refusal r if the test holds, else what is due then
-abbrev pub refuseIf : Bool → Refusal → Check → Check
-refuseIf b r d = if b then Refuse r else d
+abbrev pub refuse_if : Bool → Refusal → Check → Check
+refuse_if b r d = if b then Refuse r else d
 
 -- what is due first
 abbrev pub and_then : Check → Check → Check

@@ -6,11 +6,11 @@ use Rattle.definitions.specs.declared.packets.Start.{Start}
 abbrev pub start_at : ℕ → Start
 start_at n = record { at = n }
 
-abbrev pub startNumber : Start → ℕ
-startNumber s = s.at
+abbrev pub start_number : Start → ℕ
+start_number s = s.at
 
-unfoldable pub startBefore : Start → Start → Bool
-startBefore a b = ltb a.at b.at
+unfoldable pub start_before : Start → Start → Bool
+start_before a b = ltb a.at b.at
 
-unfoldable pub sameStart : Start → Start → Bool
-sameStart a b = eqb a.at b.at
+unfoldable pub same_start : Start → Start → Bool
+same_start a b = eqb a.at b.at

@@ -11,38 +11,38 @@ use Rattle.definitions.specs.declared.table.Item.TheVariants as item
 use Rattle.definitions.specs.declared.table.Address.{Address}
 use Rattle.definitions.specs.declared.table.Slot.{Slot}
 use Rattle.definitions.specs.declared.table.Table.{Table}
-use Rattle.definitions.specs.Limits.{maxName, maxItems, maxAddresses}
+use Rattle.definitions.specs.Limits.{max_name, max_items, max_addresses}
 use Rattle.definitions.specs.Lists.{padded}
 use Rattle.definitions.specs.OptionValues.{Modifier, Context, NoCase, Distance, Within, OptionValue, Name, Protocol, Flow, Test, Pattern, Modified}
 
 -- ---- name, protocol and flow: of the first option that says it
 
-unfoldable pub nameIn : List OptionValue → List ℕ
-nameIn [] = []
-nameIn (Name n ∷ es) = n
-nameIn (Protocol p ∷ es) = nameIn es
-nameIn (Flow f ∷ es) = nameIn es
-nameIn (Test it al ∷ es) = nameIn es
-nameIn (Pattern n b ∷ es) = nameIn es
-nameIn (Modified m ∷ es) = nameIn es
+unfoldable pub name_in : List OptionValue → List ℕ
+name_in [] = []
+name_in (Name n ∷ es) = n
+name_in (Protocol p ∷ es) = name_in es
+name_in (Flow f ∷ es) = name_in es
+name_in (Test it al ∷ es) = name_in es
+name_in (Pattern n b ∷ es) = name_in es
+name_in (Modified m ∷ es) = name_in es
 
-unfoldable pub protocolIn : List OptionValue → ℕ
-protocolIn [] = 0
-protocolIn (Name n ∷ es) = protocolIn es
-protocolIn (Protocol p ∷ es) = p
-protocolIn (Flow f ∷ es) = protocolIn es
-protocolIn (Test it al ∷ es) = protocolIn es
-protocolIn (Pattern n b ∷ es) = protocolIn es
-protocolIn (Modified m ∷ es) = protocolIn es
+unfoldable pub protocol_in : List OptionValue → ℕ
+protocol_in [] = 0
+protocol_in (Name n ∷ es) = protocol_in es
+protocol_in (Protocol p ∷ es) = p
+protocol_in (Flow f ∷ es) = protocol_in es
+protocol_in (Test it al ∷ es) = protocol_in es
+protocol_in (Pattern n b ∷ es) = protocol_in es
+protocol_in (Modified m ∷ es) = protocol_in es
 
-unfoldable pub flowIn : List OptionValue → flows.Flow
-flowIn [] = flow.Any
-flowIn (Name n ∷ es) = flowIn es
-flowIn (Protocol p ∷ es) = flowIn es
-flowIn (Flow f ∷ es) = f
-flowIn (Test it al ∷ es) = flowIn es
-flowIn (Pattern n b ∷ es) = flowIn es
-flowIn (Modified m ∷ es) = flowIn es
+unfoldable pub flow_in : List OptionValue → flows.Flow
+flow_in [] = flow.Any
+flow_in (Name n ∷ es) = flow_in es
+flow_in (Protocol p ∷ es) = flow_in es
+flow_in (Flow f ∷ es) = f
+flow_in (Test it al ∷ es) = flow_in es
+flow_in (Pattern n b ∷ es) = flow_in es
+flow_in (Modified m ∷ es) = flow_in es
 
 -- ---- a pattern and its modifiers
 
@@ -68,49 +68,49 @@ modified (Modified m ∷ es) p = modified es (with m p)
 
 -- ---- the items, kept in text order
 
-abbrev pub noAddress : Address
-noAddress = record { number = 0; prefix = 0 }
+abbrev pub no_address : Address
+no_address = record { number = 0; prefix = 0 }
 
 abbrev pub slot_of : Item → List Address → Slot
-slot_of it al = record { item = it; addresses = padded maxAddresses noAddress al }
+slot_of it al = record { item = it; addresses = padded max_addresses no_address al }
 
 abbrev pub no_slot : Slot
 no_slot = slot_of item.Unused []
 
-unfoldable pub slotsIn : List OptionValue → List Slot
-slotsIn [] = []
-slotsIn (Name n ∷ es) = slotsIn es
-slotsIn (Protocol p ∷ es) = slotsIn es
-slotsIn (Flow f ∷ es) = slotsIn es
-slotsIn (Test it al ∷ es) = slot_of it al ∷ slotsIn es
-slotsIn (Pattern n b ∷ es) = slot_of (item.Pattern (modified es (bare n (length b)))) [] ∷ slotsIn es
-slotsIn (Modified m ∷ es) = slotsIn es
+unfoldable pub slots_in : List OptionValue → List Slot
+slots_in [] = []
+slots_in (Name n ∷ es) = slots_in es
+slots_in (Protocol p ∷ es) = slots_in es
+slots_in (Flow f ∷ es) = slots_in es
+slots_in (Test it al ∷ es) = slot_of it al ∷ slots_in es
+slots_in (Pattern n b ∷ es) = slot_of (item.Pattern (modified es (bare n (length b)))) [] ∷ slots_in es
+slots_in (Modified m ∷ es) = slots_in es
 
 -- the pattern bytes, one pattern's after the other's
-unfoldable pub bytesIn : List OptionValue → List ℕ
-bytesIn [] = []
-bytesIn (Name n ∷ es) = bytesIn es
-bytesIn (Protocol p ∷ es) = bytesIn es
-bytesIn (Flow f ∷ es) = bytesIn es
-bytesIn (Test it al ∷ es) = bytesIn es
-bytesIn (Pattern n b ∷ es) = b ++ bytesIn es
-bytesIn (Modified m ∷ es) = bytesIn es
+unfoldable pub bytes_in : List OptionValue → List ℕ
+bytes_in [] = []
+bytes_in (Name n ∷ es) = bytes_in es
+bytes_in (Protocol p ∷ es) = bytes_in es
+bytes_in (Flow f ∷ es) = bytes_in es
+bytes_in (Test it al ∷ es) = bytes_in es
+bytes_in (Pattern n b ∷ es) = b ++ bytes_in es
+bytes_in (Modified m ∷ es) = bytes_in es
 
 -- THE TABLE of the options, with room for so many pattern bytes; of no options it is the empty table of a refusal
 unfoldable pub table_of : ℕ → List OptionValue → Table
 table_of room es =
     record {
-      name = padded maxName 0 (nameIn es);
-      len = length (nameIn es);
-      protocol = protocolIn es;
-      flow = flowIn es;
-      bytes = padded room 0 (bytesIn es);
-      used = length (bytesIn es);
-      items = padded maxItems no_slot (slotsIn es);
-      count = length (slotsIn es);
+      name = padded max_name 0 (name_in es);
+      len = length (name_in es);
+      protocol = protocol_in es;
+      flow = flow_in es;
+      bytes = padded room 0 (bytes_in es);
+      used = length (bytes_in es);
+      items = padded max_items no_slot (slots_in es);
+      count = length (slots_in es);
     }
 
 -- a table by its parts, for the contracts of functions that take of a table what they use
-abbrev pub tableWith : List ℕ → ℕ → ℕ → flows.Flow → List ℕ → ℕ → List Slot → ℕ → Table
-tableWith name len protocol flow bytes used items count =
+abbrev pub table_with : List ℕ → ℕ → ℕ → flows.Flow → List ℕ → ℕ → List Slot → ℕ → Table
+table_with name len protocol flow bytes used items count =
     record { name = name; len = len; protocol = protocol; flow = flow; bytes = bytes; used = used; items = items; count = count }

@@ -4,7 +4,7 @@ use mathlib.Core.List.{List, [], ◌∷◌, Memᴰ as Mem}
 use Rattle.forms.specs.Bytes.{between}
 use Rattle.forms.specs.Form.{has}
 use Rattle.definitions.specs.declared.table.NumberField.{NumberField}
-use Rattle.definitions.specs.declared.table.NumberField.TheVariants as numberField
+use Rattle.definitions.specs.declared.table.NumberField.TheVariants as number_field
 use Rattle.definitions.specs.declared.table.Distance.{Distance}
 use Rattle.definitions.specs.declared.table.Distance.TheVariants as distance
 use Rattle.definitions.specs.declared.table.Within.{Within}
@@ -16,23 +16,23 @@ use Rattle.definitions.specs.declared.table.Address.{Address}
 use Rattle.definitions.specs.declared.table.Slot.{Slot}
 use Rattle.definitions.specs.declared.table.Table.{Table}
 use Rattle.definitions.specs.declared.packets.LastMatch.TheVariants.{None}
-use Rattle.definitions.specs.Limits.{maxName, maxPatterns, maxTests, maxItems, maxAddresses, maxByte, maxWord, maxLong, maxPrefix}
+use Rattle.definitions.specs.Limits.{max_name, max_patterns, max_tests, max_items, max_addresses, max_byte, max_word, max_long, max_prefix}
 use Rattle.definitions.specs.Lists.{all?}
-use Rattle.definitions.specs.Forms.{quotable, maxField, maxNumber}
-use Rattle.definitions.specs.Items.{Kind, unused, addressed, patterned, plainTest, kind_of, patternsOf, slots_of}
-use Rattle.definitions.specs.References.{usableRun}
-use Rattle.definitions.specs.Reading.{acceptedReading, readUnbounded}
+use Rattle.definitions.specs.Forms.{quotable, max_field, max_number}
+use Rattle.definitions.specs.Items.{Kind, unused, addressed, patterned, plain_test, kind_of, patterns_of, slots_of}
+use Rattle.definitions.specs.References.{usable_run}
+use Rattle.definitions.specs.Reading.{accepted_reading, read_unbounded}
 
 -- the lengths that a table's arrays have by their types
 pub record Shaped (room : ℕ) (t : Table) : Type 0 where
-  pub named : length t.name ≡ maxName
+  pub named : length t.name ≡ max_name
   pub roomy : length t.bytes ≡ room
-  pub slotted : length t.items ≡ maxItems
-  pub addressed : (sl : Slot) → Mem sl t.items → length sl.addresses ≡ maxAddresses
+  pub slotted : length t.items ≡ max_items
+  pub addressed : (sl : Slot) → Mem sl t.items → length sl.addresses ≡ max_addresses
 
 -- THE STATEMENT: some text reads as the table. A text with more pattern bytes than the table's room reads as no table of this shape
 abbrev pub Readable : ℕ → Table → Type 0
-Readable room t = (s : List ℕ) × (readUnbounded room s ≡ acceptedReading t)
+Readable room t = (s : List ℕ) × (read_unbounded room s ≡ accepted_reading t)
 
 -- THE TEST of it, rule by rule of section "Text"
 
@@ -40,76 +40,76 @@ abbrev pub is_zero : ℕ → Bool
 is_zero b = eqb b 0
 
 -- name: 1 to 64 bytes, none of them `"` or `;`; room unused is zero
-unfoldable pub nameFits : List ℕ → ℕ → Bool
-nameFits name n = between 1 maxName n && (all? (has quotable) (take n name) && all? is_zero (drop n name))
+unfoldable pub name_fits : List ℕ → ℕ → Bool
+name_fits name n = between 1 max_name n && (all? (has quotable) (take n name) && all? is_zero (drop n name))
 
 -- addresses: four numbers 0..255 and a prefix of at most 32; unused ones zero
-abbrev pub addressFits : Address → Bool
-addressFits a = leb a.number maxLong && leb a.prefix maxPrefix
+abbrev pub address_fits : Address → Bool
+address_fits a = leb a.number max_long && leb a.prefix max_prefix
 
-abbrev pub addressUnused : Address → Bool
-addressUnused a = is_zero a.number && is_zero a.prefix
+abbrev pub address_unused : Address → Bool
+address_unused a = is_zero a.number && is_zero a.prefix
 
 -- each number within its limit
-abbrev pub distanceFits : Distance → Bool
-distanceFits distance.Unset = true
-distanceFits (distance.Given d) = leb (nat_abs d.offset) maxWord
+abbrev pub distance_fits : Distance → Bool
+distance_fits distance.Unset = true
+distance_fits (distance.Given d) = leb (nat_abs d.offset) max_word
 
-abbrev pub withinFits : Within → Bool
-withinFits within.Unset = true
-withinFits (within.Given w) = leb w.number maxWord
+abbrev pub within_fits : Within → Bool
+within_fits within.Unset = true
+within_fits (within.Given w) = leb w.number max_word
 
 -- no text reads as an item of the old kind, ip_id (document 02, T-09)
-abbrev pub numberFits : NumberField → ℕ → Bool
-numberFits numberField.IpId n = false
-numberFits numberField.SourcePort n = leb n (maxNumber numberField.SourcePort)
-numberFits numberField.DestinationPort n = leb n (maxNumber numberField.DestinationPort)
-numberFits numberField.Tos n = leb n (maxNumber numberField.Tos)
+abbrev pub number_fits : NumberField → ℕ → Bool
+number_fits number_field.IpId n = false
+number_fits number_field.SourcePort n = leb n (max_number number_field.SourcePort)
+number_fits number_field.DestinationPort n = leb n (max_number number_field.DestinationPort)
+number_fits number_field.Tos n = leb n (max_number number_field.Tos)
 
-unfoldable pub itemFits : Item → Bool
-itemFits item.Unused = false
-itemFits (item.Address a) = between 1 maxAddresses a.count
-itemFits item.SameIp = true
-itemFits (item.Number a) = numberFits a.field a.number
-itemFits (item.Ttl a) = leb a.number maxByte
-itemFits (item.Field a) = leb a.mask (maxField a.field) && leb a.number (maxField a.field)
-itemFits (item.Size a) = leb a.number maxWord
-itemFits (item.At a) = leb a.number maxWord
-itemFits (item.Byte a) = leb a.value maxLong && leb a.offset maxWord
-itemFits (item.Pattern p) = ltb 0 p.len && (distanceFits p.distance && withinFits p.within)
+unfoldable pub item_fits : Item → Bool
+item_fits item.Unused = false
+item_fits (item.Address a) = between 1 max_addresses a.count
+item_fits item.SameIp = true
+item_fits (item.Number a) = number_fits a.field a.number
+item_fits (item.Ttl a) = leb a.number max_byte
+item_fits (item.Field a) = leb a.mask (max_field a.field) && leb a.number (max_field a.field)
+item_fits (item.Size a) = leb a.number max_word
+item_fits (item.At a) = leb a.number max_word
+item_fits (item.Byte a) = leb a.value max_long && leb a.offset max_word
+item_fits (item.Pattern p) = ltb 0 p.len && (distance_fits p.distance && within_fits p.within)
 
 -- how many of a slot's addresses are in use
-abbrev pub addressCount : Kind → ℕ
-addressCount unused = 0
-addressCount (addressed a) = a.count
-addressCount (patterned p) = 0
-addressCount plainTest = 0
+abbrev pub address_count : Kind → ℕ
+address_count unused = 0
+address_count (addressed a) = a.count
+address_count (patterned p) = 0
+address_count plain_test = 0
 
-abbrev pub addressesFit : ℕ → List Address → Bool
-addressesFit n l = all? addressFits (take n l) && all? addressUnused (drop n l)
+abbrev pub addresses_fit : ℕ → List Address → Bool
+addresses_fit n l = all? address_fits (take n l) && all? address_unused (drop n l)
 
-abbrev pub slotFits : Slot → Bool
-slotFits sl = itemFits sl.item && addressesFit (addressCount (kind_of sl.item)) sl.addresses
+abbrev pub slot_fits : Slot → Bool
+slot_fits sl = item_fits sl.item && addresses_fit (address_count (kind_of sl.item)) sl.addresses
 
-abbrev pub isUnused : Kind → Bool
-isUnused unused = true
-isUnused (addressed a) = false
-isUnused (patterned p) = false
-isUnused plainTest = false
+abbrev pub is_unused : Kind → Bool
+is_unused unused = true
+is_unused (addressed a) = false
+is_unused (patterned p) = false
+is_unused plain_test = false
 
-abbrev pub slotUnused : Slot → Bool
-slotUnused sl = isUnused (kind_of sl.item) && all? addressUnused sl.addresses
+abbrev pub slot_unused : Slot → Bool
+slot_unused sl = is_unused (kind_of sl.item) && all? address_unused sl.addresses
 
-abbrev pub patternCount : Table → ℕ
-patternCount t = length (patternsOf (slots_of t))
+abbrev pub pattern_count : Table → ℕ
+pattern_count t = length (patterns_of (slots_of t))
 
 -- at most 8 patterns and 16 tests
-unfoldable pub itemsFit : Table → Bool
-itemsFit t =
-    leb t.count maxItems
-    && (all? slotFits (slots_of t)
-    && (all? slotUnused (drop t.count t.items)
-    && (leb (patternCount t) maxPatterns && leb (t.count - patternCount t) maxTests)))
+unfoldable pub items_fit : Table → Bool
+items_fit t =
+    leb t.count max_items
+    && (all? slot_fits (slots_of t)
+    && (all? slot_unused (drop t.count t.items)
+    && (leb (pattern_count t) max_patterns && leb (t.count - pattern_count t) max_tests)))
 
 -- pattern bytes in all
 unfoldable pub bytes_of : List Pattern → ℕ
@@ -117,16 +117,16 @@ bytes_of [] = 0
 bytes_of (p ∷ ps) = p.len + bytes_of ps
 
 -- the patterns' bytes lie one after the other from 0 on
-unfoldable pub bytesFit : Table → Bool
-bytesFit t =
-    eqb t.used (bytes_of (patternsOf (slots_of t)))
+unfoldable pub bytes_fit : Table → Bool
+bytes_fit t =
+    eqb t.used (bytes_of (patterns_of (slots_of t)))
     && (leb t.used (length t.bytes)
-    && (all? (λ (b : ℕ). leb b maxByte) (take t.used t.bytes) && all? is_zero (drop t.used t.bytes)))
+    && (all? (λ (b : ℕ). leb b max_byte) (take t.used t.bytes) && all? is_zero (drop t.used t.bytes)))
 
-unfoldable pub wellFormed : Table → Bool
-wellFormed t =
-    nameFits t.name t.len
-    && (leb t.protocol maxByte
-    && (itemsFit t
-    && (bytesFit t
-    && eqb (usableRun None (patternsOf (slots_of t))) (patternCount t))))
+unfoldable pub well_formed : Table → Bool
+well_formed t =
+    name_fits t.name t.len
+    && (leb t.protocol max_byte
+    && (items_fit t
+    && (bytes_fit t
+    && eqb (usable_run None (patterns_of (slots_of t))) (pattern_count t))))

@@ -27,32 +27,32 @@ base l reference.Context = 0
 abbrev pub shifted : LastMatch → ℕ → DistanceValue → ℤ
 shifted l len d = if d.reverse then pos len -ℤ d.offset else pos (base l d.reference) +ℤ d.offset
 
-abbrev pub windowStart : LastMatch → ℕ → Distance → Within → ℤ
-windowStart l len (distance.Given d) w = shifted l len d
-windowStart l len distance.Unset (within.Given w) = pos (base l w.reference)
-windowStart l len distance.Unset within.Unset = pos 0
+abbrev pub window_start : LastMatch → ℕ → Distance → Within → ℤ
+window_start l len (distance.Given d) w = shifted l len d
+window_start l len distance.Unset (within.Given w) = pos (base l w.reference)
+window_start l len distance.Unset within.Unset = pos 0
 
 -- the window ends at L, or at the smaller of s + within and L
-abbrev pub beforeEnd : ℤ → Within → ℕ → ℕ → Bool
-beforeEnd s within.Unset len e = leb e len
-beforeEnd s (within.Given w) len e = leb e len && le_z (pos e) (s +ℤ pos w.number)
+abbrev pub before_end : ℤ → Within → ℕ → ℕ → Bool
+before_end s within.Unset len e = leb e len
+before_end s (within.Given w) len e = leb e len && le_z (pos e) (s +ℤ pos w.number)
 
 -- p is at least s (and, a natural number, at least 0), and p + n at most the end
-unfoldable pub inWindow : Pattern → LastMatch → ℕ → ℕ → Bool
-inWindow p l len at =
-    le_z (windowStart l len p.distance p.within) (pos at)
-    && beforeEnd (windowStart l len p.distance p.within) p.within len (at + p.len)
+unfoldable pub in_window : Pattern → LastMatch → ℕ → ℕ → Bool
+in_window p l len at =
+    le_z (window_start l len p.distance p.within) (pos at)
+    && before_end (window_start l len p.distance p.within) p.within len (at + p.len)
 
 -- equal, or with no_case letters A to Z and a to z alike
 unfoldable pub alike : Bool → ℕ → ℕ → Bool
 alike nocase x y = if nocase then eqb (lower x) (lower y) else eqb x y
 
 -- the bytes b stand at the front of the list
-unfoldable pub standsAt : Bool → List ℕ → List ℕ → Bool
-standsAt nocase [] l = true
-standsAt nocase (x ∷ b) [] = false
-standsAt nocase (x ∷ b) (y ∷ l) = alike nocase x y && standsAt nocase b l
+unfoldable pub stands_at : Bool → List ℕ → List ℕ → Bool
+stands_at nocase [] l = true
+stands_at nocase (x ∷ b) [] = false
+stands_at nocase (x ∷ b) (y ∷ l) = alike nocase x y && stands_at nocase b l
 
 -- the pattern p with the bytes b lies at a place of the field f
 unfoldable pub lies : Pattern → List ℕ → LastMatch → List ℕ → ℕ → Bool
-lies p b l f at = inWindow p l (length f) at && standsAt p.nocase b (drop at f)
+lies p b l f at = in_window p l (length f) at && stands_at p.nocase b (drop at f)

@@ -7,29 +7,29 @@ use Rattle.definitions.specs.declared.answers.Check.TheVariants.{Pass, Refuse}
 use Rattle.definitions.specs.declared.answers.Writing.{Writing}
 use Rattle.definitions.specs.declared.answers.Writing.TheVariants.{Written, Refused}
 use Rattle.definitions.specs.Limits.{Limits}
-use Rattle.definitions.specs.Refusals.{refuseIf}
-use Rattle.definitions.specs.WellFormed.{wellFormed}
-use Rattle.definitions.specs.Canonical.{canonicalText}
+use Rattle.definitions.specs.Refusals.{refuse_if}
+use Rattle.definitions.specs.WellFormed.{well_formed}
+use Rattle.definitions.specs.Canonical.{canonical_text}
 
 -- 20, 21, 22, in this order, for a buffer of n bytes
-unfoldable pub writingCheck : Limits → Table → ℕ → Check
-writingCheck lim t n =
-    refuseIf (not (wellFormed t)) refusal.IllFormed
-    (refuseIf (ltb lim.canonical (length (canonicalText t))) refusal.CanonicalLength
-    (refuseIf (ltb n (length (canonicalText t))) refusal.ShortBuffer Pass))
+unfoldable pub writing_check : Limits → Table → ℕ → Check
+writing_check lim t n =
+    refuse_if (not (well_formed t)) refusal.IllFormed
+    (refuse_if (ltb lim.canonical (length (canonical_text t))) refusal.CanonicalLength
+    (refuse_if (ltb n (length (canonical_text t))) refusal.ShortBuffer Pass))
 
-abbrev pub writtenIf : Check → ℕ → Writing
-writtenIf Pass n = Written n
-writtenIf (Refuse r) n = Refused r
+abbrev pub written_if : Check → ℕ → Writing
+written_if Pass n = Written n
+written_if (Refuse r) n = Refused r
 
 -- no output written where it is refused
-abbrev pub bufferIf : Check → List ℕ → List ℕ → List ℕ
-bufferIf Pass canonical out = canonical ++ drop (length canonical) out
-bufferIf (Refuse r) canonical out = out
+abbrev pub buffer_if : Check → List ℕ → List ℕ → List ℕ
+buffer_if Pass canonical out = canonical ++ drop (length canonical) out
+buffer_if (Refuse r) canonical out = out
 
 -- the answer, and the buffer afterwards
 unfoldable pub writes : Limits → Table → List ℕ → Writing
-writes lim t out = writtenIf (writingCheck lim t (length out)) (length (canonicalText t))
+writes lim t out = written_if (writing_check lim t (length out)) (length (canonical_text t))
 
-unfoldable pub bufferAfter : Limits → Table → List ℕ → List ℕ
-bufferAfter lim t out = bufferIf (writingCheck lim t (length out)) (canonicalText t) out
+unfoldable pub buffer_after : Limits → Table → List ℕ → List ℕ
+buffer_after lim t out = buffer_if (writing_check lim t (length out)) (canonical_text t) out

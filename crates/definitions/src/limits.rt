@@ -1,6 +1,6 @@
 // The limits of documents 01 and 02 that the types and the code go by, each named once. specs/Limits.antt has them for the definitions; `document_limits` ties the two.
 ghost use Rattle.std.specs.Prelude.{◌≡◌};
-ghost use Rattle.definitions.specs.CodeLimits.{codeLimits};
+ghost use Rattle.definitions.specs.CodeLimits.{code_limits};
 
 // Bytes of a text, and of a canonical text.
 pub const TEXT_BYTES: usize = 4096;
@@ -69,7 +69,7 @@ pub struct DocumentLimits {
 
 // The limits above are those of the definitions: the one contract that ties each constant to its name in specs/Limits.antt.
 pub fn document_limits() -> DocumentLimits
-    ensures { result ≡ codeLimits }
+    ensures { result ≡ code_limits }
 {
     DocumentLimits {
         text: TEXT_BYTES,

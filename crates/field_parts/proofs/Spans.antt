@@ -15,27 +15,27 @@ use Rattle.definitions.specs.Fields.{shown}
 use Rattle.field_parts.specs.Parts.{PartOf}
 
 module _ (n start len : ℕ) where
-  pub start-past : n < start → true ≡ ltb n (start + len)
-  start-past h = rw (lt-ltb n (start + len) (omega arith))
+  pub start_past : n < start → true ≡ ltb n (start + len)
+  start_past h = rw (lt-ltb n (start + len) (omega arith))
 
-  pub end-past : start ≤ n → ltb (n - start) len ≡ ltb n (start + len)
-  end-past h = go (ltb n (start + len)) refl
+  pub end_past : start ≤ n → ltb (n - start) len ≡ ltb n (start + len)
+  end_past h = go (ltb n (start + len)) refl
     where
       go : (t : Bool) → ltb n (start + len) ≡ t → ltb (n - start) len ≡ t
       go true e = let k : n < start + len = ltb-true n (start + len) e in lt-ltb (n - start) len (omega arith)
       go false e = let k : start + len ≤ n = ltb-false n (start + len) e in le-ltb (n - start) len (omega arith)
 
-shown-inside : (f : FieldSpan) (b : List ℕ) → (shown f b).start + (shown f b).len ≤ length b
-shown-inside Absent b = omega arith
-shown-inside (At sp) b = go (ltb (length b) (sp.start + sp.len)) refl
+shown_inside : (f : FieldSpan) (b : List ℕ) → (shown f b).start + (shown f b).len ≤ length b
+shown_inside Absent b = omega arith
+shown_inside (At sp) b = go (ltb (length b) (sp.start + sp.len)) refl
   where
     go : (t : Bool) → ltb (length b) (sp.start + sp.len) ≡ t → (shown (At sp) b).start + (shown (At sp) b).len ≤ length b
     go true e = rw e (omega arith)
     go false e = let k : sp.start + sp.len ≤ length b = ltb-false (length b) (sp.start + sp.len) e in rw e k
 
 module _ (f : FieldSpan) (b : Bor (List ℕ)) (s : Span) (e : s ≡ shown f b.now) where
-  pub end-inside : s.start + s.len ≤ length b.now
-  end-inside = rw e (shown-inside f b.now)
+  pub end_inside : s.start + s.len ≤ length b.now
+  end_inside = rw e (shown_inside f b.now)
 
   -- what is cut from the span's start to its end, at the start's place
   pub cut_out : (γ : ℕ)

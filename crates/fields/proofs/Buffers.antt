@@ -7,29 +7,29 @@ use denote.Ref.{Bor}
 use Rattle.definitions.specs.declared.table.Context.{Context}
 use Rattle.definitions.specs.declared.table.Context.TheVariants as context
 use Rattle.definitions.specs.declared.packets.FieldMap.{FieldMap}
-use Rattle.definitions.specs.Fields.{bufferOf, span_of, shown, cut, fieldSpan, field_of, passes, fieldPasses}
+use Rattle.definitions.specs.Fields.{buffer_of, span_of, shown, cut, field_span, field_of, passes, field_passes}
 use Rattle.field_parts.specs.Parts.{PartOf}
-use Rattle.fields.specs.Places.{ownBuffer}
+use Rattle.fields.specs.Places.{own_buffer}
 
--- `ownBuffer` takes of any two the one that `bufferOf` takes
-pub buffer-buffer : {A : Type 0} (f : A → List ℕ) (payload decoded : A) (c : Context) → f (ownBuffer payload decoded c) ≡ bufferOf (f payload) (f decoded) c
-buffer-buffer f payload decoded context.Packet = refl
-buffer-buffer f payload decoded context.Uri = refl
-buffer-buffer f payload decoded context.Header = refl
-buffer-buffer f payload decoded context.Body = refl
-buffer-buffer f payload decoded context.Banner = refl
-buffer-buffer f payload decoded context.Host = refl
-buffer-buffer f payload decoded context.File = refl
+-- `own_buffer` takes of any two the one that `buffer_of` takes
+pub buffer_buffer : {A : Type 0} (f : A → List ℕ) (payload decoded : A) (c : Context) → f (own_buffer payload decoded c) ≡ buffer_of (f payload) (f decoded) c
+buffer_buffer f payload decoded context.Packet = refl
+buffer_buffer f payload decoded context.Uri = refl
+buffer_buffer f payload decoded context.Header = refl
+buffer_buffer f payload decoded context.Body = refl
+buffer_buffer f payload decoded context.Banner = refl
+buffer_buffer f payload decoded context.Host = refl
+buffer_buffer f payload decoded context.File = refl
 
 module _ (payload decoded r : Bor (List ℕ)) (m : FieldMap) (c : Context) where
-  pub field-part : PartOf (ownBuffer payload decoded c) (shown (span_of payload.now m c) (ownBuffer payload decoded c).now) r
-      → PartOf (ownBuffer payload decoded c) (fieldSpan payload.now decoded.now m c) r
-  field-part h = subst (λ (b : List ℕ). PartOf (ownBuffer payload decoded c) (shown (span_of payload.now m c) b) r) (buffer-buffer (λ x. x.now) payload decoded c) h
+  pub field_part : PartOf (own_buffer payload decoded c) (shown (span_of payload.now m c) (own_buffer payload decoded c).now) r
+      → PartOf (own_buffer payload decoded c) (field_span payload.now decoded.now m c) r
+  field_part h = subst (λ (b : List ℕ). PartOf (own_buffer payload decoded c) (shown (span_of payload.now m c) b) r) (buffer_buffer (λ x. x.now) payload decoded c) h
 
-  pub field-bytes : PartOf (ownBuffer payload decoded c) (fieldSpan payload.now decoded.now m c) r → r.now ≡ field_of payload.now decoded.now m c
+  pub field_bytes_lem : PartOf (own_buffer payload decoded c) (field_span payload.now decoded.now m c) r → r.now ≡ field_of payload.now decoded.now m c
   unfolding field_of
-  field-bytes h = h.bytes ∙ ap (cut (fieldSpan payload.now decoded.now m c)) (buffer-buffer (λ x. x.now) payload decoded c)
+  field_bytes_lem h = h.bytes ∙ ap (cut (field_span payload.now decoded.now m c)) (buffer_buffer (λ x. x.now) payload decoded c)
 
-pub passes-there : (payload decoded : List ℕ) (m : FieldMap) (c : Context) (r : Bool) → r ≡ passes (span_of payload m c) (ownBuffer payload decoded c)
-    → r ≡ fieldPasses payload decoded m c
-passes-there payload decoded m c r h = h ∙ ap (passes (span_of payload m c)) (buffer-buffer (λ (l : List ℕ). l) payload decoded c)
+pub passes_there : (payload decoded : List ℕ) (m : FieldMap) (c : Context) (r : Bool) → r ≡ passes (span_of payload m c) (own_buffer payload decoded c)
+    → r ≡ field_passes payload decoded m c
+passes_there payload decoded m c r h = h ∙ ap (passes (span_of payload m c)) (buffer_buffer (λ (l : List ℕ). l) payload decoded c)

@@ -2,10 +2,10 @@
 pub mod places;
 
 ghost use Rattle.std.specs.Prelude.{◌≡◌};
-ghost use Rattle.definitions.specs.Fields.{present, field_of, fieldSpan, fieldsCheck, fieldPasses};
-ghost use Rattle.definitions.specs.AnswerNumbers.{checkNumbers, fieldsInNumbers};
+ghost use Rattle.definitions.specs.Fields.{present, field_of, field_span, fields_check, field_passes};
+ghost use Rattle.definitions.specs.AnswerNumbers.{check_numbers, fields_in_numbers};
 ghost use Rattle.field_parts.specs.Parts.{PartOf};
-ghost use Rattle.fields.specs.Places.{ownBuffer};
+ghost use Rattle.fields.specs.Places.{own_buffer};
 
 use crate::places::{part_of_one, passes_one, place_of};
 use definitions::answers::{Check, Refusal};
@@ -26,7 +26,7 @@ pub fn is_present(m: FieldMap, c: Context) -> bool
 // that buffer's start. Both buffers have one lifetime, so neither can be written while the caller holds the answer.
 pub fn field_of<'a>(payload: &'a [u8], decoded: &'a [u8], m: FieldMap, c: Context) -> &'a [u8]
     ensures bytes { result.now ≡ field_of payload.now decoded.now m c }
-    ensures part { PartOf (ownBuffer payload.entry decoded.entry c) (fieldSpan payload.now decoded.now m c) result }
+    ensures part { PartOf (own_buffer payload.entry decoded.entry c) (field_span payload.now decoded.now m c) result }
 {
     let place = place_of(payload.len(), m, c);
     let buffer = place.buffer;
@@ -36,7 +36,7 @@ pub fn field_of<'a>(payload: &'a [u8], decoded: &'a [u8], m: FieldMap, c: Contex
 
 // Whether a field is present and its span passes its buffer.
 fn field_passes(payload: &[u8], decoded: &[u8], m: FieldMap, c: Context) -> bool
-    ensures { result ≡ fieldPasses payload.now decoded.now m c }
+    ensures { result ≡ field_passes payload.now decoded.now m c }
 {
     let place = place_of(payload.len(), m, c);
     let buffer = place.buffer;
@@ -46,8 +46,8 @@ fn field_passes(payload: &[u8], decoded: &[u8], m: FieldMap, c: Context) -> bool
 
 // Refusal 35, if a present field's span passes its buffer.
 pub fn fields_check(payload: &[u8], decoded: &[u8], m: FieldMap) -> Check
-    ensures answer { result ≡ fieldsCheck payload.now decoded.now m }
-    ensures numbers { checkNumbers result ≡ fieldsInNumbers payload.now decoded.now m }
+    ensures answer { result ≡ fields_check payload.now decoded.now m }
+    ensures numbers { check_numbers result ≡ fields_in_numbers payload.now decoded.now m }
 {
     let uri = field_passes(payload, decoded, m, Context::Uri);
     let header = field_passes(payload, decoded, m, Context::Header);

@@ -2,7 +2,7 @@
 ghost use Rattle.std.specs.Prelude.{◌≡◌, List, ℕ, length};
 ghost use Rattle.definitions.specs.Fields.{passes, shown};
 ghost use Rattle.field_parts.specs.Parts.{PartOf};
-ghost use Rattle.fields.specs.Places.{chosen, fieldPlace};
+ghost use Rattle.fields.specs.Places.{chosen, field_place};
 
 use definitions::packets::{FieldMap, FieldSpan, Span};
 use definitions::table::Context;
@@ -30,7 +30,7 @@ fn lies_in(buffer: Buffer, span: FieldSpan) -> Place
 
 // The place of a context's field beside a payload of so many bytes.
 pub fn place_of(len: usize, m: FieldMap, c: Context) -> Place
-    ensures { (payload : List ℕ) → length payload ≡ len → result ≡ fieldPlace payload m c }
+    ensures { (payload : List ℕ) → length payload ≡ len → result ≡ field_place payload m c }
 {
     let uri = m.uri;
     let header = m.header;

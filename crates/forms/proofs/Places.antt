@@ -11,9 +11,9 @@ use borrow.Author.Tests.{le-leb}
 use Rattle.forms.specs.Bytes.{if◌then◌else◌}
 use Rattle.forms.proofs.Bools.{by_cases, both_left, both_right}
 use Rattle.forms.specs.Form.{Class, has, Form, pure, byte, pair, alt, many, fmap, bound, Row, none, more, Means}
-use Rattle.forms.specs.Scan.{Scan, Got, Stop, onGot, nullable, firstSet, followSet, begins, one, loop, scan, onward, overs, over, apart, filled, isLL1}
-use Rattle.forms.proofs.Sound.{never, sound, sound-loose, stop-split, Read, after}
-use Rattle.forms.proofs.Complete.{complete, Reads, both3, no-empty, some_byte}
+use Rattle.forms.specs.Scan.{Scan, Got, Stop, on_got, nullable, first_set, follow_set, begins, one, loop, scan, onward, overs, over, apart, filled, is_ll1}
+use Rattle.forms.proofs.Sound.{never, sound, sound_loose, stop_split, Read, after}
+use Rattle.forms.proofs.Complete.{complete, Reads, both3, no_empty, some_byte}
 
 -- ---- what was passed over begins a text of the form
 
@@ -22,17 +22,17 @@ unfolding has
 has_one [] e = never (cc)
 has_one (r ∷ c) e = (r.0, rw (le-leb r.0 r.0 (le_refl _), e))
 
-member : {A : Type 0} (f : Form A) → isLL1 f ≡ true → (x : List ℕ) × (v : A) × Means false f x v
+member : {A : Type 0} (f : Form A) → is_ll1 f ≡ true → (x : List ℕ) × (v : A) × Means false f x v
 unfolding Means
 member (pure a) w = ([], a, (refl, refl))
 member (byte c) w = let h = has_one c w in (h.0 ∷ [], h.0, (refl, h.1))
 member (pair f g) w =
-    let b = both3 (isLL1 f) (isLL1 g) (apart (followSet f) (firstSet g)) w in
+    let b = both3 (is_ll1 f) (is_ll1 g) (apart (follow_set f) (first_set g)) w in
     let i = member f b.0 in
     let j = member g b.1 in
     (i.0 ++ j.0, (i.1, j.1), (i.0, j.0, refl, i.2, j.2))
 member (alt f g) w =
-    let b = both3 (isLL1 f) (isLL1 g) ((not (nullable f)) && (apart (firstSet f) (firstSet g))) w in
+    let b = both3 (is_ll1 f) (is_ll1 g) ((not (nullable f)) && (apart (first_set f) (first_set g))) w in
     let i = member f b.0 in
     (i.0, i.1, inl i.2)
 member (many f) w = ([], [], none)
@@ -43,19 +43,19 @@ member (fmap h f) w = let i = member f w in (i.0, h i.1, (i.1, refl, i.2))
 abbrev pub Begun : {A : Type 0} → (List ℕ → A → Type 0) → List ℕ → List ℕ → Type 0
 Begun {A} P l r = (p : List ℕ) × (y : List ℕ) × (v : A) × (l ≡ p ++ r) × P (p ++ y) v
 
-one-begun : (c : Class) → filled c ≡ true → (l r : List ℕ) → one c l ≡ Stop r → Begun (λ x w. (x ≡ w ∷ []) × (has c w ≡ true)) l r
-one-begun c w [] r e = let h = has_one c w in let q : [] ≡ r = cc in ([], h.0 ∷ [], h.0, q, (refl, h.1))
-one-begun c w (b ∷ l) r e =
+one_begun : (c : Class) → filled c ≡ true → (l r : List ℕ) → one c l ≡ Stop r → Begun (λ x w. (x ≡ w ∷ []) × (has c w ≡ true)) l r
+one_begun c w [] r e = let h = has_one c w in let q : [] ≡ r = cc in ([], h.0 ∷ [], h.0, q, (refl, h.1))
+one_begun c w (b ∷ l) r e =
     let h = has_one c w in
     by_cases (has c b)
     (λ t. let q : Got b l ≡ Stop r = rw t at e in never (cc))
     (λ t. let q : ◌≡◌ {A = Scan ℕ} (Stop (b ∷ l)) (Stop r) = rw t at e in let y : b ∷ l ≡ r = cc in ([], h.0 ∷ [], h.0, y, (refl, h.1)))
 
-loop-begun : {A : Type 0} (P : List ℕ → A → Type 0) (c : Class) (s : List ℕ → Scan A) → ((l : List ℕ) (v : A) (r : List ℕ) → s l ≡ Got v r → Read P l v r)
+loop_begun : {A : Type 0} (P : List ℕ → A → Type 0) (c : Class) (s : List ℕ → Scan A) → ((l : List ℕ) (v : A) (r : List ℕ) → s l ≡ Got v r → Read P l v r)
     → ((l r : List ℕ) → s l ≡ Stop r → Begun P l r) → (k : ℕ) (l r : List ℕ) → loop c s k l ≡ Stop r → Begun (Row P) l r
 unfolding loop
-loop-begun P c s g h zero l r e = never (cc)
-loop-begun P c s g h (suc k) l r e =
+loop_begun P c s g h zero l r e = never (cc)
+loop_begun P c s g h (suc k) l r e =
     by_cases (begins c l)
     (λ t.
     ⊎_elim
@@ -64,19 +64,19 @@ loop-begun P c s g h (suc k) l r e =
     ⊎_elim
     (λ u.
     let i = g l q.0 q.1 q.2 in
-    let j = loop-begun P c s g h k q.1 r u in
+    let j = loop_begun P c s g h k q.1 r u in
     (i.0 ++ j.0, j.1, q.0 ∷ j.2, after i.0 j.0 l q.1 r i.1 j.3, rw append_assoc (more i.2 j.4)))
     (λ u. let z = u.3 in never (cc))
-    (stop-split (loop c s k q.1) _ r q.3))
-    (stop-split (s l) _ r (rw t at e)))
+    (stop_split (loop c s k q.1) _ r q.3))
+    (stop_split (s l) _ r (rw t at e)))
     (λ t. let q : Got [] l ≡ Stop r = rw t at e in never (cc))
 
-pub begun : {A : Type 0} (f : Form A) → isLL1 f ≡ true → (l r : List ℕ) → scan f l ≡ Stop r → Begun (λ x w. Means false f x w) l r
+pub begun : {A : Type 0} (f : Form A) → is_ll1 f ≡ true → (l r : List ℕ) → scan f l ≡ Stop r → Begun (λ x w. Means false f x w) l r
 unfolding scan Means
 begun (pure a) w l r e = never (cc)
-begun (byte c) w l r e = one-begun c w l r e
+begun (byte c) w l r e = one_begun c w l r e
 begun (pair f g) w l r e =
-    let b = both3 (isLL1 f) (isLL1 g) (apart (followSet f) (firstSet g)) w in
+    let b = both3 (is_ll1 f) (is_ll1 g) (apart (follow_set f) (first_set g)) w in
     ⊎_elim
     (λ q.
     let i = begun f b.0 l r q in
@@ -85,26 +85,26 @@ begun (pair f g) w l r e =
     (λ q.
     ⊎_elim
     (λ u.
-    let i = sound-loose f l q.0 q.1 q.2 in
+    let i = sound_loose f l q.0 q.1 q.2 in
     let j = begun g b.1 q.1 r u in
     (i.0 ++ j.0, j.1, (q.0, j.2), after i.0 j.0 l q.1 r i.1 j.3, (i.0, j.0 ++ j.1, append_assoc i.0 j.0 j.1, i.2, j.4)))
     (λ u. let z = u.3 in never (cc))
-    (stop-split (scan g q.1) _ r q.3))
-    (stop-split (scan f l) _ r e)
+    (stop_split (scan g q.1) _ r q.3))
+    (stop_split (scan f l) _ r e)
 begun (alt f g) w l r e =
-    let b = both3 (isLL1 f) (isLL1 g) ((not (nullable f)) && (apart (firstSet f) (firstSet g))) w in
-    by_cases (begins (firstSet f) l)
+    let b = both3 (is_ll1 f) (is_ll1 g) ((not (nullable f)) && (apart (first_set f) (first_set g))) w in
+    by_cases (begins (first_set f) l)
     (λ t. let i = begun f b.0 l r (rw t at e) in (i.0, i.1, i.2, i.3, inl i.4))
     (λ t. let i = begun g b.1 l r (rw t at e) in (i.0, i.1, i.2, i.3, inr i.4))
 begun (many f) w l r e =
-    let b = both_left (isLL1 f) ((not (nullable f)) && (apart (followSet f) (firstSet f))) w in
-    loop-begun (λ x v. Means false f x v) (firstSet f) (λ m. scan f m) (λ m v t q. sound-loose f m v t q) (λ m t q. begun f b m t q) (length l) l r e
+    let b = both_left (is_ll1 f) ((not (nullable f)) && (apart (follow_set f) (first_set f))) w in
+    loop_begun (λ x v. Means false f x v) (first_set f) (λ m. scan f m) (λ m v t q. sound_loose f m v t q) (λ m t q. begun f b m t q) (length l) l r e
 begun (bound p j f) w l r e = let i = begun f w l r e in (i.0, i.1, i.2, i.3, (i.4, λ q. never (cc)))
 begun (fmap h f) w l r e =
     ⊎_elim
     (λ q. let i = begun f w l r q in (i.0, i.1, h i.2, i.3, (i.2, refl, i.4)))
     (λ q. let z = q.3 in never (cc))
-    (stop-split (scan f l) _ r e)
+    (stop_split (scan f l) _ r e)
 
 -- ---- one byte decides: nothing depends on what stands after the first byte that is left
 
@@ -125,17 +125,17 @@ alike : (q t u : List ℕ) → take 1 t ≡ take 1 u → take 1 (q ++ t) ≡ tak
 alike [] t u e = e
 alike (b ∷ q) t u e = refl
 
-alike-begins : (c : Class) (t u : List ℕ) → take 1 t ≡ take 1 u → begins c t ≡ begins c u
-alike-begins c [] [] e = refl
-alike-begins c [] (b ∷ u) e = never (cc)
-alike-begins c (b ∷ t) [] e = never (cc)
-alike-begins c (b ∷ t) (d ∷ u) e = let q : b ≡ d = cc in rw q
+alike_begins : (c : Class) (t u : List ℕ) → take 1 t ≡ take 1 u → begins c t ≡ begins c u
+alike_begins c [] [] e = refl
+alike_begins c [] (b ∷ u) e = never (cc)
+alike_begins c (b ∷ t) [] e = never (cc)
+alike_begins c (b ∷ t) (d ∷ u) e = let q : b ≡ d = cc in rw q
 
-local-bind : {A B : Type 0} (s : List ℕ → Scan A) (k : A → List ℕ → Scan B) (l : List ℕ) → Local s l
-    → ((a : A) (m : List ℕ) → s l ≡ Got a m → Local (k a) m) → Local (λ m. onGot (s m) k) l
-local-bind {A} {B} s k l i h = go (s l) refl
+local_bind : {A B : Type 0} (s : List ℕ → Scan A) (k : A → List ℕ → Scan B) (l : List ℕ) → Local s l
+    → ((a : A) (m : List ℕ) → s l ≡ Got a m → Local (k a) m) → Local (λ m. on_got (s m) k) l
+local_bind {A} {B} s k l i h = go (s l) refl
   where
-    go : (o : Scan A) → s l ≡ o → Local (λ m. onGot (s m) k) l
+    go : (o : Scan A) → s l ≡ o → Local (λ m. on_got (s m) k) l
     go (Got a m) e =
         let j = h a m e in
         let d1 : l ≡ i.passed ++ m = i.split ∙ rw e in
@@ -158,16 +158,16 @@ local-bind {A} {B} s k l i h = go (s l) refl
               rw (q3, e);
         }
 
-local-got : {A : Type 0} (a : A) (l : List ℕ) → Local (λ m. Got a m) l
-local-got a l = record { passed = []; split = refl; same = λ u q. refl }
+local_got : {A : Type 0} (a : A) (l : List ℕ) → Local (λ m. Got a m) l
+local_got a l = record { passed = []; split = refl; same = λ u q. refl }
 
-local-one : (c : Class) (l : List ℕ) → Local (λ m. one c m) l
-local-one c [] = record { passed = []; split = refl; same = λ u q. local-end u q }
+local_one : (c : Class) (l : List ℕ) → Local (λ m. one c m) l
+local_one c [] = record { passed = []; split = refl; same = λ u q. local_end u q }
   where
-    local-end : (u : List ℕ) → ◌≡◌ {A = List ℕ} [] (take 1 u) → one c u ≡ Stop u
-    local-end [] q = refl
-    local-end (b ∷ u) q = never (cc)
-local-one c (b ∷ l) =
+    local_end : (u : List ℕ) → ◌≡◌ {A = List ℕ} [] (take 1 u) → one c u ≡ Stop u
+    local_end [] q = refl
+    local_end (b ∷ u) q = never (cc)
+local_one c (b ∷ l) =
     by_cases (has c b)
     (λ t. record { passed = b ∷ []; split = rw t; same = λ u q. rw t })
     (λ t. record { passed = []; split = rw t; same = λ u q. go t u (rw t at q) })
@@ -176,8 +176,8 @@ local-one c (b ∷ l) =
     go t [] q = never (cc)
     go t (d ∷ u) q = let e : d ≡ b = cc in rw (e, t)
 
-local-pick : {A : Type 0} (c : Class) (s t : List ℕ → Scan A) (l : List ℕ) → Local s l → Local t l → Local (λ m. (if begins c m then (s m) else (t m))) l
-local-pick c s t l i j =
+local_pick : {A : Type 0} (c : Class) (s t : List ℕ → Scan A) (l : List ℕ) → Local s l → Local t l → Local (λ m. (if begins c m then (s m) else (t m))) l
+local_pick c s t l i j =
     by_cases (begins c l)
     (λ e. record {
       passed = i.passed;
@@ -185,7 +185,7 @@ local-pick c s t l i j =
       same = λ u q.
           let q1 : take 1 (rest (s l)) ≡ take 1 u = rw e at q in
           let q2 : begins c (i.passed ++ u) ≡ true =
-          sym (alike-begins c l (i.passed ++ u) (ap (take 1) i.split ∙ alike i.passed (rest (s l)) u q1)) ∙ e in
+          sym (alike_begins c l (i.passed ++ u) (ap (take 1) i.split ∙ alike i.passed (rest (s l)) u q1)) ∙ e in
           rw (q2, e) (i.same u q1);
     })
     (λ e. record {
@@ -194,14 +194,14 @@ local-pick c s t l i j =
       same = λ u q.
           let q1 : take 1 (rest (t l)) ≡ take 1 u = rw e at q in
           let q2 : begins c (j.passed ++ u) ≡ false =
-          sym (alike-begins c l (j.passed ++ u) (ap (take 1) j.split ∙ alike j.passed (rest (t l)) u q1)) ∙ e in
+          sym (alike_begins c l (j.passed ++ u) (ap (take 1) j.split ∙ alike j.passed (rest (t l)) u q1)) ∙ e in
           rw (q2, e) (j.same u q1);
     })
 
 -- how much fuel there is does not matter, if there is enough
 module _ {A : Type 0} (c : Class) (s : List ℕ → Scan A) (eats : (l : List ℕ) (v : A) (r : List ℕ) → s l ≡ Got v r → length r < length l) where
   once : (List ℕ → Scan (List A)) → List ℕ → Scan (List A)
-  once k l = (if begins c l then (onGot (s l) (λ a r. onGot (k r) (λ vs t. Got (a ∷ vs) t))) else (Got [] l))
+  once k l = (if begins c l then (on_got (s l) (λ a r. on_got (k r) (λ vs t. Got (a ∷ vs) t))) else (Got [] l))
 
   fuel : (k n : ℕ) (l : List ℕ) → length l ≤ k → length l ≤ n → loop c s k l ≡ loop c s n l
   unfolding loop
@@ -214,7 +214,7 @@ module _ {A : Type 0} (c : Class) (s : List ℕ → Scan A) (eats : (l : List �
       by_cases (begins c l) (λ t. rw t (by-got (s l) refl (λ a r q. fuel k n r (omega (arith, eats l a r q, h)) (omega (arith, eats l a r q, g))))) (λ t. rw t)
     where
       by-got : (o : Scan A) → s l ≡ o → ((a : A) (r : List ℕ) → s l ≡ Got a r → loop c s k r ≡ loop c s n r)
-          → onGot o (λ a r. onGot (loop c s k r) (λ vs t. Got (a ∷ vs) t)) ≡ onGot o (λ a r. onGot (loop c s n r) (λ vs t. Got (a ∷ vs) t))
+          → on_got o (λ a r. on_got (loop c s k r) (λ vs t. Got (a ∷ vs) t)) ≡ on_got o (λ a r. on_got (loop c s n r) (λ vs t. Got (a ∷ vs) t))
       by-got (Got a r) e f = rw (f a r e)
       by-got (Stop r) e f = refl
 
@@ -225,20 +225,20 @@ module _ {A : Type 0} (c : Class) (s : List ℕ → Scan A) (eats : (l : List �
       (λ t. rw t (by-got (s (b ∷ l)) refl (λ a r q. fuel (length l) (length r) r (omega (arith, eats (b ∷ l) a r q)) (le_refl _)))) (λ t. rw t)
     where
       by-got : (o : Scan A) → s (b ∷ l) ≡ o → ((a : A) (r : List ℕ) → s (b ∷ l) ≡ Got a r → loop c s (length l) r ≡ loop c s (length r) r)
-          → onGot o (λ a r. onGot (loop c s (length l) r) (λ vs t. Got (a ∷ vs) t)) ≡ onGot o (λ a r. onGot (loop c s (length r) r) (λ vs t. Got (a ∷ vs) t))
+          → on_got o (λ a r. on_got (loop c s (length l) r) (λ vs t. Got (a ∷ vs) t)) ≡ on_got o (λ a r. on_got (loop c s (length r) r) (λ vs t. Got (a ∷ vs) t))
       by-got (Got a r) e f = rw (f a r e)
       by-got (Stop r) e f = refl
 
-  fuel-over : (o : List ℕ → List (List ℕ)) (k n : ℕ) (l : List ℕ) → length l ≤ k → length l ≤ n → overs c s o k l ≡ overs c s o n l
+  fuel_over : (o : List ℕ → List (List ℕ)) (k n : ℕ) (l : List ℕ) → length l ≤ k → length l ≤ n → overs c s o k l ≡ overs c s o n l
   unfolding overs
-  fuel-over o zero zero l h g = refl
-  fuel-over o zero (suc n) [] h g = refl
-  fuel-over o zero (suc n) (b ∷ l) h g = absurd (omega (arith, h))
-  fuel-over o (suc k) zero [] h g = refl
-  fuel-over o (suc k) zero (b ∷ l) h g = absurd (omega (arith, g))
-  fuel-over o (suc k) (suc n) l h g =
+  fuel_over o zero zero l h g = refl
+  fuel_over o zero (suc n) [] h g = refl
+  fuel_over o zero (suc n) (b ∷ l) h g = absurd (omega (arith, h))
+  fuel_over o (suc k) zero [] h g = refl
+  fuel_over o (suc k) zero (b ∷ l) h g = absurd (omega (arith, g))
+  fuel_over o (suc k) (suc n) l h g =
       by_cases (begins c l)
-      (λ t. rw t (ap (λ x. o l ++ x) (by-got (s l) refl (λ a r q. fuel-over o k n r (omega (arith, eats l a r q, h)) (omega (arith, eats l a r q, g))))))
+      (λ t. rw t (ap (λ x. o l ++ x) (by-got (s l) refl (λ a r q. fuel_over o k n r (omega (arith, eats l a r q, h)) (omega (arith, eats l a r q, g))))))
       (λ t. rw t)
     where
       by-got : (u : Scan A) → s l ≡ u → ((a : A) (r : List ℕ) → s l ≡ Got a r → overs c s o k r ≡ overs c s o n r)
@@ -246,14 +246,14 @@ module _ {A : Type 0} (c : Class) (s : List ℕ → Scan A) (eats : (l : List �
       by-got (Got a r) e f = f a r e
       by-got (Stop r) e f = refl
 
-  unroll-over : (o : List ℕ → List (List ℕ)) (l : List ℕ)
+  unroll_over : (o : List ℕ → List (List ℕ)) (l : List ℕ)
       → overs c s o (length l) l ≡ (if begins c l then (o l ++ onward (s l) (λ a r. overs c s o (length r) r)) else [])
   unfolding overs
-  unroll-over o [] = refl
-  unroll-over o (b ∷ l) =
+  unroll_over o [] = refl
+  unroll_over o (b ∷ l) =
       by_cases (begins c (b ∷ l))
       (λ t. rw t (ap (λ x. o (b ∷ l) ++ x)
-      (by-got (s (b ∷ l)) refl (λ a r q. fuel-over o (length l) (length r) r (omega (arith, eats (b ∷ l) a r q)) (le_refl _)))))
+      (by-got (s (b ∷ l)) refl (λ a r q. fuel_over o (length l) (length r) r (omega (arith, eats (b ∷ l) a r q)) (le_refl _)))))
       (λ t. rw t)
     where
       by-got : (u : Scan A) → s (b ∷ l) ≡ u → ((a : A) (r : List ℕ) → s (b ∷ l) ≡ Got a r → overs c s o (length l) r ≡ overs c s o (length r) r)
@@ -261,52 +261,52 @@ module _ {A : Type 0} (c : Class) (s : List ℕ → Scan A) (eats : (l : List �
       by-got (Got a r) e f = f a r e
       by-got (Stop r) e f = refl
 
-  local-loop : ((l : List ℕ) → Local s l) → (n : ℕ) (l : List ℕ) → length l ≤ n → Local (λ m. loop c s (length m) m) l
+  local_loop : ((l : List ℕ) → Local s l) → (n : ℕ) (l : List ℕ) → length l ≤ n → Local (λ m. loop c s (length m) m) l
   unfolding once
-  local-loop h zero l g =
+  local_loop h zero l g =
       subst (λ k. Local k l) (fun_ext (λ m. sym (unroll m)))
-      (local-pick c _ _ l (local-bind s _ l (h l) (λ a m e. absurd (omega (arith, eats l a m e, g)))) (local-got [] l))
-  local-loop h (suc n) l g =
+      (local_pick c _ _ l (local_bind s _ l (h l) (λ a m e. absurd (omega (arith, eats l a m e, g)))) (local_got [] l))
+  local_loop h (suc n) l g =
       subst (λ k. Local k l) (fun_ext (λ m. sym (unroll m)))
-      (local-pick c _ _ l
-      (local-bind s _ l (h l)
-      (λ a m e. local-bind (λ m. loop c s (length m) m) _ m (local-loop h n m (omega (arith, eats l a m e, g))) (λ vs t q. local-got (a ∷ vs) t)))
-      (local-got [] l))
+      (local_pick c _ _ l
+      (local_bind s _ l (h l)
+      (λ a m e. local_bind (λ m. loop c s (length m) m) _ m (local_loop h n m (omega (arith, eats l a m e, g))) (λ vs t q. local_got (a ∷ vs) t)))
+      (local_got [] l))
 
-eats-of : {A : Type 0} (f : Form A) → not (nullable f) ≡ true → (l : List ℕ) (v : A) (r : List ℕ) → scan f l ≡ Got v r → length r < length l
-eats-of f n l v r e =
-    let i = sound-loose f l v r e in
-    let h = some_byte i.0 (λ z. no-empty false f n v (subst (λ x. Means false f x v) z i.2)) in
+eats_of : {A : Type 0} (f : Form A) → not (nullable f) ≡ true → (l : List ℕ) (v : A) (r : List ℕ) → scan f l ≡ Got v r → length r < length l
+eats_of f n l v r e =
+    let i = sound_loose f l v r e in
+    let h = some_byte i.0 (λ z. no_empty false f n v (subst (λ x. Means false f x v) z i.2)) in
     omega (arith, h, ap length i.1 ∙ length-append i.0 r)
 
 -- one turn of a star
-pub many-unroll : {A : Type 0} (f : Form A) → not (nullable f) ≡ true → (l : List ℕ)
-    → scan (many f) l ≡ (if begins (firstSet f) l then (onGot (scan f l) (λ a r. onGot (scan (many f) r) (λ vs t. Got (a ∷ vs) t))) else (Got [] l))
+pub many_unroll : {A : Type 0} (f : Form A) → not (nullable f) ≡ true → (l : List ℕ)
+    → scan (many f) l ≡ (if begins (first_set f) l then (on_got (scan f l) (λ a r. on_got (scan (many f) r) (λ vs t. Got (a ∷ vs) t))) else (Got [] l))
 unfolding scan once
-many-unroll f n l = unroll (firstSet f) (λ m. scan f m) (λ m v r e. eats-of f n m v r e) l
+many_unroll f n l = unroll (first_set f) (λ m. scan f m) (λ m v r e. eats_of f n m v r e) l
 
-pub many-over : {A : Type 0} (f : Form A) → not (nullable f) ≡ true → (l : List ℕ)
-    → over (many f) l ≡ (if begins (firstSet f) l then (over f l ++ onward (scan f l) (λ a r. over (many f) r)) else [])
+pub many_over : {A : Type 0} (f : Form A) → not (nullable f) ≡ true → (l : List ℕ)
+    → over (many f) l ≡ (if begins (first_set f) l then (over f l ++ onward (scan f l) (λ a r. over (many f) r)) else [])
 unfolding over
-many-over f n l = unroll-over (firstSet f) (λ m. scan f m) (λ m v r e. eats-of f n m v r e) (λ m. over f m) l
+many_over f n l = unroll_over (first_set f) (λ m. scan f m) (λ m v r e. eats_of f n m v r e) (λ m. over f m) l
 
-local : {A : Type 0} (f : Form A) → isLL1 f ≡ true → (l : List ℕ) → Local (λ m. scan f m) l
+local : {A : Type 0} (f : Form A) → is_ll1 f ≡ true → (l : List ℕ) → Local (λ m. scan f m) l
 unfolding scan
-local (pure a) w l = local-got a l
-local (byte c) w l = local-one c l
+local (pure a) w l = local_got a l
+local (byte c) w l = local_one c l
 local (pair f g) w l =
-    let b = both3 (isLL1 f) (isLL1 g) (apart (followSet f) (firstSet g)) w in
-    local-bind (λ m. scan f m) _ l (local f b.0 l) (λ a m e. local-bind (λ m. scan g m) _ m (local g b.1 m) (λ v t q. local-got (a, v) t))
+    let b = both3 (is_ll1 f) (is_ll1 g) (apart (follow_set f) (first_set g)) w in
+    local_bind (λ m. scan f m) _ l (local f b.0 l) (λ a m e. local_bind (λ m. scan g m) _ m (local g b.1 m) (λ v t q. local_got (a, v) t))
 local (alt f g) w l =
-    let b = both3 (isLL1 f) (isLL1 g) ((not (nullable f)) && (apart (firstSet f) (firstSet g))) w in
-    local-pick (firstSet f) (λ m. scan f m) (λ m. scan g m) l (local f b.0 l) (local g b.1 l)
+    let b = both3 (is_ll1 f) (is_ll1 g) ((not (nullable f)) && (apart (first_set f) (first_set g))) w in
+    local_pick (first_set f) (λ m. scan f m) (λ m. scan g m) l (local f b.0 l) (local g b.1 l)
 local (many f) w l =
-    let b = both_left (isLL1 f) ((not (nullable f)) && (apart (followSet f) (firstSet f))) w in
-    let b2 = both_right (isLL1 f) ((not (nullable f)) && (apart (followSet f) (firstSet f))) w in
-    let n = both_left (not (nullable f)) (apart (followSet f) (firstSet f)) b2 in
-    local-loop (firstSet f) (λ m. scan f m) (λ m v r e. eats-of f n m v r e) (λ m. local f b m) (length l) l (le_refl _)
+    let b = both_left (is_ll1 f) ((not (nullable f)) && (apart (follow_set f) (first_set f))) w in
+    let b2 = both_right (is_ll1 f) ((not (nullable f)) && (apart (follow_set f) (first_set f))) w in
+    let n = both_left (not (nullable f)) (apart (follow_set f) (first_set f)) b2 in
+    local_loop (first_set f) (λ m. scan f m) (λ m v r e. eats_of f n m v r e) (λ m. local f b m) (length l) l (le_refl _)
 local (bound p j f) w l = local f w l
-local (fmap h f) w l = local-bind (λ m. scan f m) _ l (local f w l) (λ a m e. local-got (h a) m)
+local (fmap h f) w l = local_bind (λ m. scan f m) _ l (local f w l) (λ a m e. local_got (h a) m)
 
 -- ---- the theorems
 
@@ -316,11 +316,11 @@ pub record StopsAt {A : Type 0} (f : Form A) (l r : List ℕ) : Type 0 where
   pub split : l ≡ passed ++ r
   pub onward : List ℕ
   pub value : A
-  pub begins-one : Means false f (passed ++ onward) value
-  pub no-further : (b : ℕ) (t y : List ℕ) (v : A) → r ≡ b ∷ t → Means false f (passed ++ b ∷ y) v → ⊥
+  pub begins_one : Means false f (passed ++ onward) value
+  pub no_further : (b : ℕ) (t y : List ℕ) (v : A) → r ≡ b ∷ t → Means false f (passed ++ b ∷ y) v → ⊥
 
 -- THE PLACE where the scanner stops
-pub stops_at : {A : Type 0} (f : Form A) → isLL1 f ≡ true → (l r : List ℕ) → scan f l ≡ Stop r → StopsAt f l r
+pub stops_at : {A : Type 0} (f : Form A) → is_ll1 f ≡ true → (l r : List ℕ) → scan f l ≡ Stop r → StopsAt f l r
 stops_at {A} f w l r e =
     let i = begun f w l r e in
     let j = local f w l in
@@ -331,8 +331,8 @@ stops_at {A} f w l r e =
       split = i.3;
       onward = i.1;
       value = i.2;
-      begins-one = i.4;
-      no-further = λ b t y v q m.
+      begins_one = i.4;
+      no_further = λ b t y v q m.
           let g : scan f (j.passed ++ b ∷ y) ≡ Stop (b ∷ y) = j.same (b ∷ y) (rw (e, q)) ∙ rw e in
           let h : scan f ((i.0 ++ b ∷ y) ++ []) ≡ Got v [] = (complete false f w (i.0 ++ b ∷ y) v [] m refl).0 in
           let k : scan f (i.0 ++ b ∷ y) ≡ Got v [] = rw append-nil at h in
@@ -342,14 +342,14 @@ stops_at {A} f w l r e =
     }
 
 -- THE FORM EXACTLY: the scanner reads the whole of l with value v, and with k true breaks no bound, exactly if l is of the form with value v
-pub exactly : {A : Type 0} (k : Bool) (f : Form A) → isLL1 f ≡ true → (l : List ℕ) (v : A) → Reads k f l v [] ↔ Means k f l v
+pub exactly : {A : Type 0} (k : Bool) (f : Form A) → is_ll1 f ≡ true → (l : List ℕ) (v : A) → Reads k f l v [] ↔ Means k f l v
 exactly k f w l v = (
   λ e. let i = sound k f l v [] e.0 e.1 in subst (λ x. Means k f x v) (sym (i.1 ∙ append-nil i.0)) i.2,
   λ m. subst (λ x. Reads k f x v []) (append-nil l) (complete k f w l v [] m refl),
 )
 
 -- so a text has one value
-pub unambiguous : {A : Type 0} (k : Bool) (f : Form A) → isLL1 f ≡ true → (l : List ℕ) (v u : A) → Means k f l v → Means k f l u → v ≡ u
+pub unambiguous : {A : Type 0} (k : Bool) (f : Form A) → is_ll1 f ≡ true → (l : List ℕ) (v u : A) → Means k f l v → Means k f l u → v ≡ u
 unambiguous k f w l v u m n =
     let a = ((exactly k f w l v).1 m).0 in
     let b = ((exactly k f w l u).1 n).0 in

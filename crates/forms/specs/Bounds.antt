@@ -16,10 +16,10 @@ abbrev pub shifted : ℕ → List Bounded → List Bounded
 shifted n bs = map (λ (b : Bounded). record { before = n + b.before; part = b.part; skip = b.skip; kept = b.kept }) bs
 
 -- of texts one after the other
-abbrev pub rowBounds : {A : Type 0} (P : List ℕ → A → Type 0) → ((x : List ℕ) (v : A) → P x v → List Bounded) → {x : List ℕ} {vs : List A} → Row P x vs
+abbrev pub row_bounds : {A : Type 0} (P : List ℕ → A → Type 0) → ((x : List ℕ) (v : A) → P x v → List Bounded) → {x : List ℕ} {vs : List A} → Row P x vs
     → List Bounded
-rowBounds P h none = []
-rowBounds P h (more {x} {y} {v} {vs} p q) = h x v p ++ shifted (length x) (rowBounds P h q)
+row_bounds P h none = []
+row_bounds P h (more {x} {y} {v} {vs} p q) = h x v p ++ shifted (length x) (row_bounds P h q)
 
 -- of a text of the form; a bound stands after those on parts of its own part
 unfoldable pub bounds : {A : Type 0} (f : Form A) (x : List ℕ) (v : A) → Means false f x v → List Bounded
@@ -29,11 +29,11 @@ bounds (byte c) x v m = []
 bounds (pair f g) x v m = bounds f m.0 v.0 m.3 ++ shifted (length m.0) (bounds g m.1 v.1 m.4)
 bounds (alt f g) x v (inl m) = bounds f x v m
 bounds (alt f g) x v (inr m) = bounds g x v m
-bounds (many f) x v m = rowBounds (λ y w. Means false f y w) (λ y w n. bounds f y w n) m
+bounds (many f) x v m = row_bounds (λ y w. Means false f y w) (λ y w n. bounds f y w n) m
 bounds (fmap h f) x v m = bounds f x m.0 m.2
 bounds (bound p j f) x v m = bounds f x v m.0 ++ (record { before = 0; part = x; skip = j v; kept = p v } ∷ [])
 
 -- none is broken
-abbrev pub allKept : List Bounded → Bool
-allKept [] = true
-allKept (b ∷ bs) = b.kept && allKept bs
+abbrev pub all_kept : List Bounded → Bool
+all_kept [] = true
+all_kept (b ∷ bs) = b.kept && all_kept bs

@@ -22,11 +22,11 @@ unfoldable pub lower : ℕ → ℕ
 lower b = if between 65 90 b then b + 32 else b
 
 -- the bytes x are the word w, which is written in small letters; the letter case of x is ignored
-unfoldable pub sameWord : List ℕ → List ℕ → Bool
-sameWord [] [] = true
-sameWord [] (y ∷ w) = false
-sameWord (b ∷ x) [] = false
-sameWord (b ∷ x) (y ∷ w) = eqb (lower b) y && sameWord x w
+unfoldable pub same_word : List ℕ → List ℕ → Bool
+same_word [] [] = true
+same_word [] (y ∷ w) = false
+same_word (b ∷ x) [] = false
+same_word (b ∷ x) (y ∷ w) = eqb (lower b) y && same_word x w
 
 -- how many bytes at the front pass the test, up to the first that does not
 unfoldable pub run : (ℕ → Bool) → List ℕ → ℕ

@@ -26,17 +26,17 @@ some {A} f = fmap (λ (p : A × List A). p.0 ∷ p.1) (pair f (many f))
 abbrev pub literal : ℕ → Form ℕ
 literal b = byte ((b, b) ∷ [])
 
-abbrev pub literalAs : {A : Type 0} → ℕ → A → Form A
-literalAs b a = fmap (λ (x : ℕ). a) (literal b)
+abbrev pub literal_as : {A : Type 0} → ℕ → A → Form A
+literal_as b a = fmap (λ (x : ℕ). a) (literal b)
 
 -- a byte of a word that is written in small letters, in either case
-abbrev pub anyCase : ℕ → Form ℕ
-anyCase b = byte (if between 97 122 b then (b, b) ∷ (b - 32, b - 32) ∷ [] else (b, b) ∷ [])
+abbrev pub any_case : ℕ → Form ℕ
+any_case b = byte (if between 97 122 b then (b, b) ∷ (b - 32, b - 32) ∷ [] else (b, b) ∷ [])
 
 -- a word, and what it says; a word alone
 abbrev pub keyword : {A : Type 0} → List ℕ → A → Form A
 keyword [] a = pure a
-keyword (b ∷ w) a = preceded (anyCase b) (keyword w a)
+keyword (b ∷ w) a = preceded (any_case b) (keyword w a)
 
 abbrev pub word : List ℕ → Form ℕ
 word w = keyword w 0

@@ -19,25 +19,25 @@ abbrev pub placed : {A : Type 0} → List ℕ → List (List ℕ) → Scan A →
 placed s o (Got v r) = within s o v r
 placed s o (Stop r) = Failed (length s - length r)
 
-unfoldable pub readAt : {A : Type 0} → Form A → List ℕ → ℕ → Read A
-readAt f s at = placed s (over f (drop at s)) (scan f (drop at s))
+unfoldable pub read_at : {A : Type 0} → Form A → List ℕ → ℕ → Read A
+read_at f s at = placed s (over f (drop at s)) (scan f (drop at s))
 
 -- ---- how readings go together
 
-abbrev pub mapRead : {A B : Type 0} → (A → B) → Read A → Read B
-mapRead h (Parsed a n) = Parsed (h a) n
-mapRead h (OutOfRange p n) = OutOfRange p n
-mapRead h (Failed p) = Failed p
+abbrev pub map_read : {A B : Type 0} → (A → B) → Read A → Read B
+map_read h (Parsed a n) = Parsed (h a) n
+map_read h (OutOfRange p n) = OutOfRange p n
+map_read h (Failed p) = Failed p
 
-abbrev pub outOfRangeAt : {A B : Type 0} → ℕ → Read A → Read B
-outOfRangeAt p (Parsed a n) = OutOfRange p n
-outOfRangeAt p (OutOfRange q n) = OutOfRange p n
-outOfRangeAt p (Failed q) = Failed q
+abbrev pub out_of_range_at : {A B : Type 0} → ℕ → Read A → Read B
+out_of_range_at p (Parsed a n) = OutOfRange p n
+out_of_range_at p (OutOfRange q n) = OutOfRange p n
+out_of_range_at p (Failed q) = Failed q
 
 -- the one, and from the end of it the other
 abbrev pub both_read : {A B C : Type 0} → (A → B → C) → Read A → (ℕ → Read B) → Read C
-both_read h (Parsed a n) k = mapRead (h a) (k n)
-both_read h (OutOfRange p n) k = outOfRangeAt p (k n)
+both_read h (Parsed a n) k = map_read (h a) (k n)
+both_read h (OutOfRange p n) k = out_of_range_at p (k n)
 both_read h (Failed p) k = Failed p
 
 abbrev pub bounded : {A : Type 0} → (A → Bool) → (A → ℕ) → Read A → Read A

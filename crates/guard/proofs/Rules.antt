@@ -1,5 +1,5 @@
--- When a rule decides: never where it is off (`off-never`) or its text is refused (`unread-never`), since a refused reading has no well-formed table; else exactly
--- if the table that was read is met (`on-met`). A table that was read is well formed (`read-formed`).
+-- When a rule decides: never where it is off (`off_never`) or its text is refused (`unread-never`), since a refused reading has no well-formed table; else exactly
+-- if the table that was read is met (`on-met`). A table that was read is well formed (`read_formed`).
 use mathlib.Core.Path.{◌≡◌, refl, sym, ap, ◌∙◌}
 use mathlib.Core.Bool.{Bool, true, false, not, ◌&&◌, false≢true, and-false}
 use mathlib.Core.List.{List, [], ◌∷◌}
@@ -15,71 +15,71 @@ use Rattle.definitions.specs.declared.answers.ReadOutcome.TheVariants as outcome
 use Rattle.definitions.specs.declared.answers.Reading.{Reading}
 use Rattle.definitions.specs.declared.books.Action.TheVariants.{Hold}
 use Rattle.definitions.specs.declared.books.Decision.TheVariants.{Decided}
-use Rattle.definitions.specs.Limits.{documentLimits}
-use Rattle.definitions.specs.Tables.{nameIn, table_of}
-use Rattle.definitions.specs.Reading.{read, acceptedReading}
-use Rattle.definitions.specs.WellFormed.{nameFits, wellFormed}
-use Rattle.definitions.specs.Answers.{verdictBy, inputCheck, placementsOf, verdictAnswer}
+use Rattle.definitions.specs.Limits.{document_limits}
+use Rattle.definitions.specs.Tables.{name_in, table_of}
+use Rattle.definitions.specs.Reading.{read, accepted_reading}
+use Rattle.definitions.specs.WellFormed.{name_fits, well_formed}
+use Rattle.definitions.specs.Answers.{verdict_by, input_check, placements_of, verdict_answer}
 use Rattle.definitions.specs.Books.{Rule}
-use Rattle.definitions.specs.Decisions.{isOn, isMet, decides, decided}
-use Rattle.laws.proofs.Refusing.{refused-empty}
-use Rattle.roundtrip.proofs.Read.{read-shaped, read-well}
+use Rattle.definitions.specs.Decisions.{is_on, is_met, decides, decided}
+use Rattle.laws.proofs.Refusing.{refused_empty}
+use Rattle.roundtrip.proofs.Read.{read_shaped, read_well}
 use Rattle.matcher.specs.Matching.{Matchable}
-use Rattle.matcher.proofs.Matching.{formed-matchable}
+use Rattle.matcher.proofs.Matching.{formed_matchable}
 
 -- the empty table is not well formed: it has no name
-empty-formed : (room : ℕ) → wellFormed (table_of room []) ≡ false
-unfolding wellFormed nameFits table_of nameIn
-empty-formed room = refl
+empty_formed : (room : ℕ) → well_formed (table_of room []) ≡ false
+unfolding well_formed name_fits table_of name_in
+empty_formed room = refl
 
 module _ (p decoded : List ℕ) (dir : Direction) (m : FieldMap) where
   -- 20 is due
-  ill-formed-unmet : (t : Table) → wellFormed t ≡ false → isMet (verdictAnswer t p decoded dir m) ≡ false
-  unfolding verdictAnswer inputCheck
-  ill-formed-unmet t e = rw e
+  ill_formed_unmet : (t : Table) → well_formed t ≡ false → is_met (verdict_answer t p decoded dir m) ≡ false
+  unfolding verdict_answer input_check
+  ill_formed_unmet t e = rw e
 
   module _ (r : Rule) where
-    pub off-never : isOn r.state ≡ false → decides documentLimits p decoded dir m r ≡ false
+    pub off_never : is_on r.state ≡ false → decides document_limits p decoded dir m r ≡ false
     unfolding decides
-    off-never e = rw e
+    off_never e = rw e
 
-    module _ (x : Reading) (e : x ≡ read documentLimits r.source) where
-      pub unread-never : (c : Refusal) (place : ℕ) → x.outcome ≡ outcome.Refused c place → decides documentLimits p decoded dir m r ≡ false
+    module _ (x : Reading) (e : x ≡ read document_limits r.source) where
+      pub unread-never : (c : Refusal) (place : ℕ) → x.outcome ≡ outcome.Refused c place → decides document_limits p decoded dir m r ≡ false
       unfolding decides
       unread-never c place k =
-          let o : (read documentLimits r.source).outcome ≡ outcome.Refused c place = ap (λ (y : Reading). y.outcome) (sym e) ∙ k in
-          let t = refused-empty documentLimits r.source (λ a. accepted-not (sym a ∙ o)) in
-          rw (t, ill-formed-unmet (table_of documentLimits.room []) (empty-formed documentLimits.room)) (and-false (isOn r.state))
+          let o : (read document_limits r.source).outcome ≡ outcome.Refused c place = ap (λ (y : Reading). y.outcome) (sym e) ∙ k in
+          let t = refused_empty document_limits r.source (λ a. accepted_not (sym a ∙ o)) in
+          rw (t, ill_formed_unmet (table_of document_limits.room []) (empty_formed document_limits.room)) (and-false (is_on r.state))
         where
-          accepted-not : outcome.Accepted ≡ outcome.Refused c place → ⊥
-          accepted-not q = let z : false ≡ true = cc in false≢true z
+          accepted_not : outcome.Accepted ≡ outcome.Refused c place → ⊥
+          accepted_not q = let z : false ≡ true = cc in false≢true z
 
-      pub on-met : isOn r.state ≡ true → isMet (verdictAnswer x.table p decoded dir m) ≡ decides documentLimits p decoded dir m r
+      pub on-met : is_on r.state ≡ true → is_met (verdict_answer x.table p decoded dir m) ≡ decides document_limits p decoded dir m r
       unfolding decides
       on-met o = rw (e, o)
 
-module _ (s : List ℕ) (x : Reading) (e : x ≡ read documentLimits s) (a : x.outcome ≡ outcome.Accepted) where
-  accepted : read documentLimits s ≡ acceptedReading x.table
+module _ (s : List ℕ) (x : Reading) (e : x ≡ read document_limits s) (a : x.outcome ≡ outcome.Accepted) where
+  accepted : read document_limits s ≡ accepted_reading x.table
   accepted = sym e ∙ ap (λ (o : ReadOutcome). record { outcome = o; table = x.table }) a
 
-  pub read-formed : wellFormed x.table ≡ true
-  read-formed = read-well documentLimits s x.table (omega arith) accepted
+  pub read_formed : well_formed x.table ≡ true
+  read_formed = read_well document_limits s x.table (omega arith) accepted
 
-  pub read-matchable : Matchable x.table.items x.table.count x.table.bytes
-  read-matchable =
-      let n = (read-shaped documentLimits s x.table (omega arith) accepted).roomy in
-      formed-matchable x.table read-formed (omega (arith, n))
+  pub read_matchable : Matchable x.table.items x.table.count x.table.bytes
+  read_matchable =
+      let n = (read_shaped document_limits s x.table (omega arith) accepted).roomy in
+      formed_matchable x.table read_formed (omega (arith, n))
 
 module _ (p decoded : List ℕ) (dir : Direction) (m : FieldMap) (r : Rule) (rs : List Rule) where
-  pub decided-here : decides documentLimits p decoded dir m r ≡ true → decided documentLimits p decoded dir m (r ∷ rs) ≡ Decided r.action r.number
+  pub decided_here : decides document_limits p decoded dir m r ≡ true → decided document_limits p decoded dir m (r ∷ rs) ≡ Decided r.action r.number
   unfolding decided
-  decided-here e = rw e
+  decided_here e = rw e
 
-  pub decided-on : decides documentLimits p decoded dir m r ≡ false → decided documentLimits p decoded dir m (r ∷ rs) ≡ decided documentLimits p decoded dir m rs
+  pub decided_on : decides document_limits p decoded dir m r ≡ false → decided document_limits p decoded dir m (r ∷ rs) ≡ decided document_limits p decoded dir m rs
   unfolding decided
-  decided-on e = rw e
+  decided_on e = rw e
 
 -- no rule is left
-pub ended : (p decoded : List ℕ) (dir : Direction) (m : FieldMap) → decided documentLimits p decoded dir m [] ≡ Decided Hold 0
+pub ended : (p decoded : List ℕ) (dir : Direction) (m : FieldMap) → decided document_limits p decoded dir m [] ≡ Decided Hold 0
 unfolding decided
 ended p decoded dir m = refl

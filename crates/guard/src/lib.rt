@@ -1,10 +1,10 @@
 // THE NODE GUARD: pass or hold for a packet, by a whole rule book. It knows what the reader and the matcher promise, and nothing of how they do it.
 // Packet and decoded buffer have one lifetime, which ends with the call.
 ghost use Rattle.std.specs.Prelude.{◌≡◌};
-ghost use Rattle.definitions.specs.Limits.{documentLimits};
-ghost use Rattle.definitions.specs.Decisions.{isOn, decides, decided, decision};
-ghost use Rattle.definitions.specs.LoadedBooks.{ruleAt, rulesIn};
-ghost use Rattle.definitions.specs.AnswerNumbers.{decisionNumbers, decisionInNumbers};
+ghost use Rattle.definitions.specs.Limits.{document_limits};
+ghost use Rattle.definitions.specs.Decisions.{is_on, decides, decided, decision};
+ghost use Rattle.definitions.specs.LoadedBooks.{rule_at, rules_in};
+ghost use Rattle.definitions.specs.AnswerNumbers.{decision_numbers, decision_in_numbers};
 
 use definitions::answers::ReadOutcome;
 use definitions::books::{Action, Decision, Judgement, LoadedRule, Rules, State};
@@ -14,7 +14,7 @@ use rule_book::{load, text_at};
 
 // Whether a rule is on.
 pub fn is_on(s: State) -> bool
-    ensures { result ≡ isOn s }
+    ensures { result ≡ is_on s }
 {
     match s {
         State::On => true,
@@ -31,7 +31,7 @@ fn rule_decides<'a>(
     dir: Direction,
     m: FieldMap,
 ) -> bool
-    ensures { result ≡ decides documentLimits p.now decoded.now dir m (ruleAt book.now rule) }
+    ensures { result ≡ decides document_limits p.now decoded.now dir m (rule_at book.now rule) }
 {
     let state = rule.state;
     if !is_on(state) {
@@ -61,7 +61,7 @@ pub fn decide_by<'a>(
     dir: Direction,
     m: FieldMap,
 ) -> Decision
-    ensures { result ≡ decided documentLimits p.now decoded.now dir m (rulesIn book.now rules) }
+    ensures { result ≡ decided document_limits p.now decoded.now dir m (rules_in book.now rules) }
 {
     let mut i = 0;
     while i < RULES {
@@ -86,8 +86,8 @@ pub fn decide<'a>(
     dir: Direction,
     m: FieldMap,
 ) -> Decision
-    ensures answer { result ≡ decision documentLimits p.now decoded.now dir m book.now }
-    ensures numbers { decisionNumbers result ≡ decisionInNumbers documentLimits p.now decoded.now dir m book.now }
+    ensures answer { result ≡ decision document_limits p.now decoded.now dir m book.now }
+    ensures numbers { decision_numbers result ≡ decision_in_numbers document_limits p.now decoded.now dir m book.now }
 {
     let b = load(book);
     let judgement = b.judgement;

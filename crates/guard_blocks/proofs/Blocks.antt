@@ -10,113 +10,113 @@ use lib.ListN.{length, get_or, take, drop, replicate, length-append, length-drop
 use Rattle.definitions.specs.declared.books.LoadedRule.{LoadedRule}
 use Rattle.definitions.specs.declared.books.Rules.{Rules}
 use Rattle.definitions.specs.declared.books.Answered.{Answered}
-use Rattle.definitions.specs.Limits.{documentLimits}
+use Rattle.definitions.specs.Limits.{document_limits}
 use Rattle.definitions.specs.Lists.{any?}
 use Rattle.definitions.specs.Books.{Rule}
-use Rattle.definitions.specs.LoadedBooks.{ruleAt, rulesIn}
-use Rattle.definitions.specs.Blocks.{PacketRecord, recordsUpTo, actionNumber, recordNumber, blockNumbers, blockAnswered}
-use Rattle.rule_book.proofs.RulesFrom.{rulesFrom, rules-all, rules-here, rules-out}
-use Rattle.guard_numbers.specs.OpenNumbers.{openNumber, isOpen, closed}
-use Rattle.guard_packets.proofs.Records.{records-le, records-again}
-use Rattle.guard_blocks.specs.Numbering.{renumbered, byRule}
-use Rattle.guard_blocks.proofs.Resolving.{resolved, resolved-in, resolved-on, resolved-out, resolved-all}
+use Rattle.definitions.specs.LoadedBooks.{rule_at, rules_in}
+use Rattle.definitions.specs.Blocks.{PacketRecord, records_up_to, action_number, record_number, block_numbers, block_answered}
+use Rattle.rule_book.proofs.RulesFrom.{rules_from, rules_all, rules_here, rules_out}
+use Rattle.guard_numbers.specs.OpenNumbers.{open_number, is_open, closed}
+use Rattle.guard_packets.proofs.Records.{records_le, records_again}
+use Rattle.guard_blocks.specs.Numbering.{renumbered, by_rule}
+use Rattle.guard_blocks.proofs.Resolving.{resolved, resolved_in, resolved_on, resolved_out, resolved_all}
 
 -- ---- how many packets there are
 
-module _ (block out : List ℕ) {x : Answered} (e : x ≡ blockAnswered block (length out)) where
-  count-is : x.packets ≡ length (recordsUpTo (length out) block)
-  unfolding blockAnswered
-  count-is = ap (λ (y : Answered). y.packets) e
+module _ (block out : List ℕ) {x : Answered} (e : x ≡ block_answered block (length out)) where
+  count_is : x.packets ≡ length (records_up_to (length out) block)
+  unfolding block_answered
+  count_is = ap (λ (y : Answered). y.packets) e
 
-  pub counted-room : x.packets ≤ length out
-  counted-room = omega (arith, count-is, records-le (length out) block)
+  pub counted_room : x.packets ≤ length out
+  counted_room = omega (arith, count_is, records_le (length out) block)
 
-  records-are : recordsUpTo x.packets block ≡ recordsUpTo (length out) block
-  records-are = ap (λ (n : ℕ). recordsUpTo n block) count-is ∙ records-again (length out) block
+  records_are : records_up_to x.packets block ≡ records_up_to (length out) block
+  records_are = ap (λ (n : ℕ). records_up_to n block) count_is ∙ records_again (length out) block
 
-  pub counted-all : length (recordsUpTo x.packets block) ≡ x.packets
-  counted-all = ap length records-are ∙ sym count-is
+  pub counted_all_lem : length (records_up_to x.packets block) ≡ x.packets
+  counted_all_lem = ap length records_are ∙ sym count_is
 
 -- ---- the loop
 
 pub record Resolving (book block : List ℕ) (rules : Rules) (packets : ℕ) (out₀ out : List ℕ) (i : ℕ) : Type 0 where
   pub same : length out ≡ length out₀
-  pub answer : resolved (rulesFrom book rules i) (recordsUpTo packets block) out ≡ resolved (rulesFrom book rules 0) (recordsUpTo packets block) out₀
+  pub answer : resolved (rules_from book rules i) (records_up_to packets block) out ≡ resolved (rules_from book rules 0) (records_up_to packets block) out₀
 
-renumbered-length : (test : PacketRecord → Bool) (a : ℕ) (ks : List PacketRecord) (out : List ℕ) → length (renumbered test a ks out) ≡ length out
+renumbered_length : (test : PacketRecord → Bool) (a : ℕ) (ks : List PacketRecord) (out : List ℕ) → length (renumbered test a ks out) ≡ length out
 unfolding renumbered
-renumbered-length test a [] out = refl
-renumbered-length test a (k ∷ ks) [] = refl
-renumbered-length test a (k ∷ ks) (x ∷ out) = omega (arith, renumbered-length test a ks out)
+renumbered_length test a [] out = refl
+renumbered_length test a (k ∷ ks) [] = refl
+renumbered_length test a (k ∷ ks) (x ∷ out) = omega (arith, renumbered_length test a ks out)
 
-by_length : (ks : List PacketRecord) (r : Rule) (out : List ℕ) → length (byRule documentLimits ks r out) ≡ length out
-unfolding byRule
-by_length ks r out = renumbered-length _ _ ks out
+by_length : (ks : List PacketRecord) (r : Rule) (out : List ℕ) → length (by_rule document_limits ks r out) ≡ length out
+unfolding by_rule
+by_length ks r out = renumbered_length _ _ ks out
 
 module _ {book block : List ℕ} {rules : Rules} {packets : ℕ} {out₀ out : List ℕ} {i : ℕ} (w : Resolving book block rules packets out₀ out i) where
-  pub resolving-on : (d : LoadedRule) → i < rules.count → i < length rules.list
-      → actionNumber (get_or rules.list i d).action + (get_or rules.list i d).number < openNumber
-      → {next : List ℕ} → next ≡ byRule documentLimits (recordsUpTo packets block) (ruleAt book (get_or rules.list i d)) out
+  pub resolving_on : (d : LoadedRule) → i < rules.count → i < length rules.list
+      → action_number (get_or rules.list i d).action + (get_or rules.list i d).number < open_number
+      → {next : List ℕ} → next ≡ by_rule document_limits (records_up_to packets block) (rule_at book (get_or rules.list i d)) out
       → Resolving book block rules packets out₀ next (i + 1)
-  unfolding ruleAt
-  resolving-on d h l b e =
-      let r : Rule = ruleAt book (get_or rules.list i d) in
-      let ks : List PacketRecord = recordsUpTo packets block in
+  unfolding rule_at
+  resolving_on d h l b e =
+      let r : Rule = rule_at book (get_or rules.list i d) in
+      let ks : List PacketRecord = records_up_to packets block in
       record {
         same = ap length e ∙ by_length ks r out ∙ w.same;
         answer =
-            ap (resolved (rulesFrom book rules (i + 1)) ks) e
-            ∙ sym (resolved-on r (rulesFrom book rules (i + 1)) ks out b)
-            ∙ ap (λ (rs : List Rule). resolved rs ks out) (sym (rules-here book rules i d h l))
+            ap (resolved (rules_from book rules (i + 1)) ks) e
+            ∙ sym (resolved_on r (rules_from book rules (i + 1)) ks out b)
+            ∙ ap (λ (rs : List Rule). resolved rs ks out) (sym (rules_here book rules i d h l))
             ∙ w.answer;
       }
 
 -- ---- the whole
 
-module _ (block entry : List ℕ) {x : Answered} (e : x ≡ blockAnswered block (length entry)) {out₀ : List ℕ}
-    (opened : out₀ ≡ replicate x.packets openNumber ++ drop x.packets entry) where
-  opened-length : length out₀ ≡ length entry
-  opened-length =
+module _ (block entry : List ℕ) {x : Answered} (e : x ≡ block_answered block (length entry)) {out₀ : List ℕ}
+    (opened : out₀ ≡ replicate x.packets open_number ++ drop x.packets entry) where
+  opened_length : length out₀ ≡ length entry
+  opened_length =
       omega (
         arith,
         ap length opened,
-        length-append (replicate x.packets openNumber) (drop x.packets entry),
-        length-replicate x.packets openNumber,
+        length-append (replicate x.packets open_number) (drop x.packets entry),
+        length-replicate x.packets open_number,
         length-drop x.packets entry,
-        counted-room block entry e,
+        counted_room block entry e,
       )
 
   module _ {book : List ℕ} {rules : Rules} {out : List ℕ} {i : ℕ} (w : Resolving book block rules x.packets out₀ out i) where
     pub whole_length : length out ≡ length entry
-    whole_length = w.same ∙ opened-length
+    whole_length = w.same ∙ opened_length
 
-    pub still-room : x.packets ≤ length out
-    still-room = omega (arith, whole_length, counted-room block entry e)
+    pub still_room : x.packets ≤ length out
+    still_room = omega (arith, whole_length, counted_room block entry e)
 
     -- what they are resolved to is the block's numbers
-    resolved-whole : resolved (rulesFrom book rules i) (recordsUpTo x.packets block) out ≡ blockNumbers documentLimits (rulesIn book rules) block entry
-    unfolding blockNumbers
-    resolved-whole =
-        let ks : List PacketRecord = recordsUpTo x.packets block in
+    resolved_whole : resolved (rules_from book rules i) (records_up_to x.packets block) out ≡ block_numbers document_limits (rules_in book rules) block entry
+    unfolding block_numbers
+    resolved_whole =
+        let ks : List PacketRecord = records_up_to x.packets block in
         w.answer
-        ∙ ap (λ (rs : List Rule). resolved rs ks out₀) (sym (rules-all book rules))
-        ∙ ap (resolved (rulesIn book rules) ks) opened
-        ∙ ap (λ (n : ℕ). resolved (rulesIn book rules) ks (replicate n openNumber ++ drop x.packets entry)) (sym (counted-all block entry e))
-        ∙ resolved-in (rulesIn book rules) ks (drop x.packets entry)
-        ∙ rw (records-are block entry e, count-is block entry e)
+        ∙ ap (λ (rs : List Rule). resolved rs ks out₀) (sym (rules_all book rules))
+        ∙ ap (resolved (rules_in book rules) ks) opened
+        ∙ ap (λ (n : ℕ). resolved (rules_in book rules) ks (replicate n open_number ++ drop x.packets entry)) (sym (counted_all_lem block entry e))
+        ∙ resolved_in (rules_in book rules) ks (drop x.packets entry)
+        ∙ rw (records_are block entry e, count_is block entry e)
 
     -- all packets have theirs: no rule is left, or no number is open
-    pub block_closed : ((rules.count ≤ i) ⊎ (length rules.list ≤ i)) ⊎ (any? isOpen (take x.packets out) ≡ false)
-        → map closed (take x.packets out) ++ drop x.packets out ≡ blockNumbers documentLimits (rulesIn book rules) block entry
-    block_closed h = closed_is ∙ resolved-whole
+    pub block_closed : ((rules.count ≤ i) ⊎ (length rules.list ≤ i)) ⊎ (any? is_open (take x.packets out) ≡ false)
+        → map closed (take x.packets out) ++ drop x.packets out ≡ block_numbers document_limits (rules_in book rules) block entry
+    block_closed h = closed_is ∙ resolved_whole
       where
-        closed_is : map closed (take x.packets out) ++ drop x.packets out ≡ resolved (rulesFrom book rules i) (recordsUpTo x.packets block) out
+        closed_is : map closed (take x.packets out) ++ drop x.packets out ≡ resolved (rules_from book rules i) (records_up_to x.packets block) out
         closed_is =
-            let n = counted-all block entry e in
-            let room : length (recordsUpTo x.packets block) ≤ length out = omega (arith, n, still-room) in
+            let n = counted_all_lem block entry e in
+            let room : length (records_up_to x.packets block) ≤ length out = omega (arith, n, still_room) in
             ap (λ (k : ℕ). map closed (take k out) ++ drop k out) (sym n)
             ∙ ⊎_elim
-            (λ o. sym (ap (λ (rs : List Rule). resolved rs (recordsUpTo x.packets block) out) (rules-out book rules i o)
-            ∙ resolved-out (recordsUpTo x.packets block) out room))
-            (λ f. sym (resolved-all (rulesFrom book rules i) (recordsUpTo x.packets block) out room (rw n f)))
+            (λ o. sym (ap (λ (rs : List Rule). resolved rs (records_up_to x.packets block) out) (rules_out book rules i o)
+            ∙ resolved_out (records_up_to x.packets block) out room))
+            (λ f. sym (resolved_all (rules_from book rules i) (records_up_to x.packets block) out room (rw n f)))
             h

@@ -1,15 +1,15 @@
 // THE NODE GUARD FOR MANY PACKETS: a block of packets by the rules of a judged book. Rules are in the outer loop, so that each text is read once for the whole
 // block, and only as long as some packet is not decided.
 ghost use Rattle.std.specs.Prelude.{◌≡◌, true, List, ℕ, ◌+◌, ◌≤◌, ◌<◌, length};
-ghost use Rattle.definitions.specs.Limits.{documentLimits};
-ghost use Rattle.definitions.specs.Tables.{tableWith};
-ghost use Rattle.definitions.specs.WellFormed.{wellFormed};
-ghost use Rattle.definitions.specs.LoadedBooks.{ruleAt, rulesIn};
-ghost use Rattle.definitions.specs.Blocks.{recordLength, recordDirection, recordOf, recordsUpTo, actionNumber, blockNumbers, blockAnswered};
-ghost use Rattle.matcher.specs.PassedOver.{mayMeet};
+ghost use Rattle.definitions.specs.Limits.{document_limits};
+ghost use Rattle.definitions.specs.Tables.{table_with};
+ghost use Rattle.definitions.specs.WellFormed.{well_formed};
+ghost use Rattle.definitions.specs.LoadedBooks.{rule_at, rules_in};
+ghost use Rattle.definitions.specs.Blocks.{record_length, record_direction, record_of, records_up_to, action_number, block_numbers, block_answered};
+ghost use Rattle.matcher.specs.PassedOver.{may_meet};
 ghost use Rattle.matcher.specs.Matching.{Matchable};
-ghost use Rattle.guard_numbers.specs.OpenNumbers.{openNumber};
-ghost use Rattle.guard_blocks.specs.Numbering.{meetsRecord, renumbered, byRule};
+ghost use Rattle.guard_numbers.specs.OpenNumbers.{open_number};
+ghost use Rattle.guard_blocks.specs.Numbering.{meets_record, renumbered, by_rule};
 
 use definitions::answers::ReadOutcome;
 use definitions::books::{Answered, LoadedRule, Rules};
@@ -24,8 +24,8 @@ use rule_book::text_at;
 
 // Whether protocol and flow leave it open that a table meets the packet of the record at the front.
 fn may_meet(protocol: u8, flow: Flow, s: &[u8]) -> bool
-    requires { recordLength s.now ≤ length s.now }
-    ensures { result ≡ mayMeet protocol flow (recordOf s.now).packet (recordDirection s.now) }
+    requires { record_length s.now ≤ length s.now }
+    ensures { result ≡ may_meet protocol flow (record_of s.now).packet (record_direction s.now) }
 {
     let end = HEAD + number_at(s, 2);
     matcher::may_meet(protocol, flow, &s[HEAD..end], record_direction(s))
@@ -40,8 +40,8 @@ fn meets<'a>(
     bytes: &'a [u8],
     s: &'a [u8],
 ) -> bool
-    requires { Matchable items count bytes.now × (recordLength s.now ≤ length s.now) }
-    ensures { (name : List ℕ) (len used : ℕ) → wellFormed (tableWith name len protocol flow bytes.now used items count) ≡ true → result ≡ meetsRecord (tableWith name len protocol flow bytes.now used items count) (recordOf s.now) }
+    requires { Matchable items count bytes.now × (record_length s.now ≤ length s.now) }
+    ensures { (name : List ℕ) (len used : ℕ) → well_formed (table_with name len protocol flow bytes.now used items count) ≡ true → result ≡ meets_record (table_with name len protocol flow bytes.now used items count) (record_of s.now) }
 {
     let m = record_fields(s);
     let dir = record_direction(s);
@@ -62,8 +62,8 @@ fn meets<'a>(
 
 // Decides by a rule's table the packets that are not decided.
 fn decide_table(t: Table, answer: u32, block: &[u8], packets: usize, out: &mut [u32])
-    requires { (wellFormed t ≡ true) × ((length (recordsUpTo packets block.now) ≡ packets) × (packets ≤ length out.old)) }
-    ensures { out.new ≡ renumbered (meetsRecord t) answer (recordsUpTo packets block.now) out.old }
+    requires { (well_formed t ≡ true) × ((length (records_up_to packets block.now) ≡ packets) × (packets ≤ length out.old)) }
+    ensures { out.new ≡ renumbered (meets_record t) answer (records_up_to packets block.now) out.old }
 {
     let flow = t.flow;
     let items = t.items;
@@ -88,9 +88,9 @@ fn decide_table(t: Table, answer: u32, block: &[u8], packets: usize, out: &mut [
 
 // Decides by a rule the packets that are not decided. No rule's answer is OPEN, so that one that is decided stays so.
 fn decide_rule(book: &[u8], rule: LoadedRule, block: &[u8], packets: usize, out: &mut [u32])
-    requires { (length (recordsUpTo packets block.now) ≡ packets) × (packets ≤ length out.old) }
-    ensures below { actionNumber rule.action + rule.number < openNumber }
-    ensures numbers { out.new ≡ byRule documentLimits (recordsUpTo packets block.now) (ruleAt book.now rule) out.old }
+    requires { (length (records_up_to packets block.now) ≡ packets) × (packets ≤ length out.old) }
+    ensures below { action_number rule.action + rule.number < open_number }
+    ensures numbers { out.new ≡ by_rule document_limits (records_up_to packets block.now) (rule_at book.now rule) out.old }
 {
     let action = rule.action;
     let answer = answer_number(action, rule.number);
@@ -108,8 +108,8 @@ fn decide_rule(book: &[u8], rule: LoadedRule, block: &[u8], packets: usize, out:
 
 // THE DECISIONS for the packets of a block, by some rules of a book: a number for each, as many as there is room for.
 pub fn decide_block(book: &[u8], rules: Rules, block: &[u8], out: &mut [u32]) -> Answered
-    ensures numbers { out.new ≡ blockNumbers documentLimits (rulesIn book.now rules) block.now out.old }
-    ensures answered { result ≡ blockAnswered block.now (length out.old) }
+    ensures numbers { out.new ≡ block_numbers document_limits (rules_in book.now rules) block.now out.old }
+    ensures answered { result ≡ block_answered block.now (length out.old) }
 {
     let answered = count_records(block, out.len());
     let packets = answered.packets;

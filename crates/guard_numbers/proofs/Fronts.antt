@@ -19,34 +19,34 @@ module _ (f : ℕ → ℕ) (i : ℕ) (l : List ℕ) where
     before : length (map f (take i l)) ≡ i
     before = length-map (take i l) f ∙ length-take-le i l (omega arith)
 
-    front-here : front f i l ≡ map f (take i l) ++ get_or l i 0 ∷ drop (suc i) l
-    front-here = ap (λ (k : List ℕ). map f (take i l) ++ k) (drop-cons l i 0 h)
+    front_here : front f i l ≡ map f (take i l) ++ get_or l i 0 ∷ drop (suc i) l
+    front_here = ap (λ (k : List ℕ). map f (take i l) ++ k) (drop-cons l i 0 h)
 
     one_more : map f (take (suc i) l) ≡ map f (take i l) ++ (f (get_or l i 0) ∷ [])
     one_more = ap (map f) (take-suc l i 0 h) ∙ map-append f (take i l) (get_or l i 0 ∷ [])
 
-    front-longer : front f (i + 1) l ≡ map f (take i l) ++ f (get_or l i 0) ∷ drop (suc i) l
-    front-longer =
+    front_longer : front f (i + 1) l ≡ map f (take i l) ++ f (get_or l i 0) ∷ drop (suc i) l
+    front_longer =
         rw (add-one, one_more) (append_snoc (map f (take i l)) (f (get_or l i 0)) (drop (suc i) l))
 
     -- o is the list when the place's turn comes
     module _ (o : List ℕ) (e : o ≡ front f i l) where
       pub front-old : get_or o i 0 ≡ get_or l i 0
-      front-old = rw (e, front-here) (get_or_at (map f (take i l)) (get_or l i 0) (drop (suc i) l) 0 i before)
+      front-old = rw (e, front_here) (get_or_at (map f (take i l)) (get_or l i 0) (drop (suc i) l) 0 i before)
 
       pub front-set : (v : ℕ) → v ≡ f (get_or o i 0) → set o i v ≡ front f (i + 1) l
       front-set v q =
           let w : v ≡ f (get_or l i 0) = q ∙ ap f front-old in
-          rw (w, e, front-here, front-longer) (set_at (map f (take i l)) (get_or l i 0) (drop (suc i) l) (f (get_or l i 0)) i before)
+          rw (w, e, front_here, front_longer) (set_at (map f (take i l)) (get_or l i 0) (drop (suc i) l) (f (get_or l i 0)) i before)
 
       -- where the number stays as it is
       pub front_kept : get_or o i 0 ≡ f (get_or o i 0) → o ≡ front f (i + 1) l
       front_kept q = sym (set-get_or o i 0) ∙ front-set (get_or o i 0) q
 
 -- all of them changed to one number
-map-const : (v : ℕ) (l : List ℕ) → map (λ _. v) l ≡ replicate (length l) v
-map-const v [] = refl
-map-const v (x ∷ l) = ap (λ (k : List ℕ). v ∷ k) (map-const v l)
+map_const : (v : ℕ) (l : List ℕ) → map (λ _. v) l ≡ replicate (length l) v
+map_const v [] = refl
+map_const v (x ∷ l) = ap (λ (k : List ℕ). v ∷ k) (map_const v l)
 
-pub front-const : (v n : ℕ) (l : List ℕ) → n ≤ length l → front (λ _. v) n l ≡ replicate n v ++ drop n l
-front-const v n l h = rw (map-const v (take n l), length-take-le n l h)
+pub front_const : (v n : ℕ) (l : List ℕ) → n ≤ length l → front (λ _. v) n l ≡ replicate n v ++ drop n l
+front_const v n l h = rw (map_const v (take n l), length-take-le n l h)

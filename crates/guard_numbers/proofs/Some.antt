@@ -6,17 +6,17 @@ use mathlib.Core.List.{List}
 use Prim.Native.Nat.{ℕ, ◌+◌, ◌≤◌, ◌<◌}
 use lib.ListN.{length, get_or, take, drop}
 use Rattle.definitions.specs.Lists.{any?}
-use Rattle.list_laws.proofs.Firsts.{first-here, first_out}
+use Rattle.list_laws.proofs.Firsts.{first_here, first_out}
 
 module _ {A : Type 0} (f : A → Bool) (l : List A) (n i : ℕ) where
   module _ (d : A) (h : i < n) (g : n ≤ length l) where
-    pub some-here : f (get_or l i d) ≡ true → any? f (drop i (take n l)) ≡ true
+    pub some_here : f (get_or l i d) ≡ true → any? f (drop i (take n l)) ≡ true
     unfolding any?
-    some-here t = rw (first-here l n i d h g, t)
+    some_here t = rw (first_here l n i d h g, t)
 
-    pub some-on : f (get_or l i d) ≡ false → any? f (drop i (take n l)) ≡ any? f (drop (i + 1) (take n l))
+    pub some_on : f (get_or l i d) ≡ false → any? f (drop i (take n l)) ≡ any? f (drop (i + 1) (take n l))
     unfolding any?
-    some-on t = rw (first-here l n i d h g, t)
+    some_on t = rw (first_here l n i d h g, t)
 
   pub some_out : n ≤ i → any? f (drop i (take n l)) ≡ false
   unfolding any?

@@ -3,12 +3,12 @@ use Rattle.std.specs.Prelude.{ℕ, Bool, eqb}
 use Rattle.forms.specs.Bytes.{if◌then◌else◌}
 
 -- the number of a packet that is not decided: more than any answer's
-abbrev pub openNumber : ℕ
-openNumber = 131072
+abbrev pub open_number : ℕ
+open_number = 131072
 
-unfoldable pub isOpen : ℕ → Bool
-isOpen x = eqb x openNumber
+unfoldable pub is_open : ℕ → Bool
+is_open x = eqb x open_number
 
 -- what it is in the end
 unfoldable pub closed : ℕ → ℕ
-closed x = if isOpen x then 0 else x
+closed x = if is_open x then 0 else x

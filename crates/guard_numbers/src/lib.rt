@@ -1,8 +1,8 @@
 // The answers of a block as numbers, while its rules are gone through: none decided at first, held with rule 0 in the end if none decides.
 ghost use Rattle.std.specs.Prelude.{◌≡◌, ◌++◌, map, ◌+◌, ◌≤◌, ◌<◌, length, take, drop, replicate};
 ghost use Rattle.definitions.specs.Lists.{any?};
-ghost use Rattle.definitions.specs.Blocks.{actionNumber};
-ghost use Rattle.guard_numbers.specs.OpenNumbers.{openNumber, isOpen, closed};
+ghost use Rattle.definitions.specs.Blocks.{action_number};
+ghost use Rattle.guard_numbers.specs.OpenNumbers.{open_number, is_open, closed};
 
 use definitions::books::Action;
 
@@ -11,8 +11,8 @@ pub const OPEN: u32 = 131072;
 
 // The number of an answer.
 pub fn answer_number(a: Action, n: u16) -> u32
-    ensures number { result ≡ actionNumber a + n }
-    ensures below { result < openNumber }
+    ensures number { result ≡ action_number a + n }
+    ensures below { result < open_number }
 {
     match a {
         Action::Pass => 65536 + n as u32,
@@ -23,7 +23,7 @@ pub fn answer_number(a: Action, n: u16) -> u32
 // No packet is decided.
 pub fn open_all(out: &mut [u32], n: usize)
     requires { n ≤ length out.old }
-    ensures { out.new ≡ replicate n openNumber ++ drop n out.old }
+    ensures { out.new ≡ replicate n open_number ++ drop n out.old }
 {
     let mut i = 0;
     while i < n {
@@ -35,7 +35,7 @@ pub fn open_all(out: &mut [u32], n: usize)
 // Whether some packet is not decided.
 pub fn any_open(out: &[u32], n: usize) -> bool
     requires { n ≤ length out.now }
-    ensures { result ≡ any? isOpen (take n out.now) }
+    ensures { result ≡ any? is_open (take n out.now) }
 {
     let mut i = 0;
     while i < n {

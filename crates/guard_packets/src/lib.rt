@@ -1,7 +1,7 @@
 // The records of a block of packets: how long one is, and what it says of its packet.
 ghost use Rattle.std.specs.Prelude.{◌≡◌, ◌≤◌, ◌+◌, length};
-ghost use Rattle.definitions.specs.Packet.{bigEndian};
-ghost use Rattle.definitions.specs.Blocks.{recordHead, recordLength, recordDirection, recordField, recordFields, blockAnswered};
+ghost use Rattle.definitions.specs.Packet.{big_endian};
+ghost use Rattle.definitions.specs.Blocks.{record_head, record_length, record_direction, record_field, record_fields, block_answered};
 
 use definitions::books::Answered;
 use definitions::packets::{Direction, FieldMap, FieldSpan, Span};
@@ -18,23 +18,23 @@ fn wide(b: u8) -> usize
 // The number of two bytes, big end first.
 pub fn number_at(s: &[u8], at: usize) -> usize
     requires { at + 2 ≤ length s.now }
-    ensures { result ≡ bigEndian 2 s.now at }
+    ensures { result ≡ big_endian 2 s.now at }
 {
     wide(s[at]) * 256 + wide(s[at + 1])
 }
 
 // Bytes of the record at the front.
 pub fn record_length(s: &[u8]) -> usize
-    requires { recordHead ≤ length s.now }
-    ensures { result ≡ recordLength s.now }
+    requires { record_head ≤ length s.now }
+    ensures { result ≡ record_length s.now }
 {
     HEAD + number_at(s, 2) + number_at(s, 4)
 }
 
 // Where its packet comes from.
 pub fn record_direction(s: &[u8]) -> Direction
-    requires { recordHead ≤ length s.now }
-    ensures { result ≡ recordDirection s.now }
+    requires { record_head ≤ length s.now }
+    ensures { result ≡ record_direction s.now }
 {
     if s[0] == 0 {
         return Direction::Client;
@@ -44,8 +44,8 @@ pub fn record_direction(s: &[u8]) -> Direction
 
 // A field of its map, by the weight of its bit and the place of its numbers.
 fn record_field(s: &[u8], weight: u8, at: usize) -> FieldSpan
-    requires { (1 ≤ weight) × ((recordHead ≤ length s.now) × (at + 4 ≤ recordHead)) }
-    ensures { result ≡ recordField s.now weight at }
+    requires { (1 ≤ weight) × ((record_head ≤ length s.now) × (at + 4 ≤ record_head)) }
+    ensures { result ≡ record_field s.now weight at }
 {
     if s[1] / weight % 2 == 1 {
         return FieldSpan::At(Span {
@@ -58,8 +58,8 @@ fn record_field(s: &[u8], weight: u8, at: usize) -> FieldSpan
 
 // The map of its packet's fields.
 pub fn record_fields(s: &[u8]) -> FieldMap
-    requires { recordHead ≤ length s.now }
-    ensures { result ≡ recordFields s.now }
+    requires { record_head ≤ length s.now }
+    ensures { result ≡ record_fields s.now }
 {
     let body = record_field(s, 1, 6);
     let banner = record_field(s, 2, 10);
@@ -79,7 +79,7 @@ pub fn record_fields(s: &[u8]) -> FieldMap
 
 // How many whole records there are, up to n of them, and their bytes.
 pub fn count_records(block: &[u8], n: usize) -> Answered
-    ensures { result ≡ blockAnswered block.now n }
+    ensures { result ≡ block_answered block.now n }
 {
     let mut packets = 0;
     let mut at = 0;

@@ -1,7 +1,7 @@
--- A field that is missing meets nothing. A test or pattern, negated or not, on an absent field doesn't hold (`absent-never`); so a list of items
--- with such an item, at whatever place, has no placements (`absent-after`, `absent_none`); so a table with such an item is met by no packet and
--- no decoded buffer (`absent-table`, `absent-verdict`). Of data_at and byte_test with relative, whose field is that of the last positive pattern before,
--- `absent-at` says which that can be. Section "Meaning", its first paragraph. The argument: each item's test asks for its field first.
+-- A field that is missing meets nothing. A test or pattern, negated or not, on an absent field doesn't hold (`absent_never`); so a list of items
+-- with such an item, at whatever place, has no placements (`absent_after`, `absent_none`); so a table with such an item is met by no packet and
+-- no decoded buffer (`absent_table`, `absent_verdict`). Of data_at and byte_test with relative, whose field is that of the last positive pattern before,
+-- `absent_at` says which that can be. Section "Meaning", its first paragraph. The argument: each item's test asks for its field first.
 use mathlib.Core.Path.{◌≡◌, refl, sym, ap, ◌∙◌, subst, fun_ext}
 use mathlib.Core.Logic.{◌⊎◌, inl, inr, ⊎_elim}
 use mathlib.Core.Bool.{Bool, true, false, ◌&&◌, true≢false, false≢true}
@@ -29,50 +29,50 @@ use Rattle.definitions.specs.declared.answers.Check.{Check}
 use Rattle.definitions.specs.declared.answers.Check.TheVariants.{Pass, Refuse}
 use Rattle.definitions.specs.declared.answers.Verdict.{Verdict}
 use Rattle.definitions.specs.declared.answers.Verdict.TheVariants as verdict
-use Rattle.definitions.specs.Items.{kind_of, slots_of, afterItem}
+use Rattle.definitions.specs.Items.{kind_of, slots_of, after_item}
 use Rattle.definitions.specs.Starts.{start_at}
-use Rattle.definitions.specs.References.{lastAfter}
-use Rattle.definitions.specs.Fields.{View, view_of, present, sizeContext}
-use Rattle.definitions.specs.Tests.{atContext, sizeHolds, atHolds, byteHolds, testHolds}
-use Rattle.definitions.specs.Placements.{startsTo, spread, only_if, Constraint, matched, unmatched, tested, patternConstraint, constraintBy}
-use Rattle.definitions.specs.Placements.{constraints, items_of, liesIn, starts, unmatchedHolds, placements, headHolds, listed}
-use Rattle.definitions.specs.Answers.{inputCheck, placementsOf, verdictBy, verdictAnswer}
-use Rattle.laws.proofs.Keep.{keep-none}
+use Rattle.definitions.specs.References.{last_after}
+use Rattle.definitions.specs.Fields.{View, view_of, present, size_context}
+use Rattle.definitions.specs.Tests.{at_context, size_holds, at_holds, byte_holds, test_holds}
+use Rattle.definitions.specs.Placements.{starts_to, spread, only_if, Constraint, matched, unmatched, tested, pattern_constraint, constraint_by}
+use Rattle.definitions.specs.Placements.{constraints, items_of, lies_in, starts, unmatched_holds, placements, head_holds, listed}
+use Rattle.definitions.specs.Answers.{input_check, placements_of, verdict_by, verdict_answer}
+use Rattle.laws.proofs.Keep.{keep_none}
 
 -- ---- what the statements say
 
 -- the fields that a test looks at, after the last positive pattern: data_size its field, data_at and byte_test the payload or, with relative, the
 -- pattern's field; tests of the header none
-abbrev pub fieldsTested : Item → LastMatch → List Context
-fieldsTested item.Unused l = []
-fieldsTested (item.Address a) l = []
-fieldsTested item.SameIp l = []
-fieldsTested (item.Number t) l = []
-fieldsTested (item.Ttl t) l = []
-fieldsTested (item.Field t) l = []
-fieldsTested (item.Size t) l = sizeContext t.field ∷ []
-fieldsTested (item.At t) l = atContext t.relative l ∷ []
-fieldsTested (item.Byte t) l = atContext t.relative l ∷ []
-fieldsTested (item.Pattern p) l = []
+abbrev pub fields_tested : Item → LastMatch → List Context
+fields_tested item.Unused l = []
+fields_tested (item.Address a) l = []
+fields_tested item.SameIp l = []
+fields_tested (item.Number t) l = []
+fields_tested (item.Ttl t) l = []
+fields_tested (item.Field t) l = []
+fields_tested (item.Size t) l = size_context t.field ∷ []
+fields_tested (item.At t) l = at_context t.relative l ∷ []
+fields_tested (item.Byte t) l = at_context t.relative l ∷ []
+fields_tested (item.Pattern p) l = []
 
 -- the fields that an item looks at: a pattern, negated or not, its context
-abbrev pub fieldsRead : Constraint → LastMatch → List Context
-fieldsRead (matched p b) l = p.context ∷ []
-fieldsRead (unmatched p b) l = p.context ∷ []
-fieldsRead (tested it al) l = fieldsTested it l
+abbrev pub fields_read : Constraint → LastMatch → List Context
+fields_read (matched p b) l = p.context ∷ []
+fields_read (unmatched p b) l = p.context ∷ []
+fields_read (tested it al) l = fields_tested it l
 
 -- the item holds after the last positive pattern, a pattern without `!` at the start s
-abbrev pub itemHolds : View → Constraint → LastMatch → Start → Bool
-itemHolds v (matched p b) l s = liesIn v p b l s
-itemHolds v (unmatched p b) l s = unmatchedHolds v p b l
-itemHolds v (tested it al) l s = testHolds v it al l
+abbrev pub item_holds : View → Constraint → LastMatch → Start → Bool
+item_holds v (matched p b) l s = lies_in v p b l s
+item_holds v (unmatched p b) l s = unmatched_holds v p b l
+item_holds v (tested it al) l s = test_holds v it al l
 
 -- the last positive pattern after some items; where it lies plays no part for the field
-unfoldable pub lastAfterAll : List Constraint → LastMatch → LastMatch
-lastAfterAll [] l = l
-lastAfterAll (matched p b ∷ ws) l = lastAfterAll ws (lastAfter l p (start_at 0))
-lastAfterAll (unmatched p b ∷ ws) l = lastAfterAll ws l
-lastAfterAll (tested it al ∷ ws) l = lastAfterAll ws l
+unfoldable pub last_after_all : List Constraint → LastMatch → LastMatch
+last_after_all [] l = l
+last_after_all (matched p b ∷ ws) l = last_after_all ws (last_after l p (start_at 0))
+last_after_all (unmatched p b ∷ ws) l = last_after_all ws l
+last_after_all (tested it al ∷ ws) l = last_after_all ws l
 
 -- the fields that a slot's item looks at, whatever stands before it: not those of data_at and byte_test
 abbrev pub fields_of : Item → List Context
@@ -82,7 +82,7 @@ fields_of item.SameIp = []
 fields_of (item.Number t) = []
 fields_of (item.Ttl t) = []
 fields_of (item.Field t) = []
-fields_of (item.Size t) = sizeContext t.field ∷ []
+fields_of (item.Size t) = size_context t.field ∷ []
 fields_of (item.At t) = []
 fields_of (item.Byte t) = []
 fields_of (item.Pattern p) = p.context ∷ []
@@ -93,50 +93,50 @@ fields_of (item.Pattern p) = p.context ∷ []
 only : (c x : Context) → Mem c (x ∷ []) → c ≡ x
 only c x m = ⊎_elim (λ e. e) (λ n. absurd (not-nil n)) (cases_cons m)
 
-absent-first : (v : View) (x c : Context) (b : Bool) → Mem c (x ∷ []) → v.present c ≡ false → (v.present x && b) ≡ false
-absent-first v x c b m e = let f : v.present x ≡ false = ap v.present (sym (only c x m)) ∙ e in rw f
+absent_first : (v : View) (x c : Context) (b : Bool) → Mem c (x ∷ []) → v.present c ≡ false → (v.present x && b) ≡ false
+absent_first v x c b m e = let f : v.present x ≡ false = ap v.present (sym (only c x m)) ∙ e in rw f
 
-absent-test : (v : View) (it : Item) (al : List Address) (l : LastMatch) (c : Context) → Mem c (fieldsTested it l) → v.present c ≡ false
-    → testHolds v it al l ≡ false
-unfolding testHolds sizeHolds atHolds byteHolds
-absent-test v item.Unused al l c m e = refl
-absent-test v (item.Address a) al l c m e = absurd (not-nil m)
-absent-test v item.SameIp al l c m e = absurd (not-nil m)
-absent-test v (item.Number t) al l c m e = absurd (not-nil m)
-absent-test v (item.Ttl t) al l c m e = absurd (not-nil m)
-absent-test v (item.Field t) al l c m e = absurd (not-nil m)
-absent-test v (item.Size t) al l c m e = absent-first v (sizeContext t.field) c _ m e
-absent-test v (item.At t) al l c m e = absent-first v (atContext t.relative l) c _ m e
-absent-test v (item.Byte t) al l c m e = absent-first v (atContext t.relative l) c _ m e
-absent-test v (item.Pattern p) al l c m e = refl
+absent_test : (v : View) (it : Item) (al : List Address) (l : LastMatch) (c : Context) → Mem c (fields_tested it l) → v.present c ≡ false
+    → test_holds v it al l ≡ false
+unfolding test_holds size_holds at_holds byte_holds
+absent_test v item.Unused al l c m e = refl
+absent_test v (item.Address a) al l c m e = absurd (not-nil m)
+absent_test v item.SameIp al l c m e = absurd (not-nil m)
+absent_test v (item.Number t) al l c m e = absurd (not-nil m)
+absent_test v (item.Ttl t) al l c m e = absurd (not-nil m)
+absent_test v (item.Field t) al l c m e = absurd (not-nil m)
+absent_test v (item.Size t) al l c m e = absent_first v (size_context t.field) c _ m e
+absent_test v (item.At t) al l c m e = absent_first v (at_context t.relative l) c _ m e
+absent_test v (item.Byte t) al l c m e = absent_first v (at_context t.relative l) c _ m e
+absent_test v (item.Pattern p) al l c m e = refl
 
 -- A TEST OR PATTERN ON AN ABSENT FIELD NEVER HOLDS, negated or not
-pub absent-never : (v : View) (w : Constraint) (l : LastMatch) (s : Start) (c : Context) → Mem c (fieldsRead w l) → v.present c ≡ false
-    → itemHolds v w l s ≡ false
-unfolding liesIn unmatchedHolds
-absent-never v (matched p b) l s c m e = absent-first v p.context c _ m e
-absent-never v (unmatched p b) l s c m e = absent-first v p.context c _ m e
-absent-never v (tested it al) l s c m e = absent-test v it al l c m e
+pub absent_never : (v : View) (w : Constraint) (l : LastMatch) (s : Start) (c : Context) → Mem c (fields_read w l) → v.present c ≡ false
+    → item_holds v w l s ≡ false
+unfolding lies_in unmatched_holds
+absent_never v (matched p b) l s c m e = absent_first v p.context c _ m e
+absent_never v (unmatched p b) l s c m e = absent_first v p.context c _ m e
+absent_never v (tested it al) l s c m e = absent_test v it al l c m e
 
--- `fieldsRead` leaves none out: besides the datagram's header fields an item depends on those fields only
-pub looks-only : (v v' : View) (w : Constraint) (l : LastMatch) (s : Start) → v.header ≡ v'.header
-    → ((c : Context) → Mem c (fieldsRead w l) → (v.present c ≡ v'.present c) × (v.field c ≡ v'.field c)) → itemHolds v w l s ≡ itemHolds v' w l s
-unfolding liesIn unmatchedHolds starts testHolds sizeHolds atHolds byteHolds
-looks-only v v' (matched p b) l s f h = let k = h p.context (here refl) in rw (k.0, k.1)
-looks-only v v' (unmatched p b) l s f h =
+-- `fields_read` leaves none out: besides the datagram's header fields an item depends on those fields only
+pub looks_only : (v v' : View) (w : Constraint) (l : LastMatch) (s : Start) → v.header ≡ v'.header
+    → ((c : Context) → Mem c (fields_read w l) → (v.present c ≡ v'.present c) × (v.field c ≡ v'.field c)) → item_holds v w l s ≡ item_holds v' w l s
+unfolding lies_in unmatched_holds starts test_holds size_holds at_holds byte_holds
+looks_only v v' (matched p b) l s f h = let k = h p.context (here refl) in rw (k.0, k.1)
+looks_only v v' (unmatched p b) l s f h =
     let k = h p.context (here refl) in
-    let e : liesIn v p b l ≡ liesIn v' p b l = fun_ext (λ at. rw (k.0, k.1)) in
+    let e : lies_in v p b l ≡ lies_in v' p b l = fun_ext (λ at. rw (k.0, k.1)) in
     rw (e, k.0, k.1)
-looks-only v v' (tested item.Unused al) l s f h = refl
-looks-only v v' (tested (item.Address a) al) l s f h = rw f
-looks-only v v' (tested item.SameIp al) l s f h = rw f
-looks-only v v' (tested (item.Number t) al) l s f h = rw f
-looks-only v v' (tested (item.Ttl t) al) l s f h = rw f
-looks-only v v' (tested (item.Field t) al) l s f h = rw f
-looks-only v v' (tested (item.Size t) al) l s f h = let k = h (sizeContext t.field) (here refl) in rw (k.0, k.1)
-looks-only v v' (tested (item.At t) al) l s f h = let k = h (atContext t.relative l) (here refl) in rw (k.0, k.1)
-looks-only v v' (tested (item.Byte t) al) l s f h = let k = h (atContext t.relative l) (here refl) in rw (k.0, k.1)
-looks-only v v' (tested (item.Pattern p) al) l s f h = refl
+looks_only v v' (tested item.Unused al) l s f h = refl
+looks_only v v' (tested (item.Address a) al) l s f h = rw f
+looks_only v v' (tested item.SameIp al) l s f h = rw f
+looks_only v v' (tested (item.Number t) al) l s f h = rw f
+looks_only v v' (tested (item.Ttl t) al) l s f h = rw f
+looks_only v v' (tested (item.Field t) al) l s f h = rw f
+looks_only v v' (tested (item.Size t) al) l s f h = let k = h (size_context t.field) (here refl) in rw (k.0, k.1)
+looks_only v v' (tested (item.At t) al) l s f h = let k = h (at_context t.relative l) (here refl) in rw (k.0, k.1)
+looks_only v v' (tested (item.Byte t) al) l s f h = let k = h (at_context t.relative l) (here refl) in rw (k.0, k.1)
+looks_only v v' (tested (item.Pattern p) al) l s f h = refl
 
 -- ---- a list of items
 
@@ -151,22 +151,22 @@ only_none false l e = refl
 
 module _ (v : View) where
   -- an item that never holds has no placements, whatever stands after it
-  never-none : (w : Constraint) (ws : List Constraint) (l : LastMatch) → ((s : Start) → itemHolds v w l s ≡ false) → placements v (w ∷ ws) l ≡ []
+  never_none : (w : Constraint) (ws : List Constraint) (l : LastMatch) → ((s : Start) → item_holds v w l s ≡ false) → placements v (w ∷ ws) l ≡ []
   unfolding placements starts spread
-  never-none (matched p b) ws l h = rw (keep-none (liesIn v p b l) (startsTo (length (v.field p.context))) h)
-  never-none (unmatched p b) ws l h = rw (h (start_at 0))
-  never-none (tested it al) ws l h = rw (h (start_at 0))
+  never_none (matched p b) ws l h = rw (keep_none (lies_in v p b l) (starts_to (length (v.field p.context))) h)
+  never_none (unmatched p b) ws l h = rw (h (start_at 0))
+  never_none (tested it al) ws l h = rw (h (start_at 0))
 
   module _ (w : Constraint) (ws : List Constraint) (c : Context) (e : v.present c ≡ false) where
     -- two last patterns in one field
     abbrev Alike : LastMatch → LastMatch → Type 0
-    Alike k l = atContext true k ≡ atContext true l
+    Alike k l = at_context true k ≡ at_context true l
 
-    tested-alike : (relative : Bool) (k l : LastMatch) → Alike k l → atContext relative k ≡ atContext relative l
-    tested-alike true k l h = h
-    tested-alike false k l h = refl
+    tested_alike : (relative : Bool) (k l : LastMatch) → Alike k l → at_context relative k ≡ at_context relative l
+    tested_alike true k l h = h
+    tested_alike false k l h = refl
 
-    read_alike : (x : Constraint) (k l : LastMatch) → Alike k l → fieldsRead x k ≡ fieldsRead x l
+    read_alike : (x : Constraint) (k l : LastMatch) → Alike k l → fields_read x k ≡ fields_read x l
     read_alike (matched p b) k l h = refl
     read_alike (unmatched p b) k l h = refl
     read_alike (tested item.Unused al) k l h = refl
@@ -176,33 +176,33 @@ module _ (v : View) where
     read_alike (tested (item.Ttl t) al) k l h = refl
     read_alike (tested (item.Field t) al) k l h = refl
     read_alike (tested (item.Size t) al) k l h = refl
-    read_alike (tested (item.At t) al) k l h = ap (λ (x : Context). x ∷ []) (tested-alike t.relative k l h)
-    read_alike (tested (item.Byte t) al) k l h = ap (λ (x : Context). x ∷ []) (tested-alike t.relative k l h)
+    read_alike (tested (item.At t) al) k l h = ap (λ (x : Context). x ∷ []) (tested_alike t.relative k l h)
+    read_alike (tested (item.Byte t) al) k l h = ap (λ (x : Context). x ∷ []) (tested_alike t.relative k l h)
     read_alike (tested (item.Pattern p) al) k l h = refl
 
-    after-alike : (p : Pattern) (s : Start) (k l : LastMatch) → Alike k l → Alike (lastAfter k p s) (lastAfter l p (start_at 0))
-    after-alike p s k l h = by_cases p.negated (λ t. rw t h) (λ f. rw f)
+    after_alike : (p : Pattern) (s : Start) (k l : LastMatch) → Alike k l → Alike (last_after k p s) (last_after l p (start_at 0))
+    after_alike p s k l h = by_cases p.negated (λ t. rw t h) (λ f. rw f)
 
-    after_none : (us : List Constraint) (k l : LastMatch) → Alike k l → Mem c (fieldsRead w (lastAfterAll us l)) → placements v (us ++ (w ∷ ws)) k ≡ []
-    unfolding placements lastAfterAll
-    after_none [] k l h m = never-none w ws k (λ s. absent-never v w k s c (subst (Mem c) (sym (read_alike w k l h)) m) e)
+    after_none : (us : List Constraint) (k l : LastMatch) → Alike k l → Mem c (fields_read w (last_after_all us l)) → placements v (us ++ (w ∷ ws)) k ≡ []
+    unfolding placements last_after_all
+    after_none [] k l h m = never_none w ws k (λ s. absent_never v w k s c (subst (Mem c) (sym (read_alike w k l h)) m) e)
     after_none (matched p b ∷ us) k l h m =
-        spread_none _ (starts v p b k) (λ s. after_none us (lastAfter k p s) (lastAfter l p (start_at 0)) (after-alike p s k l h) m)
-    after_none (unmatched p b ∷ us) k l h m = only_none (unmatchedHolds v p b k) _ (after_none us k l h m)
-    after_none (tested it al ∷ us) k l h m = only_none (testHolds v it al k) _ (after_none us k l h m)
+        spread_none _ (starts v p b k) (λ s. after_none us (last_after k p s) (last_after l p (start_at 0)) (after_alike p s k l h) m)
+    after_none (unmatched p b ∷ us) k l h m = only_none (unmatched_holds v p b k) _ (after_none us k l h m)
+    after_none (tested it al ∷ us) k l h m = only_none (test_holds v it al k) _ (after_none us k l h m)
 
   -- A LIST OF ITEMS ONE OF WHICH LOOKS AT AN ABSENT FIELD HAS NO PLACEMENTS: the item w between the items us and ws, after the last pattern l
-  pub absent-after : (us : List Constraint) (w : Constraint) (ws : List Constraint) (l : LastMatch) (c : Context)
-      → Mem c (fieldsRead w (lastAfterAll us l)) → v.present c ≡ false
+  pub absent_after : (us : List Constraint) (w : Constraint) (ws : List Constraint) (l : LastMatch) (c : Context)
+      → Mem c (fields_read w (last_after_all us l)) → v.present c ≡ false
       → placements v (us ++ (w ∷ ws)) l ≡ []
-  absent-after us w ws l c m e = after_none w ws c e us l l refl m
+  absent_after us w ws l c m e = after_none w ws c e us l l refl m
 
   -- the same of an item at whatever place, if it looks at the field whatever stands before it, as each pattern and data_size does
-  pub absent_none : (ws : List Constraint) (w : Constraint) (c : Context) → Mem w ws → ((k : LastMatch) → Mem c (fieldsRead w k)) → v.present c ≡ false
+  pub absent_none : (ws : List Constraint) (w : Constraint) (c : Context) → Mem w ws → ((k : LastMatch) → Mem c (fields_read w k)) → v.present c ≡ false
       → (l : LastMatch) → placements v ws l ≡ []
   absent_none ws w c m r e l =
       let p = split w ws m in
-      rw p.2 (absent-after p.0 w p.1 l c (r (lastAfterAll p.0 l)) e)
+      rw p.2 (absent_after p.0 w p.1 l c (r (last_after_all p.0 l)) e)
     where
       split : (x : Constraint) (xs : List Constraint) → Mem x xs → (us : List Constraint) × (vs : List Constraint) × (xs ≡ us ++ (x ∷ vs))
       split x [] n = absurd (not-nil n)
@@ -215,56 +215,56 @@ module _ (v : View) where
 -- ---- a table
 
 -- an item as the meaning takes it looks at the fields of the slot's item
-pattern-reads : (p : Pattern) (b : List ℕ) (l : LastMatch) → fieldsRead (patternConstraint p b) l ≡ p.context ∷ []
-pattern-reads p b l = by_cases p.negated (λ t. rw t) (λ f. rw f)
+pattern_reads : (p : Pattern) (b : List ℕ) (l : LastMatch) → fields_read (pattern_constraint p b) l ≡ p.context ∷ []
+pattern_reads p b l = by_cases p.negated (λ t. rw t) (λ f. rw f)
 
-slot-reads : (it : Item) (al : List Address) (b : List ℕ) (c : Context) → Mem c (fields_of it) → (l : LastMatch)
-    → Mem c (fieldsRead (constraintBy (kind_of it) it al b) l)
-slot-reads item.Unused al b c m l = absurd (not-nil m)
-slot-reads (item.Address a) al b c m l = absurd (not-nil m)
-slot-reads item.SameIp al b c m l = absurd (not-nil m)
-slot-reads (item.Number t) al b c m l = absurd (not-nil m)
-slot-reads (item.Ttl t) al b c m l = absurd (not-nil m)
-slot-reads (item.Field t) al b c m l = absurd (not-nil m)
-slot-reads (item.Size t) al b c m l = m
-slot-reads (item.At t) al b c m l = absurd (not-nil m)
-slot-reads (item.Byte t) al b c m l = absurd (not-nil m)
-slot-reads (item.Pattern p) al b c m l = subst (Mem c) (sym (pattern-reads p _ l)) m
+slot_reads : (it : Item) (al : List Address) (b : List ℕ) (c : Context) → Mem c (fields_of it) → (l : LastMatch)
+    → Mem c (fields_read (constraint_by (kind_of it) it al b) l)
+slot_reads item.Unused al b c m l = absurd (not-nil m)
+slot_reads (item.Address a) al b c m l = absurd (not-nil m)
+slot_reads item.SameIp al b c m l = absurd (not-nil m)
+slot_reads (item.Number t) al b c m l = absurd (not-nil m)
+slot_reads (item.Ttl t) al b c m l = absurd (not-nil m)
+slot_reads (item.Field t) al b c m l = absurd (not-nil m)
+slot_reads (item.Size t) al b c m l = m
+slot_reads (item.At t) al b c m l = absurd (not-nil m)
+slot_reads (item.Byte t) al b c m l = absurd (not-nil m)
+slot_reads (item.Pattern p) al b c m l = subst (Mem c) (sym (pattern_reads p _ l)) m
 
 -- a slot's item is among the items, with some pattern bytes
-slot-constraint : (sl : Slot) (sls : List Slot) (b : List ℕ) → Mem sl sls
-    → (d : List ℕ) × Mem (constraintBy (kind_of sl.item) sl.item sl.addresses d) (constraints sls b)
+slot_constraint : (sl : Slot) (sls : List Slot) (b : List ℕ) → Mem sl sls
+    → (d : List ℕ) × Mem (constraint_by (kind_of sl.item) sl.item sl.addresses d) (constraints sls b)
 unfolding constraints
-slot-constraint sl [] b m = absurd (not-nil m)
-slot-constraint sl (x ∷ sls) b m =
+slot_constraint sl [] b m = absurd (not-nil m)
+slot_constraint sl (x ∷ sls) b m =
     ⊎_elim
-    (λ e. (b, here (ap (λ (y : Slot). constraintBy (kind_of y.item) y.item y.addresses b) e)))
-    (λ n. let r = slot-constraint sl sls (afterItem (kind_of x.item) b) n in (r.0, there r.1))
+    (λ e. (b, here (ap (λ (y : Slot). constraint_by (kind_of y.item) y.item y.addresses b) e)))
+    (λ n. let r = slot_constraint sl sls (after_item (kind_of x.item) b) n in (r.0, there r.1))
     (cases_cons m)
 
 module _ (t : Table) (sl : Slot) (c : Context) (inUse : Mem sl (slots_of t)) (looks : Mem c (fields_of sl.item)) (m : FieldMap) (absent : present m c ≡ false)
     (packet decoded : List ℕ) (dir : Direction) where
   -- A TABLE WITH A PATTERN, negated or not, OR A data_size ON AN ABSENT FIELD HAS AN EMPTY LIST, whatever packet and decoded buffer hold
-  pub absent-table : listed t (view_of packet decoded m) dir ≡ []
+  pub absent_table : listed t (view_of packet decoded m) dir ≡ []
   unfolding listed items_of
-  absent-table =
-      let w = slot-constraint sl (slots_of t) t.bytes inUse in
-      only_none (headHolds t (view_of packet decoded m) dir) _
-      (absent_none (view_of packet decoded m) (constraints (slots_of t) t.bytes) _ c w.1 (slot-reads sl.item sl.addresses w.0 c looks) absent None)
+  absent_table =
+      let w = slot_constraint sl (slots_of t) t.bytes inUse in
+      only_none (head_holds t (view_of packet decoded m) dir) _
+      (absent_none (view_of packet decoded m) (constraints (slots_of t) t.bytes) _ c w.1 (slot_reads sl.item sl.addresses w.0 c looks) absent None)
 
   -- so no verdict calls it met
-  pub absent-verdict : verdictAnswer t packet decoded dir m ≡ verdict.Met → ⊥
-  unfolding verdictAnswer placementsOf
-  absent-verdict e = never (inputCheck t packet decoded dir m) (sym (ap (verdictBy (inputCheck t packet decoded dir m)) absent-table) ∙ e)
+  pub absent_verdict : verdict_answer t packet decoded dir m ≡ verdict.Met → ⊥
+  unfolding verdict_answer placements_of
+  absent_verdict e = never (input_check t packet decoded dir m) (sym (ap (verdict_by (input_check t packet decoded dir m)) absent_table) ∙ e)
     where
-      isMet : Verdict → Bool
-      isMet verdict.NotMet = false
-      isMet verdict.Met = true
-      isMet (verdict.Refused r) = false
+      is_met : Verdict → Bool
+      is_met verdict.NotMet = false
+      is_met verdict.Met = true
+      is_met (verdict.Refused r) = false
 
-      never : (d : Check) → verdictBy d [] ≡ verdict.Met → ⊥
-      never Pass q = false≢true (ap isMet q)
-      never (Refuse r) q = false≢true (ap isMet q)
+      never : (d : Check) → verdict_by d [] ≡ verdict.Met → ⊥
+      never Pass q = false≢true (ap is_met q)
+      never (Refuse r) q = false≢true (ap is_met q)
 
 -- ---- data_at and byte_test
 
@@ -272,29 +272,29 @@ module _ (t : Table) (sl : Slot) (c : Context) (inUse : Mem sl (slots_of t)) (lo
 abbrev Among : List Constraint → Context → Type 0
 Among us x = (p : Pattern) × (b : List ℕ) × Mem (matched p b) us × (x ≡ p.context)
 
-last-among : (us : List Constraint) (l : LastMatch) → (atContext true (lastAfterAll us l) ≡ atContext true l) ⊎ Among us (atContext true (lastAfterAll us l))
-unfolding lastAfterAll
-last-among [] l = inl refl
-last-among (matched p b ∷ us) l =
+last_among : (us : List Constraint) (l : LastMatch) → (at_context true (last_after_all us l) ≡ at_context true l) ⊎ Among us (at_context true (last_after_all us l))
+unfolding last_after_all
+last_among [] l = inl refl
+last_among (matched p b ∷ us) l =
     ⊎_elim
     (λ e. by_cases p.negated (λ t. inl (e ∙ rw t)) (λ f. inr (p, b, here refl, e ∙ rw f)))
     (λ q. inr (q.0, q.1, there q.2, q.3))
-    (last-among us (lastAfter l p (start_at 0)))
-last-among (unmatched p b ∷ us) l = ⊎_elim inl (λ q. inr (q.0, q.1, there q.2, q.3)) (last-among us l)
-last-among (tested it al ∷ us) l = ⊎_elim inl (λ q. inr (q.0, q.1, there q.2, q.3)) (last-among us l)
+    (last_among us (last_after l p (start_at 0)))
+last_among (unmatched p b ∷ us) l = ⊎_elim inl (λ q. inr (q.0, q.1, there q.2, q.3)) (last_among us l)
+last_among (tested it al ∷ us) l = ⊎_elim inl (λ q. inr (q.0, q.1, there q.2, q.3)) (last_among us l)
 
 -- DATA_AT AND BYTE_TEST LOOK AT AN ABSENT FIELD ONLY WITH RELATIVE, AFTER A PATTERN ON THAT FIELD, which then holds as little: else they look at the
 -- payload, which is always present
-pub absent-at : (m : FieldMap) (us : List Constraint) (relative : Bool) → present m (atContext relative (lastAfterAll us None)) ≡ false
+pub absent_at : (m : FieldMap) (us : List Constraint) (relative : Bool) → present m (at_context relative (last_after_all us None)) ≡ false
     → (relative ≡ true)
-    × ((p : Pattern) × (b : List ℕ) × Mem (matched p b) us × (p.context ≡ atContext relative (lastAfterAll us None))
+    × ((p : Pattern) × (b : List ℕ) × Mem (matched p b) us × (p.context ≡ at_context relative (last_after_all us None))
     × (present m p.context ≡ false))
 unfolding present
-absent-at m us false e = absurd (true≢false e)
-absent-at m us true e = (
+absent_at m us false e = absurd (true≢false e)
+absent_at m us true e = (
   refl,
   ⊎_elim
       (λ q. absurd (true≢false (sym (ap (present m) q) ∙ e)))
       (λ q. (q.0, q.1, q.2, sym q.3, sym (ap (present m) q.3) ∙ e))
-      (last-among us None),
+      (last_among us None),
 )

@@ -14,101 +14,101 @@ use Rattle.definitions.specs.declared.answers.Refusal.TheVariants as refusal
 use Rattle.definitions.specs.declared.answers.Check.TheVariants.{Pass}
 use Rattle.definitions.specs.declared.answers.ReadOutcome.{ReadOutcome}
 use Rattle.definitions.specs.declared.answers.ReadOutcome.TheVariants as outcome
-use Rattle.definitions.specs.Limits.{Limits, maxPacket, maxDecoded}
+use Rattle.definitions.specs.Limits.{Limits, max_packet, max_decoded}
 use Rattle.definitions.specs.Lists.{any?, all?}
-use Rattle.definitions.specs.Refusals.{checkNumber, readNumber, writeNumber, packetNumber, verdictNumber, foundNumber, and_then}
+use Rattle.definitions.specs.Refusals.{check_number, read_number, write_number, packet_number, verdict_number, found_number, and_then}
 use Rattle.definitions.specs.Reading.{read}
-use Rattle.definitions.specs.WellFormed.{wellFormed}
-use Rattle.definitions.specs.Canonical.{canonicalText}
-use Rattle.definitions.specs.Writing.{writingCheck, writes}
-use Rattle.definitions.specs.Packet.{versionOf, headerWords, headerLength, totalLength, isFragment, datagramOf, payloadOf, transportShort}
-use Rattle.definitions.specs.Packet.{packetCheck, packetAnswer}
-use Rattle.definitions.specs.Fields.{fieldPasses, mapped, fieldsCheck}
+use Rattle.definitions.specs.WellFormed.{well_formed}
+use Rattle.definitions.specs.Canonical.{canonical_text}
+use Rattle.definitions.specs.Writing.{writing_check, writes}
+use Rattle.definitions.specs.Packet.{version_of, header_words, header_length, total_length, is_fragment, datagram_of, payload_of, transport_short}
+use Rattle.definitions.specs.Packet.{packet_check, packet_answer}
+use Rattle.definitions.specs.Fields.{field_passes, mapped, fields_check}
 use Rattle.definitions.specs.Placements.{items_of, positives}
-use Rattle.definitions.specs.Answers.{inputCheck, verdictAnswer, firstAnswer, earlierCheck, nextAnswer}
-use Rattle.laws.proofs.Checks.{among, among-more, CheckAmong, refuse-among, else-among}
-use Rattle.laws.proofs.Numbers.{write-number, packet-number, verdict-number, first-number, next-number}
-use Rattle.laws.proofs.Places.{readCauses, OutcomeFits, read_fits}
+use Rattle.definitions.specs.Answers.{input_check, verdict_answer, first_answer, earlier_check, next_answer}
+use Rattle.laws.proofs.Checks.{among, among_more, CheckAmong, refuse_among, else_among}
+use Rattle.laws.proofs.Numbers.{write_number_lem, packet_number_lem, verdict_number_lem, first_number, next_number_lem}
+use Rattle.laws.proofs.Places.{read_causes, OutcomeFits, read_fits}
 
-abbrev pub writeCauses : List ℕ
-writeCauses = 0 ∷ 20 ∷ 21 ∷ 22 ∷ []
+abbrev pub write_causes : List ℕ
+write_causes = 0 ∷ 20 ∷ 21 ∷ 22 ∷ []
 
-abbrev pub packetCauses : List ℕ
-packetCauses = 0 ∷ 30 ∷ 31 ∷ 32 ∷ 33 ∷ 34 ∷ []
+abbrev pub packet_causes : List ℕ
+packet_causes = 0 ∷ 30 ∷ 31 ∷ 32 ∷ 33 ∷ 34 ∷ []
 
-abbrev pub fieldsCauses : List ℕ
-fieldsCauses = 0 ∷ 35 ∷ []
+abbrev pub fields_causes : List ℕ
+fields_causes = 0 ∷ 35 ∷ []
 
-abbrev pub verdictCauses : List ℕ
-verdictCauses = 0 ∷ 20 ∷ 30 ∷ 31 ∷ 32 ∷ 33 ∷ 34 ∷ 35 ∷ []
+abbrev pub verdict_causes : List ℕ
+verdict_causes = 0 ∷ 20 ∷ 30 ∷ 31 ∷ 32 ∷ 33 ∷ 34 ∷ 35 ∷ []
 
-abbrev pub nextCauses : List ℕ
-nextCauses = 0 ∷ 20 ∷ 30 ∷ 31 ∷ 32 ∷ 33 ∷ 34 ∷ 35 ∷ 36 ∷ []
+abbrev pub next_causes : List ℕ
+next_causes = 0 ∷ 20 ∷ 30 ∷ 31 ∷ 32 ∷ 33 ∷ 34 ∷ 35 ∷ 36 ∷ []
 
 -- ---- what is due
 
-writing-among : (lim : Limits) (t : Table) (n : ℕ) → CheckAmong writeCauses (writingCheck lim t n)
-unfolding writingCheck any?
-writing-among lim t n =
-    refuse-among writeCauses (not (wellFormed t)) refusal.IllFormed _ refl
-    (refuse-among writeCauses (ltb lim.canonical (length (canonicalText t))) refusal.CanonicalLength _ refl
-    (refuse-among writeCauses (ltb n (length (canonicalText t))) refusal.ShortBuffer Pass refl refl))
+writing_among : (lim : Limits) (t : Table) (n : ℕ) → CheckAmong write_causes (writing_check lim t n)
+unfolding writing_check any?
+writing_among lim t n =
+    refuse_among write_causes (not (well_formed t)) refusal.IllFormed _ refl
+    (refuse_among write_causes (ltb lim.canonical (length (canonical_text t))) refusal.CanonicalLength _ refl
+    (refuse_among write_causes (ltb n (length (canonical_text t))) refusal.ShortBuffer Pass refl refl))
 
-pub packet-among : (p decoded : List ℕ) → CheckAmong packetCauses (packetCheck p decoded)
-unfolding packetCheck any?
-packet-among p decoded =
-    refuse-among packetCauses (ltb maxPacket (length p) || ltb maxDecoded (length decoded)) refusal.BufferLength _ refl
-    (refuse-among packetCauses (ltb (length p) 20 || not (eqb (versionOf p) 4)) refusal.NotIpv4 _ refl
-    (refuse-among packetCauses (ltb (headerWords p) 5 || (ltb (totalLength p) (headerLength p) || ltb (length p) (totalLength p))) refusal.Lengths _ refl
-    (refuse-among packetCauses (isFragment (datagramOf p)) refusal.Fragment _ refl
-    (refuse-among packetCauses (transportShort (datagramOf p)) refusal.Transport Pass refl refl))))
+pub packet_among : (p decoded : List ℕ) → CheckAmong packet_causes (packet_check p decoded)
+unfolding packet_check any?
+packet_among p decoded =
+    refuse_among packet_causes (ltb max_packet (length p) || ltb max_decoded (length decoded)) refusal.BufferLength _ refl
+    (refuse_among packet_causes (ltb (length p) 20 || not (eqb (version_of p) 4)) refusal.NotIpv4 _ refl
+    (refuse_among packet_causes (ltb (header_words p) 5 || (ltb (total_length p) (header_length p) || ltb (length p) (total_length p))) refusal.Lengths _ refl
+    (refuse_among packet_causes (is_fragment (datagram_of p)) refusal.Fragment _ refl
+    (refuse_among packet_causes (transport_short (datagram_of p)) refusal.Transport Pass refl refl))))
 
 -- the fields' answer is what is due
-pub fields-causes : (payload decoded : List ℕ) (m : FieldMap) → among fieldsCauses (checkNumber (fieldsCheck payload decoded m)) ≡ true
-unfolding fieldsCheck any?
-fields-causes payload decoded m = refuse-among fieldsCauses (any? (fieldPasses payload decoded m) mapped) refusal.FieldSpan Pass refl refl
+pub fields_causes_lem : (payload decoded : List ℕ) (m : FieldMap) → among fields_causes (check_number (fields_check payload decoded m)) ≡ true
+unfolding fields_check any?
+fields_causes_lem payload decoded m = refuse_among fields_causes (any? (field_passes payload decoded m) mapped) refusal.FieldSpan Pass refl refl
 
 -- ---- of what the entries answer
 
-accepted : among readCauses 0 ≡ true
+accepted : among read_causes 0 ≡ true
 unfolding any?
 accepted = refl
 
-pub read-causes : (lim : Limits) (s : List ℕ) → among readCauses (readNumber (read lim s).outcome) ≡ true
-read-causes lim s = go (read lim s).outcome (read_fits lim s)
+pub read_causes_lem : (lim : Limits) (s : List ℕ) → among read_causes (read_number (read lim s).outcome) ≡ true
+read_causes_lem lim s = go (read lim s).outcome (read_fits lim s)
   where
-    go : (o : ReadOutcome) → OutcomeFits (length s) o → among readCauses (readNumber o) ≡ true
+    go : (o : ReadOutcome) → OutcomeFits (length s) o → among read_causes (read_number o) ≡ true
     go outcome.Accepted h = accepted
     go (outcome.Refused r p) h = h.0
 
-pub write-causes : (lim : Limits) (t : Table) (out : List ℕ) → among writeCauses (writeNumber (writes lim t out)) ≡ true
-write-causes lim t out = ap (among writeCauses) (write-number lim t out) ∙ writing-among lim t (length out)
+pub write_causes_lem : (lim : Limits) (t : Table) (out : List ℕ) → among write_causes (write_number (writes lim t out)) ≡ true
+write_causes_lem lim t out = ap (among write_causes) (write_number_lem lim t out) ∙ writing_among lim t (length out)
 
-pub packet-causes : (p decoded : List ℕ) → among packetCauses (packetNumber (packetAnswer p decoded)) ≡ true
-packet-causes p decoded = ap (among packetCauses) (packet-number p decoded) ∙ packet-among p decoded
+pub packet_causes_lem : (p decoded : List ℕ) → among packet_causes (packet_number (packet_answer p decoded)) ≡ true
+packet_causes_lem p decoded = ap (among packet_causes) (packet_number_lem p decoded) ∙ packet_among p decoded
 
 module _ (t : Table) (p decoded : List ℕ) (dir : Direction) (m : FieldMap) where
-  verdict-among : CheckAmong verdictCauses (inputCheck t p decoded dir m)
-  unfolding inputCheck any? all?
-  verdict-among =
-      refuse-among verdictCauses (not (wellFormed t)) refusal.IllFormed _ refl
-      (else-among verdictCauses (packetCheck p decoded) (fieldsCheck (payloadOf (datagramOf p)) decoded m)
-      (among-more packetCauses verdictCauses (checkNumber (packetCheck p decoded)) refl (packet-among p decoded))
-      (among-more fieldsCauses verdictCauses (checkNumber (fieldsCheck (payloadOf (datagramOf p)) decoded m)) refl
-      (fields-causes (payloadOf (datagramOf p)) decoded m)))
+  verdict_among : CheckAmong verdict_causes (input_check t p decoded dir m)
+  unfolding input_check any? all?
+  verdict_among =
+      refuse_among verdict_causes (not (well_formed t)) refusal.IllFormed _ refl
+      (else_among verdict_causes (packet_check p decoded) (fields_check (payload_of (datagram_of p)) decoded m)
+      (among_more packet_causes verdict_causes (check_number (packet_check p decoded)) refl (packet_among p decoded))
+      (among_more fields_causes verdict_causes (check_number (fields_check (payload_of (datagram_of p)) decoded m)) refl
+      (fields_causes_lem (payload_of (datagram_of p)) decoded m)))
 
-  next-among : (h : Placement) → CheckAmong nextCauses (and_then (inputCheck t p decoded dir m) (earlierCheck t p decoded dir m h))
+  next_among : (h : Placement) → CheckAmong next_causes (and_then (input_check t p decoded dir m) (earlier_check t p decoded dir m h))
   unfolding any? all?
-  next-among h =
-      else-among nextCauses (inputCheck t p decoded dir m) (earlierCheck t p decoded dir m h)
-      (among-more verdictCauses nextCauses (checkNumber (inputCheck t p decoded dir m)) refl verdict-among)
-      (refuse-among nextCauses (not (eqb h.count (positives (items_of t)))) refusal.EarlierCount Pass refl refl)
+  next_among h =
+      else_among next_causes (input_check t p decoded dir m) (earlier_check t p decoded dir m h)
+      (among_more verdict_causes next_causes (check_number (input_check t p decoded dir m)) refl verdict_among)
+      (refuse_among next_causes (not (eqb h.count (positives (items_of t)))) refusal.EarlierCount Pass refl refl)
 
-  pub verdict-causes : among verdictCauses (verdictNumber (verdictAnswer t p decoded dir m)) ≡ true
-  verdict-causes = ap (among verdictCauses) (verdict-number t p decoded dir m) ∙ verdict-among
+  pub verdict_causes_lem : among verdict_causes (verdict_number (verdict_answer t p decoded dir m)) ≡ true
+  verdict_causes_lem = ap (among verdict_causes) (verdict_number_lem t p decoded dir m) ∙ verdict_among
 
-  pub first-causes : among verdictCauses (foundNumber (firstAnswer t p decoded dir m).found) ≡ true
-  first-causes = ap (among verdictCauses) (first-number t p decoded dir m) ∙ verdict-among
+  pub first_causes : among verdict_causes (found_number (first_answer t p decoded dir m).found) ≡ true
+  first_causes = ap (among verdict_causes) (first_number t p decoded dir m) ∙ verdict_among
 
-  pub next-causes : (h : Placement) → among nextCauses (foundNumber (nextAnswer t p decoded dir m h).found) ≡ true
-  next-causes h = ap (among nextCauses) (next-number t p decoded dir m h) ∙ next-among h
+  pub next_causes_lem : (h : Placement) → among next_causes (found_number (next_answer t p decoded dir m h).found) ≡ true
+  next_causes_lem h = ap (among next_causes) (next_number_lem t p decoded dir m h) ∙ next_among h

@@ -10,31 +10,31 @@ use Rattle.definitions.specs.declared.answers.Refusal.{Refusal}
 use Rattle.definitions.specs.declared.answers.Check.{Check}
 use Rattle.definitions.specs.declared.answers.Check.TheVariants.{Pass, Refuse}
 use Rattle.definitions.specs.Lists.{any?, all?}
-use Rattle.definitions.specs.Refusals.{number_of, checkNumber, refuseIf, and_then}
+use Rattle.definitions.specs.Refusals.{number_of, check_number, refuse_if, and_then}
 
-pub no-fine : {A : Type 0} (r : Refusal) → Refuse r ≡ Pass → A
-no-fine r e = let z : false ≡ true = cc in absurd (false≢true z)
+pub no_fine : {A : Type 0} (r : Refusal) → Refuse r ≡ Pass → A
+no_fine r e = let z : false ≡ true = cc in absurd (false≢true z)
 
-pub refuse-same : (b : Bool) (r : Refusal) (d d' : Check) → (b ≡ false → d ≡ d') → refuseIf b r d ≡ refuseIf b r d'
-refuse-same true r d d' f = refl
-refuse-same false r d d' f = f refl
+pub refuse_same : (b : Bool) (r : Refusal) (d d' : Check) → (b ≡ false → d ≡ d') → refuse_if b r d ≡ refuse_if b r d'
+refuse_same true r d d' f = refl
+refuse_same false r d d' f = f refl
 
-pub refuse-fine : (b : Bool) (r : Refusal) (d : Check) → refuseIf b r d ≡ Pass → (b ≡ false) × (d ≡ Pass)
-refuse-fine true r d e = no-fine r e
-refuse-fine false r d e = (refl, e)
+pub refuse_fine : (b : Bool) (r : Refusal) (d : Check) → refuse_if b r d ≡ Pass → (b ≡ false) × (d ≡ Pass)
+refuse_fine true r d e = no_fine r e
+refuse_fine false r d e = (refl, e)
 
 -- what is told of the refusal, and of what is due else
-pub refuse-by : (Q : Check → Type 0) (b : Bool) (r : Refusal) (d : Check) → Q (Refuse r) → Q d → Q (refuseIf b r d)
-refuse-by Q true r d h g = h
-refuse-by Q false r d h g = g
+pub refuse_by : (Q : Check → Type 0) (b : Bool) (r : Refusal) (d : Check) → Q (Refuse r) → Q d → Q (refuse_if b r d)
+refuse_by Q true r d h g = h
+refuse_by Q false r d h g = g
 
 pub else_same : (c d d' : Check) → (c ≡ Pass → d ≡ d') → and_then c d ≡ and_then c d'
 else_same Pass d d' f = f refl
 else_same (Refuse r) d d' f = refl
 
-pub else-fine : (c d : Check) → and_then c d ≡ Pass → (c ≡ Pass) × (d ≡ Pass)
-else-fine Pass d e = (refl, e)
-else-fine (Refuse r) d e = no-fine r e
+pub else_fine : (c d : Check) → and_then c d ≡ Pass → (c ≡ Pass) × (d ≡ Pass)
+else_fine Pass d e = (refl, e)
+else_fine (Refuse r) d e = no_fine r e
 
 pub neither : (a b : Bool) → (a || b) ≡ false → (a ≡ false) × (b ≡ false)
 neither true b e = let z : false ≡ true = cc in absurd (false≢true z)
@@ -45,10 +45,10 @@ neither false b e = (refl, e)
 abbrev pub among : List ℕ → ℕ → Bool
 among l n = any? (eqb n) l
 
-pub among-more : (k l : List ℕ) (n : ℕ) → all? (among l) k ≡ true → among k n ≡ true → among l n ≡ true
+pub among_more : (k l : List ℕ) (n : ℕ) → all? (among l) k ≡ true → among k n ≡ true → among l n ≡ true
 unfolding all? any?
-among-more [] l n h e = absurd (false≢true e)
-among-more (x ∷ k) l n h e = go (eqb n x) refl (among l x) refl (λ u w. among-more k l n u w)
+among_more [] l n h e = absurd (false≢true e)
+among_more (x ∷ k) l n h e = go (eqb n x) refl (among l x) refl (λ u w. among_more k l n u w)
   where
     go : (b : Bool) → eqb n x ≡ b → (c : Bool) → among l x ≡ c → (all? (among l) k ≡ true → among k n ≡ true → among l n ≡ true) → among l n ≡ true
     go b f false g ih = absurd (false≢true (rw g at h))
@@ -57,11 +57,11 @@ among-more (x ∷ k) l n h e = go (eqb n x) refl (among l x) refl (λ u w. among
 
 -- the number of what is due is among these
 abbrev pub CheckAmong : List ℕ → Check → Type 0
-CheckAmong l d = among l (checkNumber d) ≡ true
+CheckAmong l d = among l (check_number d) ≡ true
 
-pub refuse-among : (l : List ℕ) (b : Bool) (r : Refusal) (d : Check) → among l (number_of r) ≡ true → CheckAmong l d → CheckAmong l (refuseIf b r d)
-refuse-among l b r d e f = refuse-by (CheckAmong l) b r d e f
+pub refuse_among : (l : List ℕ) (b : Bool) (r : Refusal) (d : Check) → among l (number_of r) ≡ true → CheckAmong l d → CheckAmong l (refuse_if b r d)
+refuse_among l b r d e f = refuse_by (CheckAmong l) b r d e f
 
-pub else-among : (l : List ℕ) (c d : Check) → CheckAmong l c → CheckAmong l d → CheckAmong l (and_then c d)
-else-among l Pass d e f = f
-else-among l (Refuse r) d e f = e
+pub else_among : (l : List ℕ) (c d : Check) → CheckAmong l c → CheckAmong l d → CheckAmong l (and_then c d)
+else_among l Pass d e f = f
+else_among l (Refuse r) d e f = e

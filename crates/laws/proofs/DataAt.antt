@@ -1,6 +1,6 @@
--- data_at N. It holds exactly if its field is present and at least N bytes follow its starting point there (`data-at-exactly`). So it holds for
--- each smaller number too (`data-at-fewer`), and for N + 1 exactly if there is a byte at N (`data-at-byte`). data_at 0 always holds: leaving it out
--- changes no list of placements (`data-at-zero`), since a pattern that was met ends within its field. Section "Meaning"; document 02, T-04.
+-- data_at N. It holds exactly if its field is present and at least N bytes follow its starting point there (`data_at_exactly`). So it holds for
+-- each smaller number too (`data_at_fewer`), and for N + 1 exactly if there is a byte at N (`data_at_byte`). data_at 0 always holds: leaving it out
+-- changes no list of placements (`data_at_zero`), since a pattern that was met ends within its field. Section "Meaning"; document 02, T-04.
 use mathlib.Core.Path.{◌≡◌, refl, ap}
 use mathlib.Core.Logic.{◌↔◌}
 use mathlib.Core.Bool.{Bool, true, false, ◌&&◌}
@@ -22,45 +22,45 @@ use Rattle.definitions.specs.declared.packets.FieldMap.{FieldMap}
 use Rattle.definitions.specs.declared.packets.Start.{Start}
 use Rattle.definitions.specs.declared.packets.LastMatch.{LastMatch}
 use Rattle.definitions.specs.declared.packets.LastMatch.TheVariants.{None, Some}
-use Rattle.definitions.specs.References.{lastAfter}
+use Rattle.definitions.specs.References.{last_after}
 use Rattle.definitions.specs.Fields.{View, view_of, present}
-use Rattle.definitions.specs.Tests.{atContext, at_start, atHolds, testHolds}
-use Rattle.definitions.specs.Placements.{spread, only_if, Constraint, matched, unmatched, tested, liesIn, starts, unmatchedHolds, placements}
-use Rattle.laws.proofs.PatternStarts.{starts-in, lies-inside}
+use Rattle.definitions.specs.Tests.{at_context, at_start, at_holds, test_holds}
+use Rattle.definitions.specs.Placements.{spread, only_if, Constraint, matched, unmatched, tested, lies_in, starts, unmatched_holds, placements}
+use Rattle.laws.proofs.PatternStarts.{starts_in_lem, lies_inside}
 
 -- ---- one test
 
 -- the test of data_at n, with relative or without
-abbrev pub dataAt : ℕ → Bool → AtTest
-dataAt n relative = record { number = n; relative = relative }
+abbrev pub data_at : ℕ → Bool → AtTest
+data_at n relative = record { number = n; relative = relative }
 
 module _ (v : View) (relative : Bool) (l : LastMatch) where
   -- the field that it counts in: whether it is present, and how many bytes it has
-  abbrev fieldPresent : Bool
-  fieldPresent = v.present (atContext relative l)
+  abbrev field_present : Bool
+  field_present = v.present (at_context relative l)
 
-  abbrev fieldLength : ℕ
-  fieldLength = length (v.field (atContext relative l))
+  abbrev field_length : ℕ
+  field_length = length (v.field (at_context relative l))
 
   -- DATA_AT N HOLDS EXACTLY IF AT LEAST N BYTES FOLLOW ITS STARTING POINT, IN A FIELD THAT IS PRESENT
-  pub data-at-exactly : (n : ℕ) → (atHolds v (dataAt n relative) l ≡ true) ↔ ((fieldPresent ≡ true) × (at_start relative l + n ≤ fieldLength))
-  unfolding atHolds
-  data-at-exactly n =
-      let follow = leb (at_start relative l + n) fieldLength in (
-        λ e. (both_left fieldPresent follow e, leb-true _ fieldLength (both_right fieldPresent follow e)),
-        λ h. rw (h.0, le-leb (at_start relative l + n) fieldLength h.1),
+  pub data_at_exactly : (n : ℕ) → (at_holds v (data_at n relative) l ≡ true) ↔ ((field_present ≡ true) × (at_start relative l + n ≤ field_length))
+  unfolding at_holds
+  data_at_exactly n =
+      let follow = leb (at_start relative l + n) field_length in (
+        λ e. (both_left field_present follow e, leb-true _ field_length (both_right field_present follow e)),
+        λ h. rw (h.0, le-leb (at_start relative l + n) field_length h.1),
       )
 
-  pub data-at-fewer : (k n : ℕ) → k ≤ n → atHolds v (dataAt n relative) l ≡ true → atHolds v (dataAt k relative) l ≡ true
-  data-at-fewer k n h e =
-      let a = (data-at-exactly n).0 e in
+  pub data_at_fewer : (k n : ℕ) → k ≤ n → at_holds v (data_at n relative) l ≡ true → at_holds v (data_at k relative) l ≡ true
+  data_at_fewer k n h e =
+      let a = (data_at_exactly n).0 e in
       let b = a.1 in
-      (data-at-exactly k).1 (a.0, omega arith)
+      (data_at_exactly k).1 (a.0, omega arith)
 
   -- data_at n + 1 holds exactly if there is a byte at n, counted from 0: what document 01 asked for with n
-  pub data-at-byte : (n : ℕ) → atHolds v (dataAt (suc n) relative) l ≡ (fieldPresent && ltb (at_start relative l + n) fieldLength)
-  unfolding atHolds
-  data-at-byte n = ap (λ (b : Bool). fieldPresent && b) (more (at_start relative l) fieldLength)
+  pub data_at_byte : (n : ℕ) → at_holds v (data_at (suc n) relative) l ≡ (field_present && ltb (at_start relative l + n) field_length)
+  unfolding at_holds
+  data_at_byte n = ap (λ (b : Bool). field_present && b) (more (at_start relative l) field_length)
     where
       more : (start len : ℕ) → leb (start + suc n) len ≡ ltb (start + n) len
       more start len =
@@ -70,10 +70,10 @@ module _ (v : View) (relative : Bool) (l : LastMatch) where
 
 -- ---- data_at 0 among other items
 
-pub spread-alike : (f g : Start → List (List Start)) (ss : List Start) → ((s : Start) → Mem s ss → f s ≡ g s) → spread f ss ≡ spread g ss
+pub spread_alike : (f g : Start → List (List Start)) (ss : List Start) → ((s : Start) → Mem s ss → f s ≡ g s) → spread f ss ≡ spread g ss
 unfolding spread
-spread-alike f g [] h = refl
-spread-alike f g (s ∷ ss) h = rw (h s (here refl), spread-alike f g ss (λ x m. h x (there m)))
+spread_alike f g [] h = refl
+spread_alike f g (s ∷ ss) h = rw (h s (here refl), spread_alike f g ss (λ x m. h x (there m)))
 
 module _ (v : View) where
   -- the last positive pattern, if there is one, lies in a present field and ends within it
@@ -81,28 +81,28 @@ module _ (v : View) where
   LastWithin None = Unit {0}
   LastWithin (Some m) = (v.present m.context ≡ true) × (m.end ≤ length (v.field m.context))
 
-  after-within : (p : Pattern) (b : List ℕ) (l : LastMatch) (s : Start) → LastWithin l → liesIn v p b l s ≡ true → LastWithin (lastAfter l p s)
-  unfolding liesIn
-  after-within p b l s h e = by_cases p.negated (λ t. rw t h) (λ f. rw f (both_left (v.present p.context) _ e, lies-inside v p b l s e))
+  after_within : (p : Pattern) (b : List ℕ) (l : LastMatch) (s : Start) → LastWithin l → lies_in v p b l s ≡ true → LastWithin (last_after l p s)
+  unfolding lies_in
+  after_within p b l s h e = by_cases p.negated (λ t. rw t h) (λ f. rw f (both_left (v.present p.context) _ e, lies_inside v p b l s e))
 
   module _ (payload : v.present context.Packet ≡ true) where
-    zero-holds : (relative : Bool) (l : LastMatch) → LastWithin l → atHolds v (dataAt 0 relative) l ≡ true
-    zero-holds false l h = (data-at-exactly v false l 0).1 (payload, omega arith)
-    zero-holds true None h = (data-at-exactly v true None 0).1 (payload, omega arith)
-    zero-holds true (Some m) h = let k = h.1 in (data-at-exactly v true (Some m) 0).1 (h.0, omega arith)
+    zero_holds : (relative : Bool) (l : LastMatch) → LastWithin l → at_holds v (data_at 0 relative) l ≡ true
+    zero_holds false l h = (data_at_exactly v false l 0).1 (payload, omega arith)
+    zero_holds true None h = (data_at_exactly v true None 0).1 (payload, omega arith)
+    zero_holds true (Some m) h = let k = h.1 in (data_at_exactly v true (Some m) 0).1 (h.0, omega arith)
 
     module _ (relative : Bool) (al : List Address) (ws : List Constraint) where
       zero-after : (us : List Constraint) (l : LastMatch) → LastWithin l
-          → placements v (us ++ (tested (item.At (dataAt 0 relative)) al ∷ ws)) l ≡ placements v (us ++ ws) l
-      unfolding placements testHolds
-      zero-after [] l h = rw (zero-holds relative l h)
+          → placements v (us ++ (tested (item.At (data_at 0 relative)) al ∷ ws)) l ≡ placements v (us ++ ws) l
+      unfolding placements test_holds
+      zero-after [] l h = rw (zero_holds relative l h)
       zero-after (matched p b ∷ us) l h =
-          spread-alike _ _ (starts v p b l) (λ s m. zero-after us (lastAfter l p s) (after-within p b l s h (starts-in v p b l s m)))
-      zero-after (unmatched p b ∷ us) l h = ap (only_if (unmatchedHolds v p b l)) (zero-after us l h)
-      zero-after (tested it addresses ∷ us) l h = ap (only_if (testHolds v it addresses l)) (zero-after us l h)
+          spread_alike _ _ (starts v p b l) (λ s m. zero-after us (last_after l p s) (after_within p b l s h (starts_in_lem v p b l s m)))
+      zero-after (unmatched p b ∷ us) l h = ap (only_if (unmatched_holds v p b l)) (zero-after us l h)
+      zero-after (tested it addresses ∷ us) l h = ap (only_if (test_holds v it addresses l)) (zero-after us l h)
 
 -- DATA_AT 0 ALWAYS HOLDS: among any items, us before it and ws after it, leaving it out changes no placement
-pub data-at-zero : (packet decoded : List ℕ) (m : FieldMap) (relative : Bool) (al : List Address) (us ws : List Constraint)
-    → placements (view_of packet decoded m) (us ++ (tested (item.At (dataAt 0 relative)) al ∷ ws)) None ≡ placements (view_of packet decoded m) (us ++ ws) None
+pub data_at_zero : (packet decoded : List ℕ) (m : FieldMap) (relative : Bool) (al : List Address) (us ws : List Constraint)
+    → placements (view_of packet decoded m) (us ++ (tested (item.At (data_at 0 relative)) al ∷ ws)) None ≡ placements (view_of packet decoded m) (us ++ ws) None
 unfolding present
-data-at-zero packet decoded m relative al us ws = zero-after (view_of packet decoded m) refl relative al ws us None tt
+data_at_zero packet decoded m relative al us ws = zero-after (view_of packet decoded m) refl relative al ws us None tt

@@ -16,142 +16,142 @@ use Rattle.definitions.specs.declared.answers.PacketAnswer.{PacketAnswer}
 use Rattle.definitions.specs.declared.answers.Verdict.{Verdict}
 use Rattle.definitions.specs.declared.answers.Answer.{Answer}
 use Rattle.definitions.specs.declared.answers.Check.TheVariants.{Pass, Refuse}
-use Rattle.definitions.specs.Limits.{Limits, documentLimits, maxPatterns}
+use Rattle.definitions.specs.Limits.{Limits, document_limits, max_patterns}
 use Rattle.definitions.specs.Lists.{keep, padded}
-use Rattle.definitions.specs.Starts.{start_at, startNumber}
-use Rattle.definitions.specs.Refusals.{checkNumber, writeNumber, packetNumber, verdictNumber, foundNumber, and_then}
+use Rattle.definitions.specs.Starts.{start_at, start_number}
+use Rattle.definitions.specs.Refusals.{check_number, write_number, packet_number, verdict_number, found_number, and_then}
 use Rattle.definitions.specs.Reading.{read}
-use Rattle.definitions.specs.Canonical.{canonicalText}
-use Rattle.definitions.specs.Writing.{writingCheck, writtenIf, writes}
-use Rattle.definitions.specs.Packet.{datagramOf, headerOf, packetCheck, packetBy, packetAnswer}
-use Rattle.definitions.specs.Fields.{fieldsCheck}
-use Rattle.definitions.specs.Placements.{lexLess}
-use Rattle.definitions.specs.Answers.{startsOf, head_of, unless, verdictBy, inputCheck, placementsOf, verdictAnswer, firstAnswer, earlierCheck, nextAnswer}
-use Rattle.definitions.specs.AnswerNumbers.{readNumbers, writeNumbers, headerNumbers, packetNumbers, checkNumbers, verdictNumbers, answerNumbers, numbered}
-use Rattle.definitions.specs.AnswerNumbers.{metNumber, placedNumbers, noneNumbers, readInNumbers, writeInNumbers, packetInNumbers, fieldsInNumbers}
-use Rattle.definitions.specs.AnswerNumbers.{verdictInNumbers, firstInNumbers, nextInNumbers}
+use Rattle.definitions.specs.Canonical.{canonical_text}
+use Rattle.definitions.specs.Writing.{writing_check, written_if, writes}
+use Rattle.definitions.specs.Packet.{datagram_of, header_of, packet_check, packet_by, packet_answer}
+use Rattle.definitions.specs.Fields.{fields_check}
+use Rattle.definitions.specs.Placements.{lex_less}
+use Rattle.definitions.specs.Answers.{starts_of, head_of, unless, verdict_by, input_check, placements_of, verdict_answer, first_answer, earlier_check, next_answer}
+use Rattle.definitions.specs.AnswerNumbers.{read_numbers, write_numbers, header_numbers, packet_numbers, check_numbers, verdict_numbers, answer_numbers, numbered}
+use Rattle.definitions.specs.AnswerNumbers.{met_number, placed_numbers, none_numbers, read_in_numbers, write_in_numbers, packet_in_numbers, fields_in_numbers}
+use Rattle.definitions.specs.AnswerNumbers.{verdict_in_numbers, first_in_numbers, next_in_numbers}
 
 -- ---- of anything due
 
-written-numbers : (d : Check) (n : ℕ) → writeNumbers (writtenIf d n) ≡ numbered d (n ∷ []) (0 ∷ [])
-written-numbers Pass n = refl
-written-numbers (Refuse r) n = refl
+written_numbers : (d : Check) (n : ℕ) → write_numbers (written_if d n) ≡ numbered d (n ∷ []) (0 ∷ [])
+written_numbers Pass n = refl
+written_numbers (Refuse r) n = refl
 
-packet-by-numbers : (d : Check) (g : List ℕ) → packetNumbers (packetBy d g) ≡ numbered d (headerNumbers (headerOf g)) []
-packet-by-numbers Pass g = refl
-packet-by-numbers (Refuse r) g = refl
+packet_by_numbers : (d : Check) (g : List ℕ) → packet_numbers (packet_by d g) ≡ numbered d (header_numbers (header_of g)) []
+packet_by_numbers Pass g = refl
+packet_by_numbers (Refuse r) g = refl
 
-verdict-by-numbers : (d : Check) (l : List (List Start)) → verdictNumbers (verdictBy d l) ≡ numbered d (metNumber l ∷ []) (0 ∷ [])
-verdict-by-numbers Pass [] = refl
-verdict-by-numbers Pass (q ∷ l) = refl
-verdict-by-numbers (Refuse r) l = refl
+verdict_by_numbers : (d : Check) (l : List (List Start)) → verdict_numbers (verdict_by d l) ≡ numbered d (met_number l ∷ []) (0 ∷ [])
+verdict_by_numbers Pass [] = refl
+verdict_by_numbers Pass (q ∷ l) = refl
+verdict_by_numbers (Refuse r) l = refl
 
 -- unused room is zero
-zeros : (n : ℕ) → map startNumber (replicate n (start_at 0)) ≡ replicate n 0
+zeros : (n : ℕ) → map start_number (replicate n (start_at 0)) ≡ replicate n 0
 zeros zero = refl
 zeros (suc n) = ap (λ (l : List ℕ). 0 ∷ l) (zeros n)
 
-starts-padded : (n : ℕ) (q : List Start) → map startNumber (padded n (start_at 0) q) ≡ padded n 0 (map startNumber q)
-starts-padded n q =
-    map-append startNumber q (replicate (n - length q) (start_at 0))
-    ∙ ap (λ (l : List ℕ). map startNumber q ++ l) (zeros (n - length q))
-    ∙ ap (λ (k : ℕ). map startNumber q ++ replicate (n - k) 0) (sym (length-map q startNumber))
+starts_padded : (n : ℕ) (q : List Start) → map start_number (padded n (start_at 0) q) ≡ padded n 0 (map start_number q)
+starts_padded n q =
+    map-append start_number q (replicate (n - length q) (start_at 0))
+    ∙ ap (λ (l : List ℕ). map start_number q ++ l) (zeros (n - length q))
+    ∙ ap (λ (k : ℕ). map start_number q ++ replicate (n - k) 0) (sym (length-map q start_number))
 
-unless-numbers : (d : Check) (l : List (List Start)) → answerNumbers (unless d (head_of l)) ≡ numbered d (placedNumbers l) noneNumbers
-unless-numbers Pass [] = refl
-unless-numbers Pass (q ∷ l) = ap (λ (s : List ℕ). 0 ∷ 1 ∷ length q ∷ s) (starts-padded maxPatterns q)
-unless-numbers (Refuse r) l = refl
+unless_numbers : (d : Check) (l : List (List Start)) → answer_numbers (unless d (head_of l)) ≡ numbered d (placed_numbers l) none_numbers
+unless_numbers Pass [] = refl
+unless_numbers Pass (q ∷ l) = ap (λ (s : List ℕ). 0 ∷ 1 ∷ length q ∷ s) (starts_padded max_patterns q)
+unless_numbers (Refuse r) l = refl
 
-check-numbers : (d : Check) → checkNumbers d ≡ numbered d [] []
-check-numbers Pass = refl
-check-numbers (Refuse r) = refl
+check_numbers_lem : (d : Check) → check_numbers d ≡ numbered d [] []
+check_numbers_lem Pass = refl
+check_numbers_lem (Refuse r) = refl
 
 -- ---- of what the entries answer
 
-pub write-numbers : (lim : Limits) (t : Table) (out : List ℕ) → writeNumbers (writes lim t out) ≡ writeInNumbers lim t (length out)
+pub write_numbers_lem : (lim : Limits) (t : Table) (out : List ℕ) → write_numbers (writes lim t out) ≡ write_in_numbers lim t (length out)
 unfolding writes
-write-numbers lim t out = written-numbers (writingCheck lim t (length out)) (length (canonicalText t))
+write_numbers_lem lim t out = written_numbers (writing_check lim t (length out)) (length (canonical_text t))
 
-pub packet-numbers : (p decoded : List ℕ) → packetNumbers (packetAnswer p decoded) ≡ packetInNumbers p decoded
-unfolding packetAnswer
-packet-numbers p decoded = packet-by-numbers (packetCheck p decoded) (datagramOf p)
+pub packet_numbers_lem : (p decoded : List ℕ) → packet_numbers (packet_answer p decoded) ≡ packet_in_numbers p decoded
+unfolding packet_answer
+packet_numbers_lem p decoded = packet_by_numbers (packet_check p decoded) (datagram_of p)
 
-pub fields-numbers : (payload decoded : List ℕ) (m : FieldMap) → checkNumbers (fieldsCheck payload decoded m) ≡ fieldsInNumbers payload decoded m
-fields-numbers payload decoded m = check-numbers (fieldsCheck payload decoded m)
+pub fields_numbers : (payload decoded : List ℕ) (m : FieldMap) → check_numbers (fields_check payload decoded m) ≡ fields_in_numbers payload decoded m
+fields_numbers payload decoded m = check_numbers_lem (fields_check payload decoded m)
 
 module _ (t : Table) (p decoded : List ℕ) (dir : Direction) (m : FieldMap) where
-  pub verdict-numbers : verdictNumbers (verdictAnswer t p decoded dir m) ≡ verdictInNumbers t p decoded dir m
-  unfolding verdictAnswer
-  verdict-numbers = verdict-by-numbers (inputCheck t p decoded dir m) (placementsOf t p decoded dir m)
+  pub verdict_numbers_lem : verdict_numbers (verdict_answer t p decoded dir m) ≡ verdict_in_numbers t p decoded dir m
+  unfolding verdict_answer
+  verdict_numbers_lem = verdict_by_numbers (input_check t p decoded dir m) (placements_of t p decoded dir m)
 
-  pub first-numbers : answerNumbers (firstAnswer t p decoded dir m) ≡ firstInNumbers t p decoded dir m
-  unfolding firstAnswer
-  first-numbers = unless-numbers (inputCheck t p decoded dir m) (placementsOf t p decoded dir m)
+  pub first_numbers : answer_numbers (first_answer t p decoded dir m) ≡ first_in_numbers t p decoded dir m
+  unfolding first_answer
+  first_numbers = unless_numbers (input_check t p decoded dir m) (placements_of t p decoded dir m)
 
-  pub next-numbers : (h : Placement) → answerNumbers (nextAnswer t p decoded dir m h) ≡ nextInNumbers t p decoded dir m h
-  unfolding nextAnswer
-  next-numbers h =
-      unless-numbers (and_then (inputCheck t p decoded dir m) (earlierCheck t p decoded dir m h)) (keep (lexLess (startsOf h)) (placementsOf t p decoded dir m))
+  pub next_numbers : (h : Placement) → answer_numbers (next_answer t p decoded dir m h) ≡ next_in_numbers t p decoded dir m h
+  unfolding next_answer
+  next_numbers h =
+      unless_numbers (and_then (input_check t p decoded dir m) (earlier_check t p decoded dir m h)) (keep (lex_less (starts_of h)) (placements_of t p decoded dir m))
 
 -- ---- an answer with its numbers beside it, as a contract has them
 
-pub read_told : (s : List ℕ) {r : Reading} → r ≡ read documentLimits s
-    → (r ≡ read documentLimits s) × (readNumbers r.outcome ≡ readInNumbers documentLimits s)
-read_told s e = (e, ap (λ (x : Reading). readNumbers x.outcome) e)
+pub read_told : (s : List ℕ) {r : Reading} → r ≡ read document_limits s
+    → (r ≡ read document_limits s) × (read_numbers r.outcome ≡ read_in_numbers document_limits s)
+read_told s e = (e, ap (λ (x : Reading). read_numbers x.outcome) e)
 
-pub write-told : (t : Table) (out : List ℕ) {r : Writing} → r ≡ writes documentLimits t out → writeNumbers r ≡ writeInNumbers documentLimits t (length out)
-write-told t out e = ap writeNumbers e ∙ write-numbers documentLimits t out
+pub write_told : (t : Table) (out : List ℕ) {r : Writing} → r ≡ writes document_limits t out → write_numbers r ≡ write_in_numbers document_limits t (length out)
+write_told t out e = ap write_numbers e ∙ write_numbers_lem document_limits t out
 
-pub packet-told : (p decoded : List ℕ) {r : PacketAnswer} → r ≡ packetAnswer p decoded
-    → (r ≡ packetAnswer p decoded) × (packetNumbers r ≡ packetInNumbers p decoded)
-packet-told p decoded e = (e, ap packetNumbers e ∙ packet-numbers p decoded)
+pub packet_told : (p decoded : List ℕ) {r : PacketAnswer} → r ≡ packet_answer p decoded
+    → (r ≡ packet_answer p decoded) × (packet_numbers r ≡ packet_in_numbers p decoded)
+packet_told p decoded e = (e, ap packet_numbers e ∙ packet_numbers_lem p decoded)
 
-pub fields_told : (payload decoded : List ℕ) (m : FieldMap) {r : Check} → r ≡ fieldsCheck payload decoded m
-    → (r ≡ fieldsCheck payload decoded m) × (checkNumbers r ≡ fieldsInNumbers payload decoded m)
-fields_told payload decoded m e = (e, ap checkNumbers e ∙ fields-numbers payload decoded m)
+pub fields_told : (payload decoded : List ℕ) (m : FieldMap) {r : Check} → r ≡ fields_check payload decoded m
+    → (r ≡ fields_check payload decoded m) × (check_numbers r ≡ fields_in_numbers payload decoded m)
+fields_told payload decoded m e = (e, ap check_numbers e ∙ fields_numbers payload decoded m)
 
 module _ (t : Table) (p decoded : List ℕ) (dir : Direction) (m : FieldMap) where
-  pub verdict-told : {r : Verdict} → r ≡ verdictAnswer t p decoded dir m
-      → (r ≡ verdictAnswer t p decoded dir m) × (verdictNumbers r ≡ verdictInNumbers t p decoded dir m)
-  verdict-told e = (e, ap verdictNumbers e ∙ verdict-numbers t p decoded dir m)
+  pub verdict_told : {r : Verdict} → r ≡ verdict_answer t p decoded dir m
+      → (r ≡ verdict_answer t p decoded dir m) × (verdict_numbers r ≡ verdict_in_numbers t p decoded dir m)
+  verdict_told e = (e, ap verdict_numbers e ∙ verdict_numbers_lem t p decoded dir m)
 
-  pub first-told : {r : Answer} → r ≡ firstAnswer t p decoded dir m
-      → (r ≡ firstAnswer t p decoded dir m) × (answerNumbers r ≡ firstInNumbers t p decoded dir m)
-  first-told e = (e, ap answerNumbers e ∙ first-numbers t p decoded dir m)
+  pub first_told : {r : Answer} → r ≡ first_answer t p decoded dir m
+      → (r ≡ first_answer t p decoded dir m) × (answer_numbers r ≡ first_in_numbers t p decoded dir m)
+  first_told e = (e, ap answer_numbers e ∙ first_numbers t p decoded dir m)
 
-  pub next-told : (h : Placement) {r : Answer} → r ≡ nextAnswer t p decoded dir m h
-      → (r ≡ nextAnswer t p decoded dir m h) × (answerNumbers r ≡ nextInNumbers t p decoded dir m h)
-  next-told h e = (e, ap answerNumbers e ∙ next-numbers t p decoded dir m h)
+  pub next_told : (h : Placement) {r : Answer} → r ≡ next_answer t p decoded dir m h
+      → (r ≡ next_answer t p decoded dir m h) × (answer_numbers r ≡ next_in_numbers t p decoded dir m h)
+  next_told h e = (e, ap answer_numbers e ∙ next_numbers t p decoded dir m h)
 
 -- ---- the number alone is that of what is due
 
 abbrev first : List ℕ → ℕ
 first l = get_or l 0 0
 
-number-due : (d : Check) (v w : List ℕ) → first (numbered d v w) ≡ checkNumber d
-number-due Pass v w = refl
-number-due (Refuse r) v w = refl
+number_due : (d : Check) (v w : List ℕ) → first (numbered d v w) ≡ check_number d
+number_due Pass v w = refl
+number_due (Refuse r) v w = refl
 
-pub write-number : (lim : Limits) (t : Table) (out : List ℕ) → writeNumber (writes lim t out) ≡ checkNumber (writingCheck lim t (length out))
-write-number lim t out = ap first (write-numbers lim t out) ∙ number-due (writingCheck lim t (length out)) (length (canonicalText t) ∷ []) (0 ∷ [])
+pub write_number_lem : (lim : Limits) (t : Table) (out : List ℕ) → write_number (writes lim t out) ≡ check_number (writing_check lim t (length out))
+write_number_lem lim t out = ap first (write_numbers_lem lim t out) ∙ number_due (writing_check lim t (length out)) (length (canonical_text t) ∷ []) (0 ∷ [])
 
-pub packet-number : (p decoded : List ℕ) → packetNumber (packetAnswer p decoded) ≡ checkNumber (packetCheck p decoded)
-packet-number p decoded = ap first (packet-numbers p decoded) ∙ number-due (packetCheck p decoded) (headerNumbers (headerOf (datagramOf p))) []
+pub packet_number_lem : (p decoded : List ℕ) → packet_number (packet_answer p decoded) ≡ check_number (packet_check p decoded)
+packet_number_lem p decoded = ap first (packet_numbers_lem p decoded) ∙ number_due (packet_check p decoded) (header_numbers (header_of (datagram_of p))) []
 
 module _ (t : Table) (p decoded : List ℕ) (dir : Direction) (m : FieldMap) where
   abbrev due : Check
-  due = inputCheck t p decoded dir m
+  due = input_check t p decoded dir m
 
   abbrev list : List (List Start)
-  list = placementsOf t p decoded dir m
+  list = placements_of t p decoded dir m
 
-  pub verdict-number : verdictNumber (verdictAnswer t p decoded dir m) ≡ checkNumber due
-  verdict-number = ap first (verdict-numbers t p decoded dir m) ∙ number-due due (metNumber list ∷ []) (0 ∷ [])
+  pub verdict_number_lem : verdict_number (verdict_answer t p decoded dir m) ≡ check_number due
+  verdict_number_lem = ap first (verdict_numbers_lem t p decoded dir m) ∙ number_due due (met_number list ∷ []) (0 ∷ [])
 
-  pub first-number : foundNumber (firstAnswer t p decoded dir m).found ≡ checkNumber due
-  first-number = ap first (first-numbers t p decoded dir m) ∙ number-due due (placedNumbers list) noneNumbers
+  pub first_number : found_number (first_answer t p decoded dir m).found ≡ check_number due
+  first_number = ap first (first_numbers t p decoded dir m) ∙ number_due due (placed_numbers list) none_numbers
 
-  pub next-number : (h : Placement) → foundNumber (nextAnswer t p decoded dir m h).found ≡ checkNumber (and_then due (earlierCheck t p decoded dir m h))
-  next-number h =
-      ap first (next-numbers t p decoded dir m h)
-      ∙ number-due (and_then due (earlierCheck t p decoded dir m h)) (placedNumbers (keep (lexLess (startsOf h)) list)) noneNumbers
+  pub next_number_lem : (h : Placement) → found_number (next_answer t p decoded dir m h).found ≡ check_number (and_then due (earlier_check t p decoded dir m h))
+  next_number_lem h =
+      ap first (next_numbers t p decoded dir m h)
+      ∙ number_due (and_then due (earlier_check t p decoded dir m h)) (placed_numbers (keep (lex_less (starts_of h)) list)) none_numbers

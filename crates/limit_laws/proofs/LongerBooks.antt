@@ -24,43 +24,43 @@ use Rattle.definitions.specs.declared.answers.Reading.{Reading}
 use Rattle.definitions.specs.declared.answers.Verdict.{Verdict}
 use Rattle.definitions.specs.declared.books.Judgement.{Judgement}
 use Rattle.definitions.specs.declared.books.Judgement.TheVariants.{Accepted, Refused}
-use Rattle.definitions.specs.Limits.{Limits, maxRules}
-use Rattle.definitions.specs.Refusals.{refuseIf}
+use Rattle.definitions.specs.Limits.{Limits, max_rules}
+use Rattle.definitions.specs.Refusals.{refuse_if}
 use Rattle.definitions.specs.Reading.{read}
-use Rattle.definitions.specs.Answers.{verdictAnswer}
-use Rattle.definitions.specs.Books.{Rule, bookLines, isRule, ruleNumber, ruleSource, ruleOf, rulesOf, textCheck, lineCheck, judgeLines, judge}
-use Rattle.definitions.specs.Decisions.{isOn, isMet, decides, decided, decision}
-use Rattle.definitions.specs.LoadedBooks.{loadedFrom, loadedIf, loaded}
-use Rattle.definitions.specs.Blocks.{PacketRecord, recordsUpTo, decisionNumber, recordNumber, blockNumbers}
-use Rattle.laws.proofs.Checks.{no-fine, refuse-fine}
-use Rattle.laws.proofs.Refusing.{limit-kept}
-use Rattle.book_laws.proofs.Rising.{passed-line, accepted-book}
-use Rattle.book_laws.proofs.Deciding.{by-rules}
-use Rattle.limit_laws.specs.LongerTexts.{Raised, widened, widenedReading, judgedBelow}
-use Rattle.limit_laws.proofs.WidenedReading.{read-widened}
-use Rattle.limit_laws.proofs.WidenedAnswers.{verdict-widened}
-use Rattle.limit_laws.proofs.WidenedWriting.{accepted-formed}
+use Rattle.definitions.specs.Answers.{verdict_answer}
+use Rattle.definitions.specs.Books.{Rule, book_lines, is_rule, rule_number, rule_source, rule_of, rules_of, text_check, line_check, judge_lines, judge}
+use Rattle.definitions.specs.Decisions.{is_on, is_met, decides, decided, decision}
+use Rattle.definitions.specs.LoadedBooks.{loaded_from, loaded_if, loaded}
+use Rattle.definitions.specs.Blocks.{PacketRecord, records_up_to, decision_number, record_number, block_numbers}
+use Rattle.laws.proofs.Checks.{no_fine, refuse_fine}
+use Rattle.laws.proofs.Refusing.{limit_kept}
+use Rattle.book_laws.proofs.Rising.{passed_line, accepted_book}
+use Rattle.book_laws.proofs.Deciding.{by_rules}
+use Rattle.limit_laws.specs.LongerTexts.{Raised, widened, widened_reading, judged_below}
+use Rattle.limit_laws.proofs.WidenedReading.{read_widened}
+use Rattle.limit_laws.proofs.WidenedAnswers.{verdict_widened}
+use Rattle.limit_laws.proofs.WidenedWriting.{accepted_formed}
 
 -- a line's check, by what its text reads as
-abbrev lineBy : ℕ → ℕ → List ℕ → Check → Check
-lineBy n last l c =
-    refuseIf (ltb maxRules n) refusal.RuleCount (refuseIf (not (isRule l)) refusal.RuleForm (refuseIf (leb (ruleNumber l) last) refusal.RuleOrder c))
+abbrev line_by : ℕ → ℕ → List ℕ → Check → Check
+line_by n last l c =
+    refuse_if (ltb max_rules n) refusal.RuleCount (refuse_if (not (is_rule l)) refusal.RuleForm (refuse_if (leb (rule_number l) last) refusal.RuleOrder c))
 
-line-checked : (lim : Limits) (n last : ℕ) (l : List ℕ) → lineCheck lim n last l ≡ lineBy n last l (textCheck (read lim (ruleSource l)).outcome)
-unfolding lineCheck
-line-checked lim n last l = refl
+line_checked : (lim : Limits) (n last : ℕ) (l : List ℕ) → line_check lim n last l ≡ line_by n last l (text_check (read lim (rule_source l)).outcome)
+unfolding line_check
+line_checked lim n last l = refl
 
 -- a line that passes is refused by its text alone
-passes-by : (n last : ℕ) (l : List ℕ) (c : Check) → lineBy n last l c ≡ Pass → (c ≡ Pass) × ((d : Check) → lineBy n last l d ≡ d)
-passes-by n last l c e =
-    let x = refuse-fine (ltb maxRules n) refusal.RuleCount _ e in
-    let y = refuse-fine (not (isRule l)) refusal.RuleForm _ x.1 in
-    let z = refuse-fine (leb (ruleNumber l) last) refusal.RuleOrder _ y.1 in
+passes_by : (n last : ℕ) (l : List ℕ) (c : Check) → line_by n last l c ≡ Pass → (c ≡ Pass) × ((d : Check) → line_by n last l d ≡ d)
+passes_by n last l c e =
+    let x = refuse_fine (ltb max_rules n) refusal.RuleCount _ e in
+    let y = refuse_fine (not (is_rule l)) refusal.RuleForm _ x.1 in
+    let z = refuse_fine (leb (rule_number l) last) refusal.RuleOrder _ y.1 in
     (z.1, λ d. rw (x.0, y.0, z.0))
 
-text-accepted : (o : ReadOutcome) → textCheck o ≡ Pass → o ≡ outcome.Accepted
-text-accepted outcome.Accepted e = refl
-text-accepted (outcome.Refused r p) e = no-fine r e
+text_accepted : (o : ReadOutcome) → text_check o ≡ Pass → o ≡ outcome.Accepted
+text_accepted outcome.Accepted e = refl
+text_accepted (outcome.Refused r p) e = no_fine r e
 
 module _ (a b : Limits) (h : Raised a b) where
   -- ---- a text
@@ -70,109 +70,109 @@ module _ (a b : Limits) (h : Raised a b) where
     pub short : length r.source ≤ a.text
     pub accepted : (read a r.source).outcome ≡ outcome.Accepted
 
-  longer-refused : (s : List ℕ) → ltb a.text (length s) ≡ true → textCheck (read a s).outcome ≡ Refuse refusal.TextLength
-  longer-refused s t = ap (λ (r : Reading). textCheck r.outcome) (limit-kept a s (ltb-true a.text (length s) t))
+  longer_refused : (s : List ℕ) → ltb a.text (length s) ≡ true → text_check (read a s).outcome ≡ Refuse refusal.TextLength
+  longer_refused s t = ap (λ (r : Reading). text_check r.outcome) (limit_kept a s (ltb-true a.text (length s) t))
 
-  accepted-short-text : (s : List ℕ) → (read a s).outcome ≡ outcome.Accepted → length s ≤ a.text
-  accepted-short-text s e =
+  accepted_short_text : (s : List ℕ) → (read a s).outcome ≡ outcome.Accepted → length s ≤ a.text
+  accepted_short_text s e =
       by_cases (ltb a.text (length s))
-      (λ t. no-fine refusal.TextLength (sym (longer-refused s t) ∙ ap textCheck e))
+      (λ t. no_fine refusal.TextLength (sym (longer_refused s t) ∙ ap text_check e))
       (λ f. ltb-false a.text (length s) f)
 
-  outcome-same : (s : List ℕ) → length s ≤ a.text → (read b s).outcome ≡ (read a s).outcome
-  unfolding widenedReading
-  outcome-same s n = ap (λ (r : Reading). r.outcome) (read-widened a b h s n)
+  outcome_same : (s : List ℕ) → length s ≤ a.text → (read b s).outcome ≡ (read a s).outcome
+  unfolding widened_reading
+  outcome_same s n = ap (λ (r : Reading). r.outcome) (read_widened a b h s n)
 
   -- ---- a line, and lines
 
-  line_same : (n last : ℕ) (l : List ℕ) → length (ruleSource l) ≤ a.text → lineCheck b n last l ≡ lineCheck a n last l
+  line_same : (n last : ℕ) (l : List ℕ) → length (rule_source l) ≤ a.text → line_check b n last l ≡ line_check a n last l
   line_same n last l short =
-      line-checked b n last l ∙ ap (λ (o : ReadOutcome). lineBy n last l (textCheck o)) (outcome-same (ruleSource l) short) ∙ sym (line-checked a n last l)
+      line_checked b n last l ∙ ap (λ (o : ReadOutcome). line_by n last l (text_check o)) (outcome_same (rule_source l) short) ∙ sym (line_checked a n last l)
 
-  line_read : (n last : ℕ) (l : List ℕ) → lineCheck a n last l ≡ Pass → IsRead (ruleOf l)
-  unfolding ruleOf
+  line_read : (n last : ℕ) (l : List ℕ) → line_check a n last l ≡ Pass → IsRead (rule_of l)
+  unfolding rule_of
   line_read n last l e =
-      let c = (passes-by n last l (textCheck (read a (ruleSource l)).outcome) (sym (line-checked a n last l) ∙ e)).0 in
-      let o = text-accepted (read a (ruleSource l)).outcome c in
-      record { short = accepted-short-text (ruleSource l) o; accepted = o }
+      let c = (passes_by n last l (text_check (read a (rule_source l)).outcome) (sym (line_checked a n last l) ∙ e)).0 in
+      let o = text_accepted (read a (rule_source l)).outcome c in
+      record { short = accepted_short_text (rule_source l) o; accepted = o }
 
-  lines-accepted : (n last : ℕ) (ls : List (List ℕ)) (k : ℕ) → judgeLines a n last ls ≡ Accepted k → judgeLines b n last ls ≡ Accepted k
-  unfolding judgeLines ruleOf
-  lines-accepted n last [] k e = e
-  lines-accepted n last (l ∷ ls) k e =
-      let w = passed-line (lineCheck a (suc n) last l) (suc n) k _ e in
-      let c : lineCheck b (suc n) last l ≡ Pass = line_same (suc n) last l (line_read (suc n) last l w.0).short ∙ w.0 in
-      rw c (lines-accepted (suc n) (ruleNumber l) ls k w.1)
+  lines_accepted : (n last : ℕ) (ls : List (List ℕ)) (k : ℕ) → judge_lines a n last ls ≡ Accepted k → judge_lines b n last ls ≡ Accepted k
+  unfolding judge_lines rule_of
+  lines_accepted n last [] k e = e
+  lines_accepted n last (l ∷ ls) k e =
+      let w = passed_line (line_check a (suc n) last l) (suc n) k _ e in
+      let c : line_check b (suc n) last l ≡ Pass = line_same (suc n) last l (line_read (suc n) last l w.0).short ∙ w.0 in
+      rw c (lines_accepted (suc n) (rule_number l) ls k w.1)
 
-  lines-read : (n last : ℕ) (ls : List (List ℕ)) (k : ℕ) → judgeLines a n last ls ≡ Accepted k → (r : Rule) → Mem r (map ruleOf ls) → IsRead r
-  unfolding judgeLines
-  lines-read n last [] k e r m = absurd (not-nil m)
-  lines-read n last (l ∷ ls) k e r m =
-      let w = passed-line (lineCheck a (suc n) last l) (suc n) k _ e in
-      ⊎_elim (λ p. rw p (line_read (suc n) last l w.0)) (λ q. lines-read (suc n) (ruleNumber l) ls k w.1 r q) (cases_cons m)
+  lines_read : (n last : ℕ) (ls : List (List ℕ)) (k : ℕ) → judge_lines a n last ls ≡ Accepted k → (r : Rule) → Mem r (map rule_of ls) → IsRead r
+  unfolding judge_lines
+  lines_read n last [] k e r m = absurd (not-nil m)
+  lines_read n last (l ∷ ls) k e r m =
+      let w = passed_line (line_check a (suc n) last l) (suc n) k _ e in
+      ⊎_elim (λ p. rw p (line_read (suc n) last l w.0)) (λ q. lines_read (suc n) (rule_number l) ls k w.1 r q) (cases_cons m)
 
   -- the lines that b accepts, under a
-  lines-formerly : (n last : ℕ) (ls : List (List ℕ)) (k : ℕ) → judgeLines b n last ls ≡ Accepted k
-      → judgeLines a n last ls ≡ judgedBelow a.text n (map ruleOf ls)
-  unfolding judgeLines judgedBelow ruleOf
-  lines-formerly n last [] k e = refl
-  lines-formerly n last (l ∷ ls) k e =
-      let w = passed-line (lineCheck b (suc n) last l) (suc n) k _ e in
-      let p = passes-by (suc n) last l (textCheck (read b (ruleSource l)).outcome) (sym (line-checked b (suc n) last l) ∙ w.0) in
-      by_cases (ltb a.text (length (ruleSource l)))
-      (λ t. let c : lineCheck a (suc n) last l ≡ Refuse refusal.TextLength = line-checked a (suc n) last l ∙ p.1 _ ∙ longer-refused (ruleSource l) t in
+  lines_formerly : (n last : ℕ) (ls : List (List ℕ)) (k : ℕ) → judge_lines b n last ls ≡ Accepted k
+      → judge_lines a n last ls ≡ judged_below a.text n (map rule_of ls)
+  unfolding judge_lines judged_below rule_of
+  lines_formerly n last [] k e = refl
+  lines_formerly n last (l ∷ ls) k e =
+      let w = passed_line (line_check b (suc n) last l) (suc n) k _ e in
+      let p = passes_by (suc n) last l (text_check (read b (rule_source l)).outcome) (sym (line_checked b (suc n) last l) ∙ w.0) in
+      by_cases (ltb a.text (length (rule_source l)))
+      (λ t. let c : line_check a (suc n) last l ≡ Refuse refusal.TextLength = line_checked a (suc n) last l ∙ p.1 _ ∙ longer_refused (rule_source l) t in
       rw (t, c))
-      (λ f. let c : lineCheck a (suc n) last l ≡ Pass =
-      sym (line_same (suc n) last l (ltb-false a.text (length (ruleSource l)) f)) ∙ w.0 in
-      rw (f, c) (lines-formerly (suc n) (ruleNumber l) ls k w.1))
+      (λ f. let c : line_check a (suc n) last l ≡ Pass =
+      sym (line_same (suc n) last l (ltb-false a.text (length (rule_source l)) f)) ∙ w.0 in
+      rw (f, c) (lines_formerly (suc n) (rule_number l) ls k w.1))
 
   -- ---- a book
 
-  pub book-accepted : (book : List ℕ) (n : ℕ) → judge a book ≡ Accepted n → judge b book ≡ Accepted n
+  pub book_accepted : (book : List ℕ) (n : ℕ) → judge a book ≡ Accepted n → judge b book ≡ Accepted n
   unfolding judge
-  book-accepted book n e =
-      rw (accepted-book a book n e).0 (lines-accepted 0 0 (bookLines book) n (accepted-book a book n e).1)
+  book_accepted book n e =
+      rw (accepted_book a book n e).0 (lines_accepted 0 0 (book_lines book) n (accepted_book a book n e).1)
 
-  pub rules-read : (book : List ℕ) (n : ℕ) → judge a book ≡ Accepted n → (r : Rule) → Mem r (rulesOf book) → IsRead r
-  unfolding rulesOf
-  rules-read book n e = lines-read 0 0 (bookLines book) n (accepted-book a book n e).1
+  pub rules_read : (book : List ℕ) (n : ℕ) → judge a book ≡ Accepted n → (r : Rule) → Mem r (rules_of book) → IsRead r
+  unfolding rules_of
+  rules_read book n e = lines_read 0 0 (book_lines book) n (accepted_book a book n e).1
 
-  pub book-loaded : (book : List ℕ) (n : ℕ) → judge a book ≡ Accepted n → loaded b book ≡ loaded a book
+  pub book_loaded : (book : List ℕ) (n : ℕ) → judge a book ≡ Accepted n → loaded b book ≡ loaded a book
   unfolding loaded
-  book-loaded book n e = ap (λ (j : Judgement). loadedIf j (loadedFrom 0 (bookLines book))) (book-accepted book n e ∙ sym e)
+  book_loaded book n e = ap (λ (j : Judgement). loaded_if j (loaded_from 0 (book_lines book))) (book_accepted book n e ∙ sym e)
 
-  pub book-formerly : (book : List ℕ) (n : ℕ) → judge b book ≡ Accepted n → judge a book ≡ judgedBelow a.text 0 (rulesOf book)
-  unfolding judge rulesOf
-  book-formerly book n e =
-      rw (accepted-book b book n e).0 (lines-formerly 0 0 (bookLines book) n (accepted-book b book n e).1)
+  pub book_formerly : (book : List ℕ) (n : ℕ) → judge b book ≡ Accepted n → judge a book ≡ judged_below a.text 0 (rules_of book)
+  unfolding judge rules_of
+  book_formerly book n e =
+      rw (accepted_book b book n e).0 (lines_formerly 0 0 (book_lines book) n (accepted_book b book n e).1)
 
   -- ---- a decision
 
   module _ (p decoded : List ℕ) (dir : Direction) (m : FieldMap) where
-    verdict-same : (r : Rule) → IsRead r
-        → verdictAnswer (read b r.source).table p decoded dir m ≡ verdictAnswer (read a r.source).table p decoded dir m
-    unfolding widenedReading
-    verdict-same r k =
-        ap (λ (x : Reading). verdictAnswer x.table p decoded dir m) (read-widened a b h r.source k.short)
-        ∙ verdict-widened b.room (read a r.source).table (accepted-formed a b h r.source k.accepted) p decoded dir m
+    verdict_same : (r : Rule) → IsRead r
+        → verdict_answer (read b r.source).table p decoded dir m ≡ verdict_answer (read a r.source).table p decoded dir m
+    unfolding widened_reading
+    verdict_same r k =
+        ap (λ (x : Reading). verdict_answer x.table p decoded dir m) (read_widened a b h r.source k.short)
+        ∙ verdict_widened b.room (read a r.source).table (accepted_formed a b h r.source k.accepted) p decoded dir m
 
-    decides-same : (r : Rule) → IsRead r → decides b p decoded dir m r ≡ decides a p decoded dir m r
+    decides_same : (r : Rule) → IsRead r → decides b p decoded dir m r ≡ decides a p decoded dir m r
     unfolding decides
-    decides-same r k = ap (λ (v : Verdict). isOn r.state && isMet v) (verdict-same r k)
+    decides_same r k = ap (λ (v : Verdict). is_on r.state && is_met v) (verdict_same r k)
 
-    decided-same : (rs : List Rule) → ((r : Rule) → Mem r rs → IsRead r) → decided b p decoded dir m rs ≡ decided a p decoded dir m rs
+    decided_same : (rs : List Rule) → ((r : Rule) → Mem r rs → IsRead r) → decided b p decoded dir m rs ≡ decided a p decoded dir m rs
     unfolding decided
-    decided-same [] k = refl
-    decided-same (r ∷ rs) k = rw (decides-same r (k r (here refl)), decided-same rs (λ s n. k s (there n)))
+    decided_same [] k = refl
+    decided_same (r ∷ rs) k = rw (decides_same r (k r (here refl)), decided_same rs (λ s n. k s (there n)))
 
   module _ (book : List ℕ) (n : ℕ) (e : judge a book ≡ Accepted n) where
-    pub book-decides : (p decoded : List ℕ) (dir : Direction) (m : FieldMap) → decision b p decoded dir m book ≡ decision a p decoded dir m book
-    book-decides p decoded dir m =
-        by-rules b p decoded dir m book n (book-accepted book n e)
-        ∙ (decided-same p decoded dir m (rulesOf book) (rules-read book n e) ∙ sym (by-rules a p decoded dir m book n e))
+    pub book_decides : (p decoded : List ℕ) (dir : Direction) (m : FieldMap) → decision b p decoded dir m book ≡ decision a p decoded dir m book
+    book_decides p decoded dir m =
+        by_rules b p decoded dir m book n (book_accepted book n e)
+        ∙ (decided_same p decoded dir m (rules_of book) (rules_read book n e) ∙ sym (by_rules a p decoded dir m book n e))
 
-    pub blocks-decided : (block out : List ℕ) → blockNumbers b (rulesOf book) block out ≡ blockNumbers a (rulesOf book) block out
-    unfolding blockNumbers recordNumber
-    blocks-decided block out =
-        ap (λ (f : PacketRecord → ℕ). map f (recordsUpTo (length out) block) ++ drop (length (recordsUpTo (length out) block)) out)
-        (fun_ext (λ k. ap decisionNumber (decided-same k.packet k.decoded k.direction k.fields (rulesOf book) (rules-read book n e))))
+    pub blocks_decided : (block out : List ℕ) → block_numbers b (rules_of book) block out ≡ block_numbers a (rules_of book) block out
+    unfolding block_numbers record_number
+    blocks_decided block out =
+        ap (λ (f : PacketRecord → ℕ). map f (records_up_to (length out) block) ++ drop (length (records_up_to (length out) block)) out)
+        (fun_ext (λ k. ap decision_number (decided_same k.packet k.decoded k.direction k.fields (rules_of book) (rules_read book n e))))

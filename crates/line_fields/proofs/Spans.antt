@@ -5,43 +5,43 @@ use mathlib.Core.List.{List}
 use Prim.Native.Nat.{ℕ}
 use Rattle.forms.proofs.Bools.{by_cases}
 use Rattle.definitions.specs.declared.packets.Span.{Span}
-use Rattle.definitions.specs.Parts.{contains, partBefore, partAfter}
-use Rattle.line_parts.proofs.Delimiters.{after-empty}
-use Rattle.line_parts.proofs.Results.{failed-test, parsed-test, parsed-value}
+use Rattle.definitions.specs.Parts.{contains, part_before, part_after}
+use Rattle.line_parts.proofs.Delimiters.{after_empty}
+use Rattle.line_parts.proofs.Results.{failed_test, parsed_test, parsed_value}
 use Rattle.line_numbers.specs.declared.decimals.NumberResult.{NumberResult}
 use Rattle.line_numbers.specs.declared.decimals.NumberResult.TheVariants as number
 use Rattle.definitions.specs.Numbers.{is_number}
-use Rattle.line_numbers.specs.Decimals.{parsedNumber}
-use Rattle.line_numbers.proofs.Results.{failed-number, parsed-number, number-value}
+use Rattle.line_numbers.specs.Decimals.{parsed_number}
+use Rattle.line_numbers.proofs.Results.{failed_number, parsed_number_lem, number_value}
 use Rattle.line_fields.specs.declared.field_maps.SpanResult.TheVariants.{Parsed, Failed}
-use Rattle.line_fields.specs.FieldMaps.{maxSpan, isSpan, lineSpan, parsedSpan}
+use Rattle.line_fields.specs.FieldMaps.{max_span, is_span, line_span, parsed_span}
 
 -- digits of a length stand after a `+`
-span-is : (s : List ℕ) → isSpan s ≡ (is_number maxSpan (partBefore 43 s) && is_number maxSpan (partAfter 43 s))
-unfolding isSpan is_number
-span-is s =
+span_is : (s : List ℕ) → is_span s ≡ (is_number max_span (part_before 43 s) && is_number max_span (part_after 43 s))
+unfolding is_span is_number
+span_is s =
     by_cases (contains 43 s)
     (λ t. rw t)
-    (λ f. rw (f, after-empty 43 s f) (sym (and-false (is_number maxSpan (partBefore 43 s)))))
+    (λ f. rw (f, after_empty 43 s f) (sym (and-false (is_number max_span (part_before 43 s)))))
 
 -- x and y are what stands before and after the `+`; a and b what the code made of them
-module _ (s x : List ℕ) (xe : x ≡ partBefore 43 s) (a : NumberResult) (p : a ≡ parsedNumber maxSpan x) where
-  pub no_start : a ≡ number.Failed → Failed ≡ parsedSpan s
-  unfolding parsedSpan
-  no_start f = rw (span-is s, ap (is_number maxSpan) (sym xe) ∙ failed-number maxSpan x (sym p ∙ f))
+module _ (s x : List ℕ) (xe : x ≡ part_before 43 s) (a : NumberResult) (p : a ≡ parsed_number max_span x) where
+  pub no_start : a ≡ number.Failed → Failed ≡ parsed_span s
+  unfolding parsed_span
+  no_start f = rw (span_is s, ap (is_number max_span) (sym xe) ∙ failed_number max_span x (sym p ∙ f))
 
-  module _ (v : ℕ) (t : a ≡ number.Parsed v) (y : List ℕ) (ye : y ≡ partAfter 43 s) (b : NumberResult) (q : b ≡ parsedNumber maxSpan y) where
-    now-length : isSpan s ≡ is_number maxSpan y
-    now-length = span-is s ∙ rw (ap (is_number maxSpan) (sym xe) ∙ parsed-number maxSpan x v (sym p ∙ t), ye)
+  module _ (v : ℕ) (t : a ≡ number.Parsed v) (y : List ℕ) (ye : y ≡ part_after 43 s) (b : NumberResult) (q : b ≡ parsed_number max_span y) where
+    now_length : is_span s ≡ is_number max_span y
+    now_length = span_is s ∙ rw (ap (is_number max_span) (sym xe) ∙ parsed_number_lem max_span x v (sym p ∙ t), ye)
 
-    pub no_length : b ≡ number.Failed → Failed ≡ parsedSpan s
-    unfolding parsedSpan
-    no_length f = rw (now-length ∙ failed-number maxSpan y (sym q ∙ f))
+    pub no_length : b ≡ number.Failed → Failed ≡ parsed_span s
+    unfolding parsed_span
+    no_length f = rw (now_length ∙ failed_number max_span y (sym q ∙ f))
 
-    pub one_span : (w : ℕ) → b ≡ number.Parsed w → Parsed (record { start = v; len = w }) ≡ parsedSpan s
-    unfolding parsedSpan lineSpan
+    pub one_span : (w : ℕ) → b ≡ number.Parsed w → Parsed (record { start = v; len = w }) ≡ parsed_span s
+    unfolding parsed_span line_span
     one_span w u =
-        rw (now-length ∙ parsed-number maxSpan y w (sym q ∙ u), number-value maxSpan x v (sym p ∙ t), number-value maxSpan y w (sym q ∙ u), xe, ye)
+        rw (now_length ∙ parsed_number_lem max_span y w (sym q ∙ u), number_value max_span x v (sym p ∙ t), number_value max_span y w (sym q ∙ u), xe, ye)
 
 -- ---- what the answer for a span tells of the bytes
 
@@ -52,15 +52,15 @@ same : (v w : Span) → Parsed v ≡ Parsed w → v ≡ w
 same v w e = cc
 
 module _ (s : List ℕ) where
-  pub failed-span : parsedSpan s ≡ Failed → isSpan s ≡ false
-  unfolding parsedSpan
-  failed-span e = failed-test Parsed Failed apart (isSpan s) (lineSpan s) e
+  pub failed_span : parsed_span s ≡ Failed → is_span s ≡ false
+  unfolding parsed_span
+  failed_span e = failed_test Parsed Failed apart (is_span s) (line_span s) e
 
-  module _ (v : Span) (e : parsedSpan s ≡ Parsed v) where
-    pub parsed-span : isSpan s ≡ true
-    unfolding parsedSpan
-    parsed-span = parsed-test Parsed Failed apart (isSpan s) (lineSpan s) v e
+  module _ (v : Span) (e : parsed_span s ≡ Parsed v) where
+    pub parsed_span_lem : is_span s ≡ true
+    unfolding parsed_span
+    parsed_span_lem = parsed_test Parsed Failed apart (is_span s) (line_span s) v e
 
-    pub span_value : v ≡ lineSpan s
-    unfolding parsedSpan
-    span_value = sym (parsed-value Parsed Failed apart same (isSpan s) (lineSpan s) v e)
+    pub span_value : v ≡ line_span s
+    unfolding parsed_span
+    span_value = sym (parsed_value Parsed Failed apart same (is_span s) (line_span s) v e)

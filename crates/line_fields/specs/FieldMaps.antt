@@ -7,93 +7,93 @@ use Rattle.definitions.specs.declared.packets.Span.{Span}
 use Rattle.definitions.specs.declared.packets.FieldSpan.{FieldSpan}
 use Rattle.definitions.specs.declared.packets.FieldSpan.TheVariants.{Absent, At}
 use Rattle.definitions.specs.declared.packets.FieldMap.{FieldMap}
-use Rattle.definitions.specs.Lists.{sameBytes}
+use Rattle.definitions.specs.Lists.{same_bytes}
 use Rattle.definitions.specs.Numbers.{value_of, is_number}
 use Rattle.definitions.specs.Fields.{present}
-use Rattle.definitions.specs.Parts.{contains, partBefore, partAfter, parts}
+use Rattle.definitions.specs.Parts.{contains, part_before, part_after, parts}
 use Rattle.line_fields.specs.declared.field_maps.SpanResult.{SpanResult}
 use Rattle.line_fields.specs.declared.field_maps.SpanResult.TheVariants as span
 use Rattle.line_fields.specs.declared.field_maps.MapResult.{MapResult}
 use Rattle.line_fields.specs.declared.field_maps.MapResult.TheVariants.{Parsed, Failed}
 
 -- the largest start, and length
-abbrev pub maxSpan : ℕ
-maxSpan = 65535
+abbrev pub max_span : ℕ
+max_span = 65535
 
 -- the field of a name; the payload, which no map gives, for any other
-unfoldable pub fieldNamed : List ℕ → Context
-fieldNamed l =
-    if sameBytes l (text "uri") then context.Uri
-    else if sameBytes l (text "header") then context.Header
-    else if sameBytes l (text "body") then context.Body
-    else if sameBytes l (text "banner") then context.Banner
-    else if sameBytes l (text "host") then context.Host
-    else if sameBytes l (text "file") then context.File
+unfoldable pub field_named : List ℕ → Context
+field_named l =
+    if same_bytes l (text "uri") then context.Uri
+    else if same_bytes l (text "header") then context.Header
+    else if same_bytes l (text "body") then context.Body
+    else if same_bytes l (text "banner") then context.Banner
+    else if same_bytes l (text "host") then context.Host
+    else if same_bytes l (text "file") then context.File
     else context.Packet
 
-abbrev pub noFields : FieldMap
-noFields = record { uri = Absent; header = Absent; body = Absent; banner = Absent; host = Absent; file = Absent }
+abbrev pub no_fields : FieldMap
+no_fields = record { uri = Absent; header = Absent; body = Absent; banner = Absent; host = Absent; file = Absent }
 
-abbrev pub withField : FieldMap → Context → FieldSpan → FieldMap
-withField m context.Packet f = m
-withField m context.Uri f = record { uri = f; header = m.header; body = m.body; banner = m.banner; host = m.host; file = m.file }
-withField m context.Header f = record { uri = m.uri; header = f; body = m.body; banner = m.banner; host = m.host; file = m.file }
-withField m context.Body f = record { uri = m.uri; header = m.header; body = f; banner = m.banner; host = m.host; file = m.file }
-withField m context.Banner f = record { uri = m.uri; header = m.header; body = m.body; banner = f; host = m.host; file = m.file }
-withField m context.Host f = record { uri = m.uri; header = m.header; body = m.body; banner = m.banner; host = f; file = m.file }
-withField m context.File f = record { uri = m.uri; header = m.header; body = m.body; banner = m.banner; host = m.host; file = f }
+abbrev pub with_field : FieldMap → Context → FieldSpan → FieldMap
+with_field m context.Packet f = m
+with_field m context.Uri f = record { uri = f; header = m.header; body = m.body; banner = m.banner; host = m.host; file = m.file }
+with_field m context.Header f = record { uri = m.uri; header = f; body = m.body; banner = m.banner; host = m.host; file = m.file }
+with_field m context.Body f = record { uri = m.uri; header = m.header; body = f; banner = m.banner; host = m.host; file = m.file }
+with_field m context.Banner f = record { uri = m.uri; header = m.header; body = m.body; banner = f; host = m.host; file = m.file }
+with_field m context.Host f = record { uri = m.uri; header = m.header; body = m.body; banner = m.banner; host = f; file = m.file }
+with_field m context.File f = record { uri = m.uri; header = m.header; body = m.body; banner = m.banner; host = m.host; file = f }
 
 -- a span: start, `+`, length
 abbrev pub start_in : List ℕ → List ℕ
-start_in s = partBefore 43 s
+start_in s = part_before 43 s
 
-abbrev pub lengthIn : List ℕ → List ℕ
-lengthIn s = partAfter 43 s
+abbrev pub length_in : List ℕ → List ℕ
+length_in s = part_after 43 s
 
-unfoldable pub isSpan : List ℕ → Bool
-isSpan s = contains 43 s && (is_number maxSpan (start_in s) && is_number maxSpan (lengthIn s))
+unfoldable pub is_span : List ℕ → Bool
+is_span s = contains 43 s && (is_number max_span (start_in s) && is_number max_span (length_in s))
 
-unfoldable pub lineSpan : List ℕ → Span
-lineSpan s = record { start = value_of 10 0 (start_in s); len = value_of 10 0 (lengthIn s) }
+unfoldable pub line_span : List ℕ → Span
+line_span s = record { start = value_of 10 0 (start_in s); len = value_of 10 0 (length_in s) }
 
 -- a field: name, `:`, span
-abbrev pub fieldNameIn : List ℕ → List ℕ
-fieldNameIn e = partBefore 58 e
+abbrev pub field_name_in : List ℕ → List ℕ
+field_name_in e = part_before 58 e
 
-abbrev pub spanIn : List ℕ → List ℕ
-spanIn e = partAfter 58 e
+abbrev pub span_in : List ℕ → List ℕ
+span_in e = part_after 58 e
 
 -- a field after those that made the map m: it is none of these. The payload is always present
-unfoldable pub isField : FieldMap → List ℕ → Bool
-isField m e = contains 58 e && (not (present m (fieldNamed (fieldNameIn e))) && isSpan (spanIn e))
+unfoldable pub is_field : FieldMap → List ℕ → Bool
+is_field m e = contains 58 e && (not (present m (field_named (field_name_in e))) && is_span (span_in e))
 
-unfoldable pub insertField : FieldMap → List ℕ → FieldMap
-insertField m e = withField m (fieldNamed (fieldNameIn e)) (At (lineSpan (spanIn e)))
+unfoldable pub insert_field : FieldMap → List ℕ → FieldMap
+insert_field m e = with_field m (field_named (field_name_in e)) (At (line_span (span_in e)))
 
-unfoldable pub areFields : FieldMap → List (List ℕ) → Bool
-areFields m [] = true
-areFields m (e ∷ es) = isField m e && areFields (insertField m e) es
+unfoldable pub are_fields : FieldMap → List (List ℕ) → Bool
+are_fields m [] = true
+are_fields m (e ∷ es) = is_field m e && are_fields (insert_field m e) es
 
-unfoldable pub mapFrom : FieldMap → List (List ℕ) → FieldMap
-mapFrom m [] = m
-mapFrom m (e ∷ es) = mapFrom (insertField m e) es
+unfoldable pub map_from : FieldMap → List (List ℕ) → FieldMap
+map_from m [] = m
+map_from m (e ∷ es) = map_from (insert_field m e) es
 
-unfoldable pub isMap : List ℕ → Bool
-isMap l = sameBytes l (text "-") || areFields noFields (parts 44 l)
+unfoldable pub is_map : List ℕ → Bool
+is_map l = same_bytes l (text "-") || are_fields no_fields (parts 44 l)
 
-unfoldable pub mapOf : List ℕ → FieldMap
-mapOf l = if sameBytes l (text "-") then noFields else mapFrom noFields (parts 44 l)
+unfoldable pub map_of : List ℕ → FieldMap
+map_of l = if same_bytes l (text "-") then no_fields else map_from no_fields (parts 44 l)
 
 -- ---- the code's answers
 
-unfoldable pub parsedSpan : List ℕ → SpanResult
-parsedSpan s = if isSpan s then span.Parsed (lineSpan s) else span.Failed
+unfoldable pub parsed_span : List ℕ → SpanResult
+parsed_span s = if is_span s then span.Parsed (line_span s) else span.Failed
 
-unfoldable pub parsedField : FieldMap → List ℕ → MapResult
-parsedField m e = if isField m e then Parsed (insertField m e) else Failed
+unfoldable pub parsed_field : FieldMap → List ℕ → MapResult
+parsed_field m e = if is_field m e then Parsed (insert_field m e) else Failed
 
-unfoldable pub parsedFields : FieldMap → List (List ℕ) → MapResult
-parsedFields m es = if areFields m es then Parsed (mapFrom m es) else Failed
+unfoldable pub parsed_fields : FieldMap → List (List ℕ) → MapResult
+parsed_fields m es = if are_fields m es then Parsed (map_from m es) else Failed
 
-unfoldable pub parsedMap : List ℕ → MapResult
-parsedMap l = if isMap l then Parsed (mapOf l) else Failed
+unfoldable pub parsed_map : List ℕ → MapResult
+parsed_map l = if is_map l then Parsed (map_of l) else Failed

@@ -1,7 +1,7 @@
 // The map of fields: fields such as `uri:0+12` parted by commas, `-` if there is none.
 ghost use Rattle.std.specs.Prelude.{◌≡◌};
 ghost use Rattle.definitions.specs.Parts.{parts};
-ghost use Rattle.line_fields.specs.FieldMaps.{noFields, parsedSpan, parsedField, parsedFields, parsedMap};
+ghost use Rattle.line_fields.specs.FieldMaps.{no_fields, parsed_span, parsed_field, parsed_fields, parsed_map};
 
 use crate::field_names::{field_named, no_fields, with_field};
 use definitions::packets::{FieldMap, FieldSpan, Span};
@@ -28,7 +28,7 @@ const MAX_SPAN: u64 = 65535;
 
 // The span of a start, `+` and a length: without the `+` there are no digits of a length.
 fn parse_span(s: &[u8]) -> SpanResult
-    ensures { result ≡ parsedSpan s.now }
+    ensures { result ≡ parsed_span s.now }
 {
     let NumberResult::Parsed(start) = parse_decimal(part_before(s, b'+'), MAX_SPAN) else {
         return SpanResult::Failed;
@@ -44,7 +44,7 @@ fn parse_span(s: &[u8]) -> SpanResult
 
 // The map with one field more, of a name, `:` and a span: none that it has already, and not the payload, which is always present.
 fn insert_field(m: FieldMap, e: &[u8]) -> MapResult
-    ensures { result ≡ parsedField m e.now }
+    ensures { result ≡ parsed_field m e.now }
 {
     let field = field_named(part_before(e, b':'));
     if is_present(m, field) {
@@ -58,7 +58,7 @@ fn insert_field(m: FieldMap, e: &[u8]) -> MapResult
 
 // The fields between the commas, one after the other.
 fn parse_fields(s: &[u8]) -> MapResult
-    ensures { result ≡ parsedFields noFields (parts 44 s.now) }
+    ensures { result ≡ parsed_fields no_fields (parts 44 s.now) }
 {
     let mut m = no_fields();
     let mut at = 0;
@@ -75,7 +75,7 @@ fn parse_fields(s: &[u8]) -> MapResult
 
 // The map of its fields.
 pub fn parse_map(s: &[u8]) -> MapResult
-    ensures { result ≡ parsedMap s.now }
+    ensures { result ≡ parsed_map s.now }
 {
     if is_word(s, b"-") {
         return MapResult::Parsed(no_fields());

@@ -1,7 +1,7 @@
 // A field by its name, and the map with its span.
 ghost use Rattle.std.specs.Prelude.{◌≡◌};
 ghost use Rattle.definitions.specs.declared.table.Context.TheVariants as context;
-ghost use Rattle.line_fields.specs.FieldMaps.{noFields, fieldNamed, withField};
+ghost use Rattle.line_fields.specs.FieldMaps.{no_fields, field_named, with_field};
 
 use definitions::packets::{FieldMap, FieldSpan};
 use definitions::table::Context;
@@ -9,7 +9,7 @@ use line_parts::is_word;
 
 // The field of a name; the payload, which no map gives, for a name that is none of the six.
 pub fn field_named(s: &[u8]) -> Context
-    ensures { result ≡ fieldNamed s.now }
+    ensures { result ≡ field_named s.now }
 {
     if is_word(s, b"uri") {
         return Context::Uri;
@@ -34,7 +34,7 @@ pub fn field_named(s: &[u8]) -> Context
 
 // The map in which every field is absent.
 pub fn no_fields() -> FieldMap
-    ensures { result ≡ noFields }
+    ensures { result ≡ no_fields }
 {
     FieldMap {
         uri: FieldSpan::Absent,
@@ -48,44 +48,44 @@ pub fn no_fields() -> FieldMap
 
 // The map with another uri, and so for each field.
 fn with_uri(m: FieldMap, f: FieldSpan) -> FieldMap
-    ensures { result ≡ withField m context.Uri f }
+    ensures { result ≡ with_field m context.Uri f }
 {
     FieldMap { uri: f, ..m }
 }
 
 fn with_header(m: FieldMap, f: FieldSpan) -> FieldMap
-    ensures { result ≡ withField m context.Header f }
+    ensures { result ≡ with_field m context.Header f }
 {
     FieldMap { header: f, ..m }
 }
 
 fn with_body(m: FieldMap, f: FieldSpan) -> FieldMap
-    ensures { result ≡ withField m context.Body f }
+    ensures { result ≡ with_field m context.Body f }
 {
     FieldMap { body: f, ..m }
 }
 
 fn with_banner(m: FieldMap, f: FieldSpan) -> FieldMap
-    ensures { result ≡ withField m context.Banner f }
+    ensures { result ≡ with_field m context.Banner f }
 {
     FieldMap { banner: f, ..m }
 }
 
 fn with_host(m: FieldMap, f: FieldSpan) -> FieldMap
-    ensures { result ≡ withField m context.Host f }
+    ensures { result ≡ with_field m context.Host f }
 {
     FieldMap { host: f, ..m }
 }
 
 fn with_file(m: FieldMap, f: FieldSpan) -> FieldMap
-    ensures { result ≡ withField m context.File f }
+    ensures { result ≡ with_field m context.File f }
 {
     FieldMap { file: f, ..m }
 }
 
 // The map with a field's span; the payload is in no map.
 pub fn with_field(m: FieldMap, c: Context, f: FieldSpan) -> FieldMap
-    ensures { result ≡ withField m c f }
+    ensures { result ≡ with_field m c f }
 {
     match c {
         Context::Packet => m,

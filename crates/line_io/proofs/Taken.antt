@@ -7,21 +7,21 @@ use Rattle.line_stream.specs.declared.Fed.{Fed}
 use Rattle.line_io.specs.declared.Step.{Step}
 use Rattle.line_io.specs.Blocks.{is_over, Fills, going, failed, filled, Writes, stopped, written}
 
-pub some-taken : (n : ℕ) → (n ≡ 0 → ⊥) → 0 < n
-some-taken zero f = absurd (f refl)
-some-taken (suc n) f = omega arith
+pub some_taken : (n : ℕ) → (n ≡ 0 → ⊥) → 0 < n
+some_taken zero f = absurd (f refl)
+some_taken (suc n) f = omega arith
 
 abbrev left : Step → ℕ
 left s = s.left
 
-pub fills-less : {block block' : List ℕ} {s r : Step} → 0 < s.left → Fills block block' s r → r.left < s.left
-fills-less some (going h b e) = let n = ap left e in omega (arith, some, n)
-fills-less some (failed h e) = let n = ap left e in omega (arith, some, n)
-fills-less some (filled n h k e) = let m = ap left e in omega (arith, some, m)
+pub fills_less : {block block' : List ℕ} {s r : Step} → 0 < s.left → Fills block block' s r → r.left < s.left
+fills_less some (going h b e) = let n = ap left e in omega (arith, some, n)
+fills_less some (failed h e) = let n = ap left e in omega (arith, some, n)
+fills_less some (filled n h k e) = let m = ap left e in omega (arith, some, m)
 
-pub writes-most : {f : Fed} {s r : Step} → Writes f s r → r.left ≤ s.left
-writes-most (stopped e) = let n = ap left e in omega (arith, n)
-writes-most (written h e) = let n = ap left e in omega (arith, n)
+pub writes_most : {f : Fed} {s r : Step} → Writes f s r → r.left ≤ s.left
+writes_most (stopped e) = let n = ap left e in omega (arith, n)
+writes_most (written h e) = let n = ap left e in omega (arith, n)
 
-pub over-most : (s : Step) {r : Step} → r ≡ is_over s → r.left ≤ s.left
-over-most s e = let n = ap left e in omega (arith, n)
+pub over_most : (s : Step) {r : Step} → r ≡ is_over s → r.left ≤ s.left
+over_most s e = let n = ap left e in omega (arith, n)

@@ -1,6 +1,6 @@
 // Standard input and output of a program that answers lines: reads blocks, writes answers, and says what failed.
 ghost use Rattle.std.specs.Prelude.{◌≡◌, ◌<◌, ◌≤◌};
-ghost use Rattle.line_io.specs.Blocks.{begins, is_over, rest_of, placeAfter, Fills, Writes};
+ghost use Rattle.line_io.specs.Blocks.{begins, is_over, rest_of, place_after, Fills, Writes};
 
 use libc::{STDERR_FILENO, STDIN_FILENO, STDOUT_FILENO};
 use line_stream::{Begun, Fed};
@@ -114,7 +114,7 @@ fn write_first(out: &[u8], put: usize) -> bool {
 
 // The place after some more bytes, within the end.
 fn place_after(from: usize, taken: usize, end: usize) -> usize
-    ensures { result ≡ placeAfter from taken end }
+    ensures { result ≡ place_after from taken end }
 {
     if from < end {
         if taken < end - from {

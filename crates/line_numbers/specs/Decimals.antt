@@ -6,5 +6,5 @@ use Rattle.line_numbers.specs.declared.decimals.NumberResult.{NumberResult}
 use Rattle.line_numbers.specs.declared.decimals.NumberResult.TheVariants.{Parsed, Failed}
 
 -- the code's answer
-unfoldable pub parsedNumber : ℕ → List ℕ → NumberResult
-parsedNumber limit l = if is_number limit l then Parsed (value_of 10 0 l) else Failed
+unfoldable pub parsed_number : ℕ → List ℕ → NumberResult
+parsed_number limit l = if is_number limit l then Parsed (value_of 10 0 l) else Failed

@@ -2,8 +2,8 @@
 use Rattle.std.specs.Prelude.{ℕ, ◌%◌, Bool, not, ◌&&◌, ◌||◌, List, length, eqb}
 use Rattle.forms.specs.Bytes.{text}
 use Rattle.forms.specs.Form.{has}
-use Rattle.definitions.specs.Lists.{all?, none?, sameBytes}
-use Rattle.definitions.specs.Numbers.{hexDigits}
+use Rattle.definitions.specs.Lists.{all?, none?, same_bytes}
+use Rattle.definitions.specs.Numbers.{hex_digits}
 
-unfoldable pub isHex : List ℕ → Bool
-isHex l = sameBytes l (text "-") || (not (none? l) && (all? (has hexDigits) l && eqb (length l % 2) 0))
+unfoldable pub is_hex : List ℕ → Bool
+is_hex l = same_bytes l (text "-") || (not (none? l) && (all? (has hex_digits) l && eqb (length l % 2) 0))

@@ -1,6 +1,6 @@
 // Decimal numbers up to a limit of 64 bits.
 ghost use Rattle.std.specs.Prelude.{◌≤◌, ◌≡◌};
-ghost use Rattle.line_numbers.specs.Decimals.{parsedNumber};
+ghost use Rattle.line_numbers.specs.Decimals.{parsed_number};
 
 use scan_bytes::bytes::is_between;
 
@@ -14,7 +14,7 @@ pub enum NumberResult {
 // The number that decimal digits write, if it is at most the limit.
 pub fn parse_decimal(s: &[u8], limit: u64) -> NumberResult
     requires { 9 ≤ limit }
-    ensures { result ≡ parsedNumber limit s.now }
+    ensures { result ≡ parsed_number limit s.now }
 {
     if s.len() == 0 {
         return NumberResult::Failed;

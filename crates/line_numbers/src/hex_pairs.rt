@@ -4,9 +4,9 @@ ghost use Rattle.std.specs.Prelude.{◌≡◌, true, ◌+◌, ◌*◌, ◌/◌, 
 ghost use Rattle.forms.specs.Form.{has};
 ghost use Rattle.definitions.specs.Cases.{pairs};
 ghost use Rattle.definitions.specs.Lists.{all?};
-ghost use Rattle.definitions.specs.Numbers.{hexDigits, digitValue};
-ghost use Rattle.write_bytes.specs.Puts.{maxCounted, Puts};
-ghost use Rattle.line_numbers.specs.HexPairs.{isHex};
+ghost use Rattle.definitions.specs.Numbers.{hex_digits, digit_value};
+ghost use Rattle.write_bytes.specs.Puts.{max_counted, Puts};
+ghost use Rattle.line_numbers.specs.HexPairs.{is_hex};
 
 use line_parts::is_word;
 use scan_bytes::bytes::is_between;
@@ -14,14 +14,14 @@ use write_bytes::{COUNTED, put};
 
 // Whether a byte is a hex digit.
 fn is_hex_digit(b: u8) -> bool
-    ensures { result ≡ has hexDigits b }
+    ensures { result ≡ has hex_digits b }
 {
     is_between(b'0', b'9', b) | is_between(b'A', b'F', b) | is_between(b'a', b'f', b)
 }
 
 // Whether all bytes are hex digits. There is no early way out, so many are looked at at once.
 fn all_hex(s: &[u8]) -> bool
-    ensures { result ≡ all? (has hexDigits) s.now }
+    ensures { result ≡ all? (has hex_digits) s.now }
 {
     let mut good = true;
     let mut i = 0;
@@ -34,7 +34,7 @@ fn all_hex(s: &[u8]) -> bool
 
 // Whether the bytes are pairs of hex digits, or `-`.
 pub fn is_hex_pairs(s: &[u8]) -> bool
-    ensures { result ≡ isHex s.now }
+    ensures { result ≡ is_hex s.now }
 {
     if is_word(s, b"-") {
         return true;
@@ -59,8 +59,8 @@ fn two_at(s: &[u8], i: usize) -> u16
 
 // The byte that two hex digits write: a digit is the last four bits, and nine more for a letter, in both halves of the number at once.
 fn pair_byte(two: u16) -> u8
-    requires { (has hexDigits (two % 256) ≡ true) × (has hexDigits (two / 256) ≡ true) }
-    ensures { result ≡ digitValue (two % 256) * 16 + digitValue (two / 256) }
+    requires { (has hex_digits (two % 256) ≡ true) × (has hex_digits (two / 256) ≡ true) }
+    ensures { result ≡ digit_value (two % 256) * 16 + digit_value (two / 256) }
 {
     let last = two % 16 + two / 256 % 16 * 256;
     let letters = two / 64 % 4 + two / 16384 * 256;
@@ -70,8 +70,8 @@ fn pair_byte(two: u16) -> u8
 
 // Pairs that have room: no place is looked at before it is written.
 fn put_whole(out: &mut [u8], at: usize, s: &[u8]) -> usize
-    requires s_value { isHex s.now ≡ true }
-    requires s_in_bounds { (at + length s.now / 2 ≤ length out.old) × (at + length s.now / 2 ≤ maxCounted) }
+    requires s_value { is_hex s.now ≡ true }
+    requires s_in_bounds { (at + length s.now / 2 ≤ length out.old) × (at + length s.now / 2 ≤ max_counted) }
     ensures { Puts out.old at (pairs s.now) out.new result }
 {
     let n = s.len() / 2;
@@ -85,7 +85,7 @@ fn put_whole(out: &mut [u8], at: usize, s: &[u8]) -> usize
 
 // Pairs, byte by byte.
 fn put_each(out: &mut [u8], at: usize, s: &[u8]) -> usize
-    requires { isHex s.now ≡ true }
+    requires { is_hex s.now ≡ true }
     ensures { Puts out.old at (pairs s.now) out.new result }
 {
     let mut next = at;
@@ -100,7 +100,7 @@ fn put_each(out: &mut [u8], at: usize, s: &[u8]) -> usize
 
 // Puts the bytes that the pairs write. Nearly always they have room.
 pub fn put_pairs(out: &mut [u8], at: usize, s: &[u8]) -> usize
-    requires { isHex s.now ≡ true }
+    requires { is_hex s.now ≡ true }
     ensures { Puts out.old at (pairs s.now) out.new result }
 {
     let n = s.len() / 2;

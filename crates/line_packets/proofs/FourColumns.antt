@@ -6,35 +6,35 @@ use Prim.Native.Nat.{ℕ}
 use Rattle.forms.proofs.Bools.{both_left, both_right}
 use Rattle.definitions.specs.declared.packets.Direction.{Direction}
 use Rattle.definitions.specs.declared.packets.FieldMap.{FieldMap}
-use Rattle.line_parts.proofs.Results.{failed-test, parsed-test, parsed-value}
-use Rattle.line_numbers.specs.HexPairs.{isHex}
+use Rattle.line_parts.proofs.Results.{failed_test, parsed_test, parsed_value}
+use Rattle.line_numbers.specs.HexPairs.{is_hex}
 use Rattle.line_packets.specs.declared.directions.DirectionResult.TheVariants as direction
 use Rattle.line_fields.specs.declared.field_maps.MapResult.TheVariants as map
 use Rattle.line_packets.specs.declared.packets.PacketColumns.{PacketColumns}
 use Rattle.line_packets.specs.declared.packets.PacketResult.TheVariants.{Parsed, Failed}
-use Rattle.line_packets.specs.Directions.{isDirection, directionOf, parsedDirection}
-use Rattle.line_fields.specs.FieldMaps.{isMap, mapOf, parsedMap}
-use Rattle.line_packets.specs.Packets.{isPacket, packetOf, parsedPacket}
+use Rattle.line_packets.specs.Directions.{is_direction, direction_of, parsed_direction}
+use Rattle.line_fields.specs.FieldMaps.{is_map, map_of, parsed_map}
+use Rattle.line_packets.specs.Packets.{is_packet, packet_of, parsed_packet}
 
 -- ---- what the answers for the direction and for the map tell
 
-direction-apart : (v : Direction) → direction.Parsed v ≡ direction.Failed → ⊥
-direction-apart v e = false≢true cc
+direction_apart : (v : Direction) → direction.Parsed v ≡ direction.Failed → ⊥
+direction_apart v e = false≢true cc
 
-direction-same : (v w : Direction) → direction.Parsed v ≡ direction.Parsed w → v ≡ w
-direction-same v w e = cc
+direction_same : (v w : Direction) → direction.Parsed v ≡ direction.Parsed w → v ≡ w
+direction_same v w e = cc
 
-map-apart : (v : FieldMap) → map.Parsed v ≡ map.Failed → ⊥
-map-apart v e = false≢true cc
+map_apart : (v : FieldMap) → map.Parsed v ≡ map.Failed → ⊥
+map_apart v e = false≢true cc
 
 map_same : (v w : FieldMap) → map.Parsed v ≡ map.Parsed w → v ≡ w
 map_same v w e = cc
 
-packet-apart : (v : PacketColumns) → Parsed v ≡ Failed → ⊥
-packet-apart v e = false≢true cc
+packet_apart : (v : PacketColumns) → Parsed v ≡ Failed → ⊥
+packet_apart v e = false≢true cc
 
-packet-same : (v w : PacketColumns) → Parsed v ≡ Parsed w → v ≡ w
-packet-same v w e = cc
+packet_same : (v w : PacketColumns) → Parsed v ≡ Parsed w → v ≡ w
+packet_same v w e = cc
 
 -- ---- with a column more, which is of its form or not
 
@@ -44,72 +44,72 @@ and_last true true false e h = refl
 and_last true false c e h = refl
 and_last false b c e h = refl
 
-pub packet-and : (o p f d : List ℕ) (h : Bool) → (isDirection o && (isHex p && (isMap f && (isHex d && h)))) ≡ (isPacket o p f d && h)
-unfolding isPacket
-packet-and o p f d h = and_last (isDirection o) (isHex p) (isMap f) (isHex d) h
+pub packet_and : (o p f d : List ℕ) (h : Bool) → (is_direction o && (is_hex p && (is_map f && (is_hex d && h)))) ≡ (is_packet o p f d && h)
+unfolding is_packet
+packet_and o p f d h = and_last (is_direction o) (is_hex p) (is_map f) (is_hex d) h
 
 -- ---- column by column
 
 module _ (o p f d : List ℕ) where
-  not-packet : isPacket o p f d ≡ false → Failed ≡ parsedPacket o p f d
-  unfolding parsedPacket
-  not-packet e = rw e
+  not_packet : is_packet o p f d ≡ false → Failed ≡ parsed_packet o p f d
+  unfolding parsed_packet
+  not_packet e = rw e
 
-  pub no-direction : parsedDirection o ≡ direction.Failed → Failed ≡ parsedPacket o p f d
-  unfolding parsedDirection isPacket
-  no-direction e = not-packet (rw (failed-test direction.Parsed direction.Failed direction-apart (isDirection o) (directionOf o) e))
+  pub no_direction : parsed_direction o ≡ direction.Failed → Failed ≡ parsed_packet o p f d
+  unfolding parsed_direction is_packet
+  no_direction e = not_packet (rw (failed_test direction.Parsed direction.Failed direction_apart (is_direction o) (direction_of o) e))
 
-  module _ (v : Direction) (e : parsedDirection o ≡ direction.Parsed v) where
-    first : isDirection o ≡ true
-    unfolding parsedDirection
-    first = parsed-test direction.Parsed direction.Failed direction-apart (isDirection o) (directionOf o) v e
+  module _ (v : Direction) (e : parsed_direction o ≡ direction.Parsed v) where
+    first : is_direction o ≡ true
+    unfolding parsed_direction
+    first = parsed_test direction.Parsed direction.Failed direction_apart (is_direction o) (direction_of o) v e
 
-    pub no_bytes : isHex p ≡ false → Failed ≡ parsedPacket o p f d
-    unfolding isPacket
-    no_bytes n = not-packet (rw (first, n))
+    pub no_bytes : is_hex p ≡ false → Failed ≡ parsed_packet o p f d
+    unfolding is_packet
+    no_bytes n = not_packet (rw (first, n))
 
-    module _ (hex : isHex p ≡ true) where
-      pub no-fields-there : parsedMap f ≡ map.Failed → Failed ≡ parsedPacket o p f d
-      unfolding parsedMap isPacket
-      no-fields-there n = not-packet (rw (first, hex, failed-test map.Parsed map.Failed map-apart (isMap f) (mapOf f) n))
+    module _ (hex : is_hex p ≡ true) where
+      pub no-fields-there : parsed_map f ≡ map.Failed → Failed ≡ parsed_packet o p f d
+      unfolding parsed_map is_packet
+      no-fields-there n = not_packet (rw (first, hex, failed_test map.Parsed map.Failed map_apart (is_map f) (map_of f) n))
 
-      module _ (m : FieldMap) (u : parsedMap f ≡ map.Parsed m) where
-        third : isMap f ≡ true
-        unfolding parsedMap
-        third = parsed-test map.Parsed map.Failed map-apart (isMap f) (mapOf f) m u
+      module _ (m : FieldMap) (u : parsed_map f ≡ map.Parsed m) where
+        third : is_map f ≡ true
+        unfolding parsed_map
+        third = parsed_test map.Parsed map.Failed map_apart (is_map f) (map_of f) m u
 
-        pub no_buffer : isHex d ≡ false → Failed ≡ parsedPacket o p f d
-        unfolding isPacket
-        no_buffer n = not-packet (rw (first, hex, third, n))
+        pub no_buffer : is_hex d ≡ false → Failed ≡ parsed_packet o p f d
+        unfolding is_packet
+        no_buffer n = not_packet (rw (first, hex, third, n))
 
-        pub one-packet : isHex d ≡ true → Parsed (record { direction = v; fields = m }) ≡ parsedPacket o p f d
-        unfolding parsedDirection parsedMap parsedPacket isPacket
+        pub one-packet : is_hex d ≡ true → Parsed (record { direction = v; fields = m }) ≡ parsed_packet o p f d
+        unfolding parsed_direction parsed_map parsed_packet is_packet
         one-packet t =
-            let from : directionOf o ≡ v = parsed-value direction.Parsed direction.Failed direction-apart direction-same (isDirection o) (directionOf o) v e in
-            let fields : mapOf f ≡ m = parsed-value map.Parsed map.Failed map-apart map_same (isMap f) (mapOf f) m u in
+            let from : direction_of o ≡ v = parsed_value direction.Parsed direction.Failed direction_apart direction_same (is_direction o) (direction_of o) v e in
+            let fields : map_of f ≡ m = parsed_value map.Parsed map.Failed map_apart map_same (is_map f) (map_of f) m u in
             rw (first, hex, third, t, from, fields)
 
   -- ---- what the answer tells
 
-  pub failed-packet : parsedPacket o p f d ≡ Failed → isPacket o p f d ≡ false
-  unfolding parsedPacket
-  failed-packet e = failed-test Parsed Failed packet-apart (isPacket o p f d) (packetOf o p f d) e
+  pub failed_packet : parsed_packet o p f d ≡ Failed → is_packet o p f d ≡ false
+  unfolding parsed_packet
+  failed_packet e = failed_test Parsed Failed packet_apart (is_packet o p f d) (packet_of o p f d) e
 
-  module _ (v : PacketColumns) (e : parsedPacket o p f d ≡ Parsed v) where
-    pub parsed-packet : isPacket o p f d ≡ true
-    unfolding parsedPacket
-    parsed-packet = parsed-test Parsed Failed packet-apart (isPacket o p f d) (packetOf o p f d) v e
+  module _ (v : PacketColumns) (e : parsed_packet o p f d ≡ Parsed v) where
+    pub parsed_packet_lem : is_packet o p f d ≡ true
+    unfolding parsed_packet
+    parsed_packet_lem = parsed_test Parsed Failed packet_apart (is_packet o p f d) (packet_of o p f d) v e
 
-    pub packet-value : v ≡ packetOf o p f d
-    unfolding parsedPacket
-    packet-value = sym (parsed-value Parsed Failed packet-apart packet-same (isPacket o p f d) (packetOf o p f d) v e)
+    pub packet_value : v ≡ packet_of o p f d
+    unfolding parsed_packet
+    packet_value = sym (parsed_value Parsed Failed packet_apart packet_same (is_packet o p f d) (packet_of o p f d) v e)
 
-    after-direction : (isHex p && (isMap f && isHex d)) ≡ true
-    unfolding isPacket
-    after-direction = both_right (isDirection o) (isHex p && (isMap f && isHex d)) parsed-packet
+    after_direction : (is_hex p && (is_map f && is_hex d)) ≡ true
+    unfolding is_packet
+    after_direction = both_right (is_direction o) (is_hex p && (is_map f && is_hex d)) parsed_packet_lem
 
-    pub hex-packet : isHex p ≡ true
-    hex-packet = both_left (isHex p) (isMap f && isHex d) after-direction
+    pub hex_packet : is_hex p ≡ true
+    hex_packet = both_left (is_hex p) (is_map f && is_hex d) after_direction
 
-    pub hex-decoded : isHex d ≡ true
-    hex-decoded = both_right (isMap f) (isHex d) (both_right (isHex p) (isMap f && isHex d) after-direction)
+    pub hex_decoded : is_hex d ≡ true
+    hex_decoded = both_right (is_map f) (is_hex d) (both_right (is_hex p) (is_map f && is_hex d) after_direction)

@@ -1,21 +1,21 @@
 -- THE FOUR COLUMNS OF A PACKET: where it comes from, its bytes, the map of its fields, the bytes of its decoded buffer.
 use Rattle.std.specs.Prelude.{ℕ, Bool, ◌&&◌, List}
 use Rattle.forms.specs.Bytes.{if◌then◌else◌}
-use Rattle.line_numbers.specs.HexPairs.{isHex}
+use Rattle.line_numbers.specs.HexPairs.{is_hex}
 use Rattle.line_packets.specs.declared.packets.PacketColumns.{PacketColumns}
 use Rattle.line_packets.specs.declared.packets.PacketResult.{PacketResult}
 use Rattle.line_packets.specs.declared.packets.PacketResult.TheVariants.{Parsed, Failed}
-use Rattle.line_packets.specs.Directions.{isDirection, directionOf}
-use Rattle.line_fields.specs.FieldMaps.{isMap, mapOf}
+use Rattle.line_packets.specs.Directions.{is_direction, direction_of}
+use Rattle.line_fields.specs.FieldMaps.{is_map, map_of}
 
 module _ (origin packet fields decoded : List ℕ) where
-  unfoldable pub isPacket : Bool
-  isPacket = isDirection origin && (isHex packet && (isMap fields && isHex decoded))
+  unfoldable pub is_packet : Bool
+  is_packet = is_direction origin && (is_hex packet && (is_map fields && is_hex decoded))
 
   -- what is said beside the bytes
-  abbrev pub packetOf : PacketColumns
-  packetOf = record { direction = directionOf origin; fields = mapOf fields }
+  abbrev pub packet_of : PacketColumns
+  packet_of = record { direction = direction_of origin; fields = map_of fields }
 
   -- the code's answer
-  unfoldable pub parsedPacket : PacketResult
-  parsedPacket = if isPacket then Parsed packetOf else Failed
+  unfoldable pub parsed_packet : PacketResult
+  parsed_packet = if is_packet then Parsed packet_of else Failed

@@ -1,6 +1,6 @@
 // Where a packet comes from: `client` or `server`.
 ghost use Rattle.std.specs.Prelude.{◌≡◌};
-ghost use Rattle.line_packets.specs.Directions.{parsedDirection};
+ghost use Rattle.line_packets.specs.Directions.{parsed_direction};
 
 use definitions::packets::Direction;
 use line_parts::is_word;
@@ -14,7 +14,7 @@ pub enum DirectionResult {
 
 // The direction of its word.
 pub fn parse_direction(s: &[u8]) -> DirectionResult
-    ensures { result ≡ parsedDirection s.now }
+    ensures { result ≡ parsed_direction s.now }
 {
     if is_word(s, b"client") {
         return DirectionResult::Parsed(Direction::Client);

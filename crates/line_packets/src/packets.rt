@@ -1,6 +1,6 @@
 // The four columns of a packet: where it comes from, its bytes, the map of its fields, the bytes of its decoded buffer.
 ghost use Rattle.std.specs.Prelude.{◌≡◌};
-ghost use Rattle.line_packets.specs.Packets.{parsedPacket};
+ghost use Rattle.line_packets.specs.Packets.{parsed_packet};
 
 use crate::directions::{DirectionResult, parse_direction};
 use definitions::packets::{Direction, FieldMap};
@@ -23,7 +23,7 @@ pub enum PacketResult {
 
 // What the four columns say, if each is of its form.
 pub fn parse_packet(origin: &[u8], packet: &[u8], fields: &[u8], decoded: &[u8]) -> PacketResult
-    ensures { result ≡ parsedPacket origin.now packet.now fields.now decoded.now }
+    ensures { result ≡ parsed_packet origin.now packet.now fields.now decoded.now }
 {
     let DirectionResult::Parsed(direction) = parse_direction(origin) else {
         return PacketResult::Failed;

@@ -5,14 +5,14 @@ use Rattle.forms.specs.Bytes.{if◌then◌else◌}
 
 -- an enum of two cases, which are apart
 module _ {A R : Type 0} (parsed : A → R) (failed : R) (apart : (x : A) → parsed x ≡ failed → ⊥) where
-  pub failed-test : (t : Bool) (x : A) → (if t then parsed x else failed) ≡ failed → t ≡ false
-  failed-test true x e = absurd (apart x e)
-  failed-test false x e = refl
+  pub failed_test : (t : Bool) (x : A) → (if t then parsed x else failed) ≡ failed → t ≡ false
+  failed_test true x e = absurd (apart x e)
+  failed_test false x e = refl
 
-  pub parsed-test : (t : Bool) (x v : A) → (if t then parsed x else failed) ≡ parsed v → t ≡ true
-  parsed-test true x v e = refl
-  parsed-test false x v e = absurd (apart v (sym e))
+  pub parsed_test : (t : Bool) (x v : A) → (if t then parsed x else failed) ≡ parsed v → t ≡ true
+  parsed_test true x v e = refl
+  parsed_test false x v e = absurd (apart v (sym e))
 
-  pub parsed-value : ((x y : A) → parsed x ≡ parsed y → x ≡ y) → (t : Bool) (x v : A) → (if t then parsed x else failed) ≡ parsed v → x ≡ v
-  parsed-value same true x v e = same x v e
-  parsed-value same false x v e = absurd (apart v (sym e))
+  pub parsed_value : ((x y : A) → parsed x ≡ parsed y → x ≡ y) → (t : Bool) (x v : A) → (if t then parsed x else failed) ≡ parsed v → x ≡ v
+  parsed_value same true x v e = same x v e
+  parsed_value same false x v e = absurd (apart v (sym e))

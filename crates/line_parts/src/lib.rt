@@ -1,6 +1,6 @@
 // The parts of a line between delimiters, and whole words.
 ghost use Rattle.std.specs.Prelude.{◌≡◌};
-ghost use Rattle.definitions.specs.Lists.{sameBytes};
+ghost use Rattle.definitions.specs.Lists.{same_bytes};
 ghost use Rattle.definitions.specs.Parts as parts;
 
 use scan_find::find_from;
@@ -22,7 +22,7 @@ pub fn contains(s: &[u8], d: u8) -> bool
 
 // The bytes before the first delimiter, or all.
 pub fn part_before<'a>(s: &'a [u8], d: u8) -> &'a [u8]
-    ensures { result.now ≡ parts.partBefore d s.now }
+    ensures { result.now ≡ parts.part_before d s.now }
 {
     let end = find(s, d);
     &s[0..end]
@@ -30,7 +30,7 @@ pub fn part_before<'a>(s: &'a [u8], d: u8) -> &'a [u8]
 
 // The bytes after the first delimiter, or none.
 pub fn part_after<'a>(s: &'a [u8], d: u8) -> &'a [u8]
-    ensures { result.now ≡ parts.partAfter d s.now }
+    ensures { result.now ≡ parts.part_after d s.now }
 {
     let end = find(s, d);
     if end < s.len() {
@@ -41,7 +41,7 @@ pub fn part_after<'a>(s: &'a [u8], d: u8) -> &'a [u8]
 
 // Whether the bytes are the word.
 pub fn is_word(s: &[u8], w: &[u8]) -> bool
-    ensures { result ≡ sameBytes s.now w.now }
+    ensures { result ≡ same_bytes s.now w.now }
 {
     same_bytes(s, w)
 }

@@ -7,8 +7,8 @@ use Rattle.definitions.specs.declared.answers.Refusal.{Refusal}
 use Rattle.definitions.specs.declared.answers.Refusal.TheVariants as refusal
 use Rattle.definitions.specs.Refusals.{number_of}
 use Rattle.definitions.specs.Canonical.{decimal}
-use Rattle.definitions.specs.Lines.{refusedLine}
-use Rattle.laws.proofs.Digits.{decimal-most}
+use Rattle.definitions.specs.Lines.{refused_line}
+use Rattle.laws.proofs.Digits.{decimal_most}
 
 number_small : (r : Refusal) → number_of r ≤ 53
 number_small refusal.TextLength = omega arith
@@ -38,7 +38,7 @@ number_small refusal.RuleForm = omega arith
 number_small refusal.RuleOrder = omega arith
 number_small refusal.RuleCount = omega arith
 
-pub refused-most : (r : Refusal) (p : ℕ) → p < 2 ^ 64 → length (refusedLine r p) ≤ 41
-refused-most r p h =
+pub refused_most : (r : Refusal) (p : ℕ) → p < 2 ^ 64 → length (refused_line r p) ≤ 41
+refused_most r p h =
     omega
-    (arith, length-append (decimal (number_of r)) (9 ∷ decimal p), decimal-most (number_of r) (omega (arith, number_small r)), decimal-most p h)
+    (arith, length-append (decimal (number_of r)) (9 ∷ decimal p), decimal_most (number_of r) (omega (arith, number_small r)), decimal_most p h)

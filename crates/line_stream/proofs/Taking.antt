@@ -12,14 +12,14 @@ use Rattle.forms.specs.Bytes.{text}
 use Rattle.definitions.specs.Canonical.{decimal}
 use Rattle.write_bytes.specs.Puts.{Puts}
 use Rattle.write_bytes.specs.Clipped.{at_most}
-use Rattle.write_bytes.proofs.Putting.{none-put}
-use Rattle.write_bytes.proofs.Clipping.{at-most-le, taken-most}
+use Rattle.write_bytes.proofs.Putting.{none_put}
+use Rattle.write_bytes.proofs.Clipping.{at_most_le, taken_most}
 use Rattle.line_stream.specs.declared.Begun.{Begun}
 use Rattle.line_stream.specs.declared.Fed.{Fed}
 use Rattle.line_stream.specs.declared.Feeding.{Feeding}
-use Rattle.line_stream.specs.Stream.{nextNumber, hasRoom}
-use Rattle.line_stream.specs.Steps.{lfFrom, Keeps, lineOpening, Takes, Nexts, Lasts}
-use Rattle.line_stream.proofs.Parts.{line-slice}
+use Rattle.line_stream.specs.Stream.{next_number, has_room}
+use Rattle.line_stream.specs.Steps.{lf_from, Keeps, line_opening, Takes, Nexts, Lasts}
+use Rattle.line_stream.proofs.Parts.{line_slice}
 
 -- ---- a line is taken
 
@@ -27,30 +27,30 @@ module _ (input : List ℕ) (i place : ℕ) (b : Begun) where
   abbrev taken : ℕ → ℕ → ℕ → Bool → Feeding
   taken e len at w = record { fed = record { taken = e; put = place; begun = record { number = b.number; len = len } }; at = at; waits = w }
 
-  takes-if : (e : ℕ) {line line' out out' : List ℕ} {len at : ℕ} (w : Bool) → e ≡ lfFrom input i → Keeps line line' b.len (take (e - i) (drop i input)) len
-      → w ≡ ltb e (length input) → Puts out place (lineOpening w b.number) out' at → Takes input i line line' out out' place b (taken e len at w)
-  takes-if e {line = line} {line' = line'} {len = len} {at = at} w is k t p = record {
+  takes_if : (e : ℕ) {line line' out out' : List ℕ} {len at : ℕ} (w : Bool) → e ≡ lf_from input i → Keeps line line' b.len (take (e - i) (drop i input)) len
+      → w ≡ ltb e (length input) → Puts out place (line_opening w b.number) out' at → Takes input i line line' out out' place b (taken e len at w)
+  takes_if e {line = line} {line' = line'} {len = len} {at = at} w is k t p = record {
     len = len;
     next = at;
-    keeps = subst (λ (l : List ℕ). Keeps line line' b.len l len) (line-slice input i is) k;
+    keeps = subst (λ (l : List ℕ). Keeps line line' b.len l len) (line_slice input i is) k;
     opened = rw (sym is, sym t) p;
     is = rw (sym is, sym t);
   }
 
-  pub takes-line : {e : ℕ} {line line' out out' : List ℕ} {len at : ℕ} → e ≡ lfFrom input i → Keeps line line' b.len (take (e - i) (drop i input)) len
+  pub takes_line : {e : ℕ} {line line' out out' : List ℕ} {len at : ℕ} → e ≡ lf_from input i → Keeps line line' b.len (take (e - i) (drop i input)) len
       → e < length input → Puts out place (decimal b.number ++ text "\t") out' at → Takes input i line line' out out' place b (taken e len at true)
-  takes-line {e = e} is k h p = takes-if e true is k (sym (lt-ltb e (length input) h)) p
+  takes_line {e = e} is k h p = takes_if e true is k (sym (lt-ltb e (length input) h)) p
 
-  pub takes-end : {e : ℕ} {line line' out : List ℕ} {len : ℕ} → e ≡ lfFrom input i → Keeps line line' b.len (take (e - i) (drop i input)) len
+  pub takes_end : {e : ℕ} {line line' out : List ℕ} {len : ℕ} → e ≡ lf_from input i → Keeps line line' b.len (take (e - i) (drop i input)) len
       → length input ≤ e → Takes input i line line' out out place b (taken e len place false)
-  takes-end {e = e} is k h = takes-if e false is k (sym (le-ltb e (length input) h)) none-put
+  takes_end {e = e} is k h = takes_if e false is k (sym (le-ltb e (length input) h)) none_put
 
 -- ---- the next line
 
-module _ {out ended : List ℕ} {at place : ℕ} {fits : Bool} (p : Puts out at (text "\n") ended place) (h : fits ≡ hasRoom place (length ended)) where
-  pub nexts-room : {input line line' out' : List ℕ} {f : Fed} {r : Feeding} {n : ℕ} → fits ≡ true → n ≡ nextNumber f.begun.number
+module _ {out ended : List ℕ} {at place : ℕ} {fits : Bool} (p : Puts out at (text "\n") ended place) (h : fits ≡ has_room place (length ended)) where
+  pub nexts_room : {input line line' out' : List ℕ} {f : Fed} {r : Feeding} {n : ℕ} → fits ≡ true → n ≡ next_number f.begun.number
       → Takes input (f.taken + 1) line line' ended out' place (record { number = n; len = 0 }) r → Nexts input line line' out out' f at r
-  nexts-room t e k = record {
+  nexts_room t e k = record {
     ended = ended;
     place = place;
     puts = p;
@@ -58,8 +58,8 @@ module _ {out ended : List ℕ} {at place : ℕ} {fits : Bool} (p : Puts out at 
     full = λ z. absurd (true≢false (sym t ∙ h ∙ z));
   }
 
-  pub nexts-full : {input line : List ℕ} {f : Fed} → fits ≡ false → Nexts input line line out ended f at (record { fed = f; at = f.put; waits = false })
-  nexts-full z = record {
+  pub nexts_full : {input line : List ℕ} {f : Fed} → fits ≡ false → Nexts input line line out ended f at (record { fed = f; at = f.put; waits = false })
+  nexts_full z = record {
     ended = ended;
     place = place;
     puts = p;
@@ -73,16 +73,16 @@ module _ (line : List ℕ) (b : Begun) where
   abbrev last : ℕ → Bool → Feeding
   last at w = record { fed = record { taken = 0; put = 0; begun = b }; at = at; waits = w }
 
-  lasts-if : {out out' : List ℕ} {len at : ℕ} (w : Bool) → len ≡ at_most b.len (length line) → w ≡ ltb 0 len → Puts out 0 (lineOpening w b.number) out' at
+  lasts_if : {out out' : List ℕ} {len at : ℕ} (w : Bool) → len ≡ at_most b.len (length line) → w ≡ ltb 0 len → Puts out 0 (line_opening w b.number) out' at
       → Lasts line out out' b (last at w)
-  lasts-if {len = len} {at = at} w e t p =
-      let few : len ≤ length line = omega (arith, e, at-most-le b.len (length line)) in
-      let long : length (take b.len line) ≡ len = ap length (taken-most b.len line refl e) ∙ length-take-le len line few in
+  lasts_if {len = len} {at = at} w e t p =
+      let few : len ≤ length line = omega (arith, e, at_most_le b.len (length line)) in
+      let long : length (take b.len line) ≡ len = ap length (taken_most b.len line refl e) ∙ length-take-le len line few in
       record { next = at; opened = rw (long, sym t) p; is = rw (long, sym t) }
 
-  pub lasts-none : {out : List ℕ} {len : ℕ} → len ≡ at_most b.len (length line) → len ≡ 0 → Lasts line out out b (last 0 false)
-  lasts-none {len = len} e z = lasts-if false e (sym (le-ltb 0 len (omega (arith, z)))) none-put
+  pub lasts_none : {out : List ℕ} {len : ℕ} → len ≡ at_most b.len (length line) → len ≡ 0 → Lasts line out out b (last 0 false)
+  lasts_none {len = len} e z = lasts_if false e (sym (le-ltb 0 len (omega (arith, z)))) none_put
 
-  pub lasts-line : {out out' : List ℕ} {len at : ℕ} → len ≡ at_most b.len (length line) → (len ≡ 0 → ⊥)
+  pub lasts_line : {out out' : List ℕ} {len at : ℕ} → len ≡ at_most b.len (length line) → (len ≡ 0 → ⊥)
       → Puts out 0 (decimal b.number ++ text "\t") out' at → Lasts line out out' b (last at true)
-  lasts-line {len = len} e z p = lasts-if true e (sym (lt-ltb 0 len (omega (arith, z)))) p
+  lasts_line {len = len} e z p = lasts_if true e (sym (lt-ltb 0 len (omega (arith, z)))) p

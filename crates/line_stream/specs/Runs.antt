@@ -3,13 +3,13 @@ use Rattle.std.specs.Prelude.{◌≡◌, true, ℕ, List, [], ◌++◌, length, 
 use Rattle.write_bytes.specs.Puts.{Puts}
 use Rattle.line_stream.specs.declared.Begun.{Begun}
 use Rattle.line_stream.specs.declared.Fed.{Fed}
-use Rattle.line_stream.specs.Stream.{lastLine, hasRoom, Feeds}
+use Rattle.line_stream.specs.Stream.{last_line, has_room, Feeds}
 
 -- what is written for the input still to come, from a line buffer and a line begun on; each turn may lend another output buffer
 pub data Runs (answer : List ℕ → List ℕ) : List ℕ → List ℕ → Begun → List ℕ → Type 0 where
   -- after the last byte
   last : {line out out' : List ℕ} {b : Begun} {n : ℕ}
-      → Puts out 0 (lastLine answer b.number (take b.len line)) out' n → hasRoom n (length out') ≡ true
+      → Puts out 0 (last_line answer b.number (take b.len line)) out' n → has_room n (length out') ≡ true
       → Runs answer [] line b (take n out')
   -- some of the input is fed: what was not taken of it comes again, before the rest
   part : (block rest : List ℕ) {line out line' out' w : List ℕ} {b : Begun} {r : Fed}

@@ -3,8 +3,8 @@
 ghost use Rattle.std.specs.Prelude.{◌≡◌, ◌++◌, ◌≤◌, ◌<◌, length, take};
 ghost use Rattle.forms.specs.Bytes.{text};
 ghost use Rattle.definitions.specs.Canonical.{decimal};
-ghost use Rattle.line_stream.specs.Stream.{hasRoom, nextNumber};
-ghost use Rattle.line_stream.specs.Steps.{Keeps, Takes, Nexts, Lasts, lfFrom};
+ghost use Rattle.line_stream.specs.Stream.{has_room, next_number};
+ghost use Rattle.line_stream.specs.Steps.{Keeps, Takes, Nexts, Lasts, lf_from};
 ghost use Rattle.write_bytes.specs.Puts.{Puts};
 
 use scan_find::find_from;
@@ -54,21 +54,21 @@ pub fn end_line(out: &mut [u8], at: usize) -> usize
 
 // Whether all up to the place was counted and kept.
 fn has_room(place: usize, len: usize) -> bool
-    ensures { result ≡ hasRoom place len }
+    ensures { result ≡ has_room place len }
 {
     if place < COUNTED { place <= len } else { false }
 }
 
 // The number of the next line; the largest stays.
 pub fn next_number(n: u64) -> u64
-    ensures { result ≡ nextNumber n }
+    ensures { result ≡ next_number n }
 {
     if n < MAX_NUMBER { n + 1 } else { n }
 }
 
 // The place of the first LF from a place on, or the end.
 pub fn lf_from(input: &[u8], from: usize) -> usize
-    ensures { result ≡ lfFrom input.now from }
+    ensures { result ≡ lf_from input.now from }
 {
     find_from(input, from, b'\n')
 }

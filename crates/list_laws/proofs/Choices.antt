@@ -4,10 +4,10 @@ use mathlib.Core.Bool.{Bool, true, false, false≢true, true≢false}
 use Rattle.forms.specs.Bytes.{if◌then◌else◌}
 
 module _ {A : Type 0} (a b : A) where
-  pub if-true : (t : Bool) → t ≡ true → (if t then a else b) ≡ a
-  if-true true e = refl
-  if-true false e = absurd (false≢true e)
+  pub if_true : (t : Bool) → t ≡ true → (if t then a else b) ≡ a
+  if_true true e = refl
+  if_true false e = absurd (false≢true e)
 
-  pub if-false : (t : Bool) → t ≡ false → (if t then a else b) ≡ b
-  if-false true e = absurd (true≢false e)
-  if-false false e = refl
+  pub if_false : (t : Bool) → t ≡ false → (if t then a else b) ≡ b
+  if_false true e = absurd (true≢false e)
+  if_false false e = refl

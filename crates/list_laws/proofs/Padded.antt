@@ -10,54 +10,54 @@ use lib.Seq.{sets, append_snoc, set-append_seam, set-append_left, take-suc, leng
 use Rattle.definitions.specs.Lists.{padded}
 
 module _ {A : Type 0} (n : ℕ) (x : A) where
-  pub padded-one : (l : List A) (y : A) → length l < n → padded n x (l ++ (y ∷ [])) ≡ set (padded n x l) (length l) y
-  padded-one l y h =
+  pub padded_one : (l : List A) (y : A) → length l < n → padded n x (l ++ (y ∷ [])) ≡ set (padded n x l) (length l) y
+  padded_one l y h =
       let k : ℕ = n - suc (length l) in
       let e : n - length l ≡ suc k = omega arith in
       let f : n - length (l ++ (y ∷ [])) ≡ k = omega (arith, length-append l (y ∷ [])) in
       rw (f, e) (append_snoc l y (replicate k x) ∙ sym (set-append_seam l x (replicate k x) y))
 
-  pub padded-more : (b l : List A) → length l + length b ≤ n → padded n x (l ++ b) ≡ sets (padded n x l) (length l) b
-  padded-more [] l h = rw (append-nil l)
-  padded-more (y ∷ b) l h =
+  pub padded_more : (b l : List A) → length l + length b ≤ n → padded n x (l ++ b) ≡ sets (padded n x l) (length l) b
+  padded_more [] l h = rw (append-nil l)
+  padded_more (y ∷ b) l h =
       let e : length (l ++ (y ∷ [])) ≡ suc (length l) = omega (arith, length-append l (y ∷ [])) in
       ap (λ (m : List A). padded n x m) (sym (append_snoc l y b))
-      ∙ padded-more b (l ++ (y ∷ [])) (omega (arith, e, h))
-      ∙ rw (padded-one l y (omega (arith, h)), e)
+      ∙ padded_more b (l ++ (y ∷ [])) (omega (arith, e, h))
+      ∙ rw (padded_one l y (omega (arith, h)), e)
 
   -- another element in the place of one that is held
-  pub padded-set : (l : List A) (i : ℕ) (y : A) → i < length l → padded n x (set l i y) ≡ set (padded n x l) i y
-  padded-set l i y h = rw (length-set l i y) (sym (set-append_left l (replicate (n - length l) x) i y h))
+  pub padded_set : (l : List A) (i : ℕ) (y : A) → i < length l → padded n x (set l i y) ≡ set (padded n x l) i y
+  padded_set l i y h = rw (length-set l i y) (sym (set-append_left l (replicate (n - length l) x) i y h))
 
-  pub padded-at : (l : List A) (i : ℕ) (d : A) → i < length l → get_or (padded n x l) i d ≡ get_or l i d
-  padded-at l i d h = get_or-append l (replicate (n - length l) x) d i h
+  pub padded_at : (l : List A) (i : ℕ) (d : A) → i < length l → get_or (padded n x l) i d ≡ get_or l i d
+  padded_at l i d h = get_or-append l (replicate (n - length l) x) d i h
 
   -- more room after an array is more room after what it holds
-  pub padded-again : (k : ℕ) (l : List A) → k ≤ n → padded n x (padded k x l) ≡ padded n x l
-  padded-again k l h =
+  pub padded_again : (k : ℕ) (l : List A) → k ≤ n → padded n x (padded k x l) ≡ padded n x l
+  padded_again k l h =
       let m : ℕ = k - length l in
       let r : ℕ = n - length (padded k x l) in
       let e : m + r ≡ n - length l = omega (arith, h, length-append l (replicate m x), length-replicate m x) in
       append_assoc l (replicate m x) (replicate r x) ∙ ap (λ (z : List A). l ++ z) (replicate-append-replicate m r x ∙ ap (λ (i : ℕ). replicate i x) e)
 
   -- a list that fits fills the array exactly, and one that does not makes it longer
-  padded-length : (l : List A) → length (padded n x l) ≡ length l + (n - length l)
-  padded-length l = length-append l (replicate (n - length l) x) ∙ ap (λ i. length l + i) (length-replicate (n - length l) x)
+  padded_length : (l : List A) → length (padded n x l) ≡ length l + (n - length l)
+  padded_length l = length-append l (replicate (n - length l) x) ∙ ap (λ i. length l + i) (length-replicate (n - length l) x)
 
-  pub padded-full : (l : List A) → length l ≤ n → length (padded n x l) ≡ n
-  padded-full l h = omega (arith, h, padded-length l)
+  pub padded_full : (l : List A) → length l ≤ n → length (padded n x l) ≡ n
+  padded_full l h = omega (arith, h, padded_length l)
 
-  pub padded-holds : (l : List A) → length (padded n x l) ≡ n → length l ≤ n
-  padded-holds l e = omega (arith, e, padded-length l)
+  pub padded_holds : (l : List A) → length (padded n x l) ≡ n → length l ≤ n
+  padded_holds l e = omega (arith, e, padded_length l)
 
 -- one byte more of a part of a list
-pub padded-part : (n : ℕ) (s : List ℕ) (from i : ℕ) → i < n → from + i < length s
+pub padded_part : (n : ℕ) (s : List ℕ) (from i : ℕ) → i < n → from + i < length s
     → set (padded n 0 (take i (drop from s))) i (get_or s (from + i) 0) ≡ padded n 0 (take (i + 1) (drop from s))
-padded-part n s from i h g =
+padded_part n s from i h g =
     let m : i < length (drop from s) = omega (arith, length-drop from s) in
     let e : length (take i (drop from s)) ≡ i = length-take-le i (drop from s) (omega arith) in
     let more : take (i + 1) (drop from s) ≡ take i (drop from s) ++ (get_or s (from + i) 0 ∷ []) =
     rw add-one (take-suc (drop from s) i 0 m ∙ rw (get_or-drop from s i 0)) in
     sym
     (ap (λ (l : List ℕ). padded n 0 l) more
-    ∙ padded-one n 0 (take i (drop from s)) (get_or s (from + i) 0) (omega (arith, e)) ∙ rw e)
+    ∙ padded_one n 0 (take i (drop from s)) (get_or s (from + i) 0) (omega (arith, e)) ∙ rw e)

@@ -16,9 +16,9 @@ module _ (p : ℕ → Bool) (s : List ℕ) (i : ℕ) where
   unfolding run
   run_step h t = simp (drop-cons s i 0 h, t)
 
-  run-stop : i < length s → p (get_or s i 0) ≡ false → run p (drop i s) ≡ 0
+  run_stop : i < length s → p (get_or s i 0) ≡ false → run p (drop i s) ≡ 0
   unfolding run
-  run-stop h t = simp (drop-cons s i 0 h, t)
+  run_stop h t = simp (drop-cons s i 0 h, t)
 
   run_end : length s ≤ i → run p (drop i s) ≡ 0
   unfolding run
@@ -32,22 +32,22 @@ module _ (p : ℕ → Bool) (s : List ℕ) (at i : ℕ) (e : Run p s at i) where
   pub run_on : i < length s → p (get_or s i 0) ≡ true → Run p s at (i + 1)
   run_on h t = rw add-one (omega (arith, e, run_step p s i h t))
 
-  pub run-halt : i < length s → p (get_or s i 0) ≡ false → i ≡ at + run p (drop at s)
-  run-halt h t = omega (arith, e, run-stop p s i h t)
+  pub run_halt : i < length s → p (get_or s i 0) ≡ false → i ≡ at + run p (drop at s)
+  run_halt h t = omega (arith, e, run_stop p s i h t)
 
   pub run_out : length s ≤ i → i ≡ at + run p (drop at s)
   run_out h = omega (arith, e, run_end p s i h)
 
-pub run-le : (p : ℕ → Bool) (l : List ℕ) → run p l ≤ length l
+pub run_le : (p : ℕ → Bool) (l : List ℕ) → run p l ≤ length l
 unfolding run
-run-le p [] = omega arith
-run-le p (b ∷ l) = by_cases (p b) (λ t. rw t (omega (arith, run-le p l))) (λ t. rw t (omega arith))
+run_le p [] = omega arith
+run_le p (b ∷ l) = by_cases (p b) (λ t. rw t (omega (arith, run_le p l))) (λ t. rw t (omega arith))
 
 -- two tests that agree give one run
-pub run-same : (p q : ℕ → Bool) → ((b : ℕ) → p b ≡ q b) → (l : List ℕ) → run p l ≡ run q l
+pub run_same : (p q : ℕ → Bool) → ((b : ℕ) → p b ≡ q b) → (l : List ℕ) → run p l ≡ run q l
 unfolding run
-run-same p q e [] = refl
-run-same p q e (b ∷ l) = rw (e b, run-same p q e l)
+run_same p q e [] = refl
+run_same p q e (b ∷ l) = rw (e b, run_same p q e l)
 
 pub run_in : (c : Class) (s : List ℕ) (at : ℕ) → at ≤ length s → at + run (has c) (drop at s) ≤ length s
-run_in c s at h = omega (arith, run-le (has c) (drop at s), length-drop at s, h)
+run_in c s at h = omega (arith, run_le (has c) (drop at s), length-drop at s, h)

@@ -1,14 +1,14 @@
 // Tests of addresses.
 ghost use Rattle.std.specs.Prelude.{◌≡◌, ◌-◌, eqb, take};
-ghost use Rattle.definitions.specs.Limits.{maxPrefix};
-ghost use Rattle.definitions.specs.Tests.{packetAddress, sameBits, inAddresses, addressHolds};
+ghost use Rattle.definitions.specs.Limits.{max_prefix};
+ghost use Rattle.definitions.specs.Tests.{packet_address, same_bits, in_addresses, address_holds};
 
 use definitions::limits::ADDRESSES;
 use definitions::packets::PacketHeader;
 use definitions::table::{Address, AddressTest, Side};
 
 fn packet_address(f: PacketHeader, side: Side) -> u32
-    ensures { result ≡ packetAddress f side }
+    ensures { result ≡ packet_address f side }
 {
     match side {
         Side::Source => f.source,
@@ -18,14 +18,14 @@ fn packet_address(f: PacketHeader, side: Side) -> u32
 
 // How many bits of an address stand after a prefix.
 fn bits_after(prefix: u8) -> u64
-    ensures { result ≡ maxPrefix - prefix }
+    ensures { result ≡ max_prefix - prefix }
 {
     if prefix < 32 { (32 - prefix) as u64 } else { 0 }
 }
 
 // Equal in the first bits, as many as the prefix says.
 fn same_bits(prefix: u8, a: u32, b: u32) -> bool
-    ensures { result ≡ sameBits prefix a b }
+    ensures { result ≡ same_bits prefix a b }
 {
     let k = bits_after(prefix);
     (a as u64) >> k == (b as u64) >> k
@@ -33,7 +33,7 @@ fn same_bits(prefix: u8, a: u32, b: u32) -> bool
 
 // Equal in its prefix to one of the first addresses.
 fn in_addresses(x: u32, addresses: [Address; ADDRESSES], count: usize) -> bool
-    ensures { result ≡ inAddresses x (take count addresses) }
+    ensures { result ≡ in_addresses x (take count addresses) }
 {
     let mut i = 0;
     while i < ADDRESSES {
@@ -51,7 +51,7 @@ fn in_addresses(x: u32, addresses: [Address; ADDRESSES], count: usize) -> bool
 
 // src_addr and dst_addr: `!` turns the whole answer.
 pub fn address_holds(f: PacketHeader, a: AddressTest, addresses: [Address; ADDRESSES]) -> bool
-    ensures { result ≡ addressHolds f a addresses }
+    ensures { result ≡ address_holds f a addresses }
 {
     let side = a.side;
     let x = packet_address(f, side);

@@ -4,7 +4,7 @@ use Rattle.definitions.specs.declared.answers.Found.TheVariants as found
 use Rattle.definitions.specs.declared.answers.Verdict.{Verdict}
 use Rattle.definitions.specs.declared.answers.Verdict.TheVariants as verdict
 
-abbrev pub verdictOf : Found → Verdict
-verdictOf found.Placed = verdict.Met
-verdictOf found.Nothing = verdict.NotMet
-verdictOf (found.Refused r) = verdict.Refused r
+abbrev pub verdict_of : Found → Verdict
+verdict_of found.Placed = verdict.Met
+verdict_of found.Nothing = verdict.NotMet
+verdict_of (found.Refused r) = verdict.Refused r

@@ -1,6 +1,6 @@
 // What the entries make of an outcome or a refusal.
 ghost use Rattle.std.specs.Prelude.{◌≡◌};
-ghost use Rattle.definitions.specs.Answers.{refusedAnswer};
+ghost use Rattle.definitions.specs.Answers.{refused_answer};
 ghost use Rattle.match_answers.specs.Answering.{answer_of};
 
 use definitions::answers::{Answer, Found, Refusal};
@@ -8,7 +8,7 @@ use search_state::outcomes::{Outcome, empty};
 
 // The answer that refuses.
 pub fn refused(r: Refusal) -> Answer
-    ensures { result ≡ refusedAnswer r }
+    ensures { result ≡ refused_answer r }
 {
     let placement = empty();
     Answer {

@@ -1,15 +1,15 @@
 // How many positive patterns a table has: what refusal 36 goes by.
 ghost use Rattle.std.specs.Prelude.{◌≡◌, List, ℕ, ◌≤◌, take};
-ghost use Rattle.definitions.specs.Limits.{maxItems};
+ghost use Rattle.definitions.specs.Limits.{max_items};
 ghost use Rattle.definitions.specs.Items.{kind_of};
-ghost use Rattle.definitions.specs.Placements.{constraintBy, constraints, positiveIn, positives};
+ghost use Rattle.definitions.specs.Placements.{constraint_by, constraints, positive_in, positives};
 
 use definitions::limits::ITEMS;
 use definitions::table::{Item, Slot};
 
 // 1 for a positive pattern, 0 for any other item.
 fn positive_in(slot: Slot) -> usize
-    ensures { (b : List ℕ) → result ≡ positiveIn (constraintBy (kind_of slot.item) slot.item slot.addresses b) }
+    ensures { (b : List ℕ) → result ≡ positive_in (constraint_by (kind_of slot.item) slot.item slot.addresses b) }
 {
     let item = slot.item;
     let Item::Pattern(p) = item else {
@@ -23,7 +23,7 @@ fn positive_in(slot: Slot) -> usize
 
 // The positive patterns among the items in use; their bytes play no part.
 pub fn positive_count(items: [Slot; ITEMS], count: usize) -> usize
-    requires { count ≤ maxItems }
+    requires { count ≤ max_items }
     ensures { (b : List ℕ) → result ≡ positives (constraints (take count items) b) }
 {
     let mut n: usize = 0;

@@ -1,12 +1,12 @@
 // What an answer to "first" says of the verdict.
 ghost use Rattle.std.specs.Prelude.{◌≡◌};
-ghost use Rattle.match_answers.specs.Verdicts.{verdictOf};
+ghost use Rattle.match_answers.specs.Verdicts.{verdict_of};
 
 use definitions::answers::{Found, Verdict};
 
 // The verdict that the answer to "first" comes to.
 pub fn verdict_of(f: Found) -> Verdict
-    ensures { result ≡ verdictOf f }
+    ensures { result ≡ verdict_of f }
 {
     match f {
         Found::Placed => Verdict::Met,

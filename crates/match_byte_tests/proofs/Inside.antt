@@ -11,11 +11,11 @@ use Rattle.definitions.specs.declared.table.Width.TheVariants.{One, Two, Four}
 use Rattle.definitions.specs.ByteCounts.{byte_count}
 
 module _ (start offset n len : ℕ) where
-  pub start-past : len < start → false ≡ leb (start + offset + n) len
-  start-past h = rw (lt-leb (start + offset + n) len (omega arith))
+  pub start_past : len < start → false ≡ leb (start + offset + n) len
+  start_past h = rw (lt-leb (start + offset + n) len (omega arith))
 
-  pub offset-past : start ≤ len → len - start < offset → false ≡ leb (start + offset + n) len
-  offset-past s h = rw (lt-leb (start + offset + n) len (omega arith))
+  pub offset_past : start ≤ len → len - start < offset → false ≡ leb (start + offset + n) len
+  offset_past s h = rw (lt-leb (start + offset + n) len (omega arith))
 
   pub bytes_left : start ≤ len → offset ≤ len - start → leb n (len - start - offset) ≡ leb (start + offset + n) len
   bytes_left s h =
@@ -27,7 +27,7 @@ module _ (start offset n len : ℕ) where
 pub there : {last len : ℕ} {r : Bool} → r ≡ leb last len → r ≡ true → last ≤ len
 there {last} {len} e t = leb-true last len (sym e ∙ t)
 
-pub four-at-most : (w : Width) → byte_count w ≤ 4
-four-at-most One = omega arith
-four-at-most Two = omega arith
-four-at-most Four = omega arith
+pub four_at_most : (w : Width) → byte_count w ≤ 4
+four_at_most One = omega arith
+four_at_most Two = omega arith
+four_at_most Four = omega arith

@@ -1,8 +1,8 @@
 // byte_test: the number of some bytes of a field, compared with a value. On an absent field, or past the field's end, it doesn't hold.
 ghost use Rattle.std.specs.Prelude.{◌≡◌, ◌+◌, leb, length};
 ghost use Rattle.definitions.specs.ByteCounts.{byte_count};
-ghost use Rattle.definitions.specs.Packet.{bigEndian};
-ghost use Rattle.definitions.specs.Tests.{operatorHolds, comparedBy, bigEndFirst, bytesHold, byteHolds};
+ghost use Rattle.definitions.specs.Packet.{big_endian};
+ghost use Rattle.definitions.specs.Tests.{operator_holds, compared_by, big_end_first, bytes_hold, byte_holds};
 ghost use Rattle.fields.specs.Seen.{seen};
 ghost use Rattle.definitions.specs.declared.packets.PacketHeader.{PacketHeader};
 
@@ -16,7 +16,7 @@ use table_limits::byte_count;
 
 // The operator as that of a field test: `!` is not equal.
 fn compared_by(o: ByteOperator) -> Operator
-    ensures { result ≡ comparedBy o }
+    ensures { result ≡ compared_by o }
 {
     match o {
         ByteOperator::Greater => Operator::Greater,
@@ -43,7 +43,7 @@ fn lie_inside(start: usize, offset: usize, n: usize, len: usize) -> bool
 // The number of some bytes, compared with the test's value.
 fn compared(part: &[u8], t: ByteTest) -> bool
     requires { length part.now ≡ byte_count t.width }
-    ensures { result ≡ operatorHolds (comparedBy t.operator) (bigEndian (byte_count t.width) (bigEndFirst t.little part.now) 0) t.value }
+    ensures { result ≡ operator_holds (compared_by t.operator) (big_endian (byte_count t.width) (big_end_first t.little part.now) 0) t.value }
 {
     let operator = t.operator;
     let x = number_of(part, t.little);
@@ -52,7 +52,7 @@ fn compared(part: &[u8], t: ByteTest) -> bool
 
 // The test in a field, counted from a start there.
 fn bytes_hold(d: &[u8], t: ByteTest, start: usize) -> bool
-    ensures { result ≡ bytesHold t (start + t.offset) d.now }
+    ensures { result ≡ bytes_hold t (start + t.offset) d.now }
 {
     let width = t.width;
     let n = byte_count(width) as usize;
@@ -73,7 +73,7 @@ pub fn byte_holds<'a>(
     t: ByteTest,
     last: LastMatch,
 ) -> bool
-    ensures { (f : PacketHeader) → result ≡ byteHolds (seen f payload.now decoded.now m) t last }
+    ensures { (f : PacketHeader) → result ≡ byte_holds (seen f payload.now decoded.now m) t last }
 {
     let context = at_context(t.relative, last);
     if !is_present(m, context) {

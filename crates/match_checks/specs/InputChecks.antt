@@ -3,13 +3,13 @@ use Rattle.std.specs.Prelude.{Bool, not, List, ℕ}
 use Rattle.definitions.specs.declared.answers.Refusal.TheVariants as refusal
 use Rattle.definitions.specs.declared.answers.Check.{Check}
 use Rattle.definitions.specs.declared.answers.PacketAnswer.{PacketAnswer}
-use Rattle.definitions.specs.Refusals.{refuseIf}
-use Rattle.definitions.specs.Packet.{datagramOf, packetCheck, packetBy}
+use Rattle.definitions.specs.Refusals.{refuse_if}
+use Rattle.definitions.specs.Packet.{datagram_of, packet_check, packet_by}
 
 -- 20 unless the table is well formed, then 30 to 34
-abbrev pub tableAndPacketCheck : Bool → List ℕ → List ℕ → Check
-tableAndPacketCheck formed p decoded = refuseIf (not formed) refusal.IllFormed (packetCheck p decoded)
+abbrev pub table_and_packet_check : Bool → List ℕ → List ℕ → Check
+table_and_packet_check formed p decoded = refuse_if (not formed) refusal.IllFormed (packet_check p decoded)
 
 -- the header fields of the datagram, or the first due of these
-abbrev pub inputHeader : Bool → List ℕ → List ℕ → PacketAnswer
-inputHeader formed p decoded = packetBy (tableAndPacketCheck formed p decoded) (datagramOf p)
+abbrev pub input_header : Bool → List ℕ → List ℕ → PacketAnswer
+input_header formed p decoded = packet_by (table_and_packet_check formed p decoded) (datagram_of p)

@@ -17,11 +17,11 @@ abbrev pub folds : ℕ → List ℕ → Bool
 folds i [] = true
 folds i (x ∷ t) = eqb x (lower i) && folds (suc i) t
 
-entry-from : (t : List ℕ) (i : ℕ) → folds i t ≡ true → (k : ℕ) → k < length t → get_or t k 0 ≡ lower (i + k)
-entry-from [] i e k h = absurd (omega arith)
-entry-from (x ∷ t) i e zero h = rw (add-zero i) (eqb-true x (lower i) (both_left (eqb x (lower i)) (folds (suc i) t) e))
-entry-from (x ∷ t) i e (suc k) h =
-    rw (add-suc i k, sym (suc-add i k)) (entry-from t (suc i) (both_right (eqb x (lower i)) (folds (suc i) t) e) k (omega arith))
+entry_from : (t : List ℕ) (i : ℕ) → folds i t ≡ true → (k : ℕ) → k < length t → get_or t k 0 ≡ lower (i + k)
+entry_from [] i e k h = absurd (omega arith)
+entry_from (x ∷ t) i e zero h = rw (add-zero i) (eqb-true x (lower i) (both_left (eqb x (lower i)) (folds (suc i) t) e))
+entry_from (x ∷ t) i e (suc k) h =
+    rw (add-suc i k, sym (suc-add i k)) (entry_from t (suc i) (both_right (eqb x (lower i)) (folds (suc i) t) e) k (omega arith))
 
-pub table-folds : (t : List ℕ) → length t ≡ 256 → folds 0 t ≡ true → FoldTable t
-table-folds t l e = record { long = l; entry = λ k h. entry-from t 0 e k (omega arith) ∙ ap lower (zero-add k) }
+pub table_folds : (t : List ℕ) → length t ≡ 256 → folds 0 t ≡ true → FoldTable t
+table_folds t l e = record { long = l; entry = λ k h. entry_from t 0 e k (omega arith) ∙ ap lower (zero-add k) }

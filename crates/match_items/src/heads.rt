@@ -1,12 +1,12 @@
 // A table's protocol and flow.
 ghost use Rattle.std.specs.Prelude.{◌≡◌, ◌&&◌, eqb};
-ghost use Rattle.definitions.specs.Tests.{flowHolds};
+ghost use Rattle.definitions.specs.Tests.{flow_holds};
 
 use definitions::packets::{Direction, PacketHeader};
 use definitions::table::Flow;
 
 fn is_client(dir: Direction) -> bool
-    ensures { result ≡ flowHolds Flow.FromClient dir }
+    ensures { result ≡ flow_holds Flow.FromClient dir }
 {
     match dir {
         Direction::Client => true,
@@ -15,7 +15,7 @@ fn is_client(dir: Direction) -> bool
 }
 
 fn is_server(dir: Direction) -> bool
-    ensures { result ≡ flowHolds Flow.FromServer dir }
+    ensures { result ≡ flow_holds Flow.FromServer dir }
 {
     match dir {
         Direction::Client => false,
@@ -25,7 +25,7 @@ fn is_server(dir: Direction) -> bool
 
 // Flow, if given.
 pub fn flow_holds(flow: Flow, dir: Direction) -> bool
-    ensures { result ≡ flowHolds flow dir }
+    ensures { result ≡ flow_holds flow dir }
 {
     match flow {
         Flow::Any => true,
@@ -36,7 +36,7 @@ pub fn flow_holds(flow: Flow, dir: Direction) -> bool
 
 // The protocol is equal, and flow if given.
 pub fn head_holds(protocol: u8, flow: Flow, f: PacketHeader, dir: Direction) -> bool
-    ensures { result ≡ (eqb f.protocol protocol && flowHolds flow dir) }
+    ensures { result ≡ (eqb f.protocol protocol && flow_holds flow dir) }
 {
     if f.protocol == protocol {
         return flow_holds(flow, dir);

@@ -3,7 +3,7 @@ pub mod heads;
 pub mod negated;
 
 ghost use Rattle.std.specs.Prelude.{◌≡◌};
-ghost use Rattle.definitions.specs.Tests.{testHolds};
+ghost use Rattle.definitions.specs.Tests.{test_holds};
 ghost use Rattle.fields.specs.Seen.{seen};
 
 use definitions::limits::ADDRESSES;
@@ -24,7 +24,7 @@ pub fn test_holds<'a>(
     addresses: [Address; ADDRESSES],
     last: LastMatch,
 ) -> bool
-    ensures { result ≡ testHolds (seen f payload.now decoded.now m) item addresses last }
+    ensures { result ≡ test_holds (seen f payload.now decoded.now m) item addresses last }
 {
     match item {
         Item::Unused => false,

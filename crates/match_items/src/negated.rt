@@ -1,6 +1,6 @@
 // Negated patterns.
 ghost use Rattle.std.specs.Prelude.{◌≡◌};
-ghost use Rattle.definitions.specs.Placements.{unmatchedHolds};
+ghost use Rattle.definitions.specs.Placements.{unmatched_holds};
 ghost use Rattle.definitions.specs.declared.packets.PacketHeader.{PacketHeader};
 ghost use Rattle.fields.specs.Seen.{seen};
 ghost use Rattle.match_items.specs.Bounds.{Bounded};
@@ -20,7 +20,7 @@ pub fn negated_holds<'a>(
     last: LastMatch,
 ) -> bool
     requires { Bounded payload.now decoded.now p b.now last }
-    ensures { (f : PacketHeader) → result ≡ unmatchedHolds (seen f payload.now decoded.now m) p b.now last }
+    ensures { (f : PacketHeader) → result ≡ unmatched_holds (seen f payload.now decoded.now m) p b.now last }
 {
     let c = p.context;
     if !is_present(m, c) {

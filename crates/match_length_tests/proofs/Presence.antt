@@ -10,27 +10,27 @@ use Rattle.definitions.specs.declared.table.AtTest.{AtTest}
 use Rattle.definitions.specs.declared.packets.PacketHeader.{PacketHeader}
 use Rattle.definitions.specs.declared.packets.FieldMap.{FieldMap}
 use Rattle.definitions.specs.declared.packets.LastMatch.{LastMatch}
-use Rattle.definitions.specs.Fields.{present, field_of, sizeContext}
-use Rattle.definitions.specs.Tests.{orderHolds, atContext, at_start, dataFollows, sizeHolds, atHolds}
+use Rattle.definitions.specs.Fields.{present, field_of, size_context}
+use Rattle.definitions.specs.Tests.{order_holds, at_context, at_start, data_follows, size_holds, at_holds}
 use Rattle.fields.specs.Seen.{seen}
 
 module _ (f : PacketHeader) (s d : List ℕ) (m : FieldMap) (c : Context) where
-  module _ (t : SizeTest) (e : c ≡ sizeContext t.field) where
-    pub size-absent : present m c ≡ false → false ≡ sizeHolds (seen f s d m) t
-    unfolding sizeHolds
-    size-absent p = rw (← e, p)
+  module _ (t : SizeTest) (e : c ≡ size_context t.field) where
+    pub size_absent : present m c ≡ false → false ≡ size_holds (seen f s d m) t
+    unfolding size_holds
+    size_absent p = rw (← e, p)
 
-    pub size-present : present m c ≡ true → (len n : ℕ) (r : Bool) → len ≡ length (field_of s d m c) → n ≡ t.number → r ≡ orderHolds t.order len n
-        → r ≡ sizeHolds (seen f s d m) t
-    unfolding sizeHolds
-    size-present p len n r l q h = rw (← e, p, ← l, ← q) h
+    pub size_present : present m c ≡ true → (len n : ℕ) (r : Bool) → len ≡ length (field_of s d m c) → n ≡ t.number → r ≡ order_holds t.order len n
+        → r ≡ size_holds (seen f s d m) t
+    unfolding size_holds
+    size_present p len n r l q h = rw (← e, p, ← l, ← q) h
 
-  module _ (t : AtTest) (last : LastMatch) (e : c ≡ atContext t.relative last) where
-    pub at-absent : present m c ≡ false → false ≡ atHolds (seen f s d m) t last
-    unfolding atHolds
-    at-absent p = rw (← e, p)
+  module _ (t : AtTest) (last : LastMatch) (e : c ≡ at_context t.relative last) where
+    pub at_absent : present m c ≡ false → false ≡ at_holds (seen f s d m) t last
+    unfolding at_holds
+    at_absent p = rw (← e, p)
 
-    pub at-present : present m c ≡ true → (len n start : ℕ) (r : Bool) → len ≡ length (field_of s d m c) → n ≡ t.number
-        → start ≡ at_start t.relative last → r ≡ dataFollows n start len → r ≡ atHolds (seen f s d m) t last
-    unfolding atHolds
-    at-present p len n start r l q k h = rw (← e, p, ← l, ← q, ← k) h
+    pub at_present : present m c ≡ true → (len n start : ℕ) (r : Bool) → len ≡ length (field_of s d m c) → n ≡ t.number
+        → start ≡ at_start t.relative last → r ≡ data_follows n start len → r ≡ at_holds (seen f s d m) t last
+    unfolding at_holds
+    at_present p len n start r l q k h = rw (← e, p, ← l, ← q, ← k) h

@@ -1,7 +1,7 @@
 // Tests of a field's length. On an absent field none holds.
 ghost use Rattle.std.specs.Prelude.{◌≡◌, length};
-ghost use Rattle.definitions.specs.Fields.{field_of, sizeContext};
-ghost use Rattle.definitions.specs.Tests.{dataFollows, sizeHolds, atHolds};
+ghost use Rattle.definitions.specs.Fields.{field_of, size_context};
+ghost use Rattle.definitions.specs.Tests.{data_follows, size_holds, at_holds};
 ghost use Rattle.fields.specs.Seen.{seen};
 ghost use Rattle.definitions.specs.declared.packets.PacketHeader.{PacketHeader};
 
@@ -19,7 +19,7 @@ fn field_length<'a>(payload: &'a [u8], decoded: &'a [u8], m: FieldMap, c: Contex
 }
 
 fn size_context(field: SizeField) -> Context
-    ensures { result ≡ sizeContext field }
+    ensures { result ≡ size_context field }
 {
     match field {
         SizeField::Payload => Context::Packet,
@@ -31,7 +31,7 @@ fn size_context(field: SizeField) -> Context
 
 // data_size.
 pub fn size_holds<'a>(payload: &'a [u8], decoded: &'a [u8], m: FieldMap, t: SizeTest) -> bool
-    ensures { (f : PacketHeader) → result ≡ sizeHolds (seen f payload.now decoded.now m) t }
+    ensures { (f : PacketHeader) → result ≡ size_holds (seen f payload.now decoded.now m) t }
 {
     let field = t.field;
     let order = t.order;
@@ -46,7 +46,7 @@ pub fn size_holds<'a>(payload: &'a [u8], decoded: &'a [u8], m: FieldMap, t: Size
 
 // At least n bytes follow a start in a field of so many bytes; no sum of the two can wrap here.
 fn data_follows(n: usize, start: usize, len: usize) -> bool
-    ensures { result ≡ dataFollows n start len }
+    ensures { result ≡ data_follows n start len }
 {
     if len < start {
         return false;
@@ -62,7 +62,7 @@ pub fn at_holds<'a>(
     t: AtTest,
     last: LastMatch,
 ) -> bool
-    ensures { (f : PacketHeader) → result ≡ atHolds (seen f payload.now decoded.now m) t last }
+    ensures { (f : PacketHeader) → result ≡ at_holds (seen f payload.now decoded.now m) t last }
 {
     let context = at_context(t.relative, last);
     if !is_present(m, context) {

@@ -1,7 +1,7 @@
 // Tests of the header's numbers.
 ghost use Rattle.std.specs.Prelude.{◌≡◌, ◌&&◌, eqb};
-ghost use Rattle.definitions.specs.Packet.{hasPorts};
-ghost use Rattle.definitions.specs.Tests.{numberHolds, orderHolds, headerValue, operatorHolds, fieldHolds};
+ghost use Rattle.definitions.specs.Packet.{has_ports};
+ghost use Rattle.definitions.specs.Tests.{number_holds, order_holds, header_value, operator_holds, field_holds};
 
 use definitions::packets::PacketHeader;
 use definitions::table::{
@@ -11,7 +11,7 @@ use packet_header::protocols::has_ports;
 
 // A port test on other protocols doesn't hold.
 fn port_holds(protocol: u8, port: u16, n: u16) -> bool
-    ensures { result ≡ (hasPorts protocol && eqb port n) }
+    ensures { result ≡ (has_ports protocol && eqb port n) }
 {
     if has_ports(protocol) {
         return port == n;
@@ -27,7 +27,7 @@ fn byte_equals(x: u8, n: u16) -> bool
 
 // ip_id, src_port, dst_port, ip_tos. A table with an ip_id is refused before it comes here.
 pub fn number_holds(f: PacketHeader, t: NumberTest) -> bool
-    ensures { result ≡ numberHolds f t.field t.number }
+    ensures { result ≡ number_holds f t.field t.number }
 {
     let field = t.field;
     match field {
@@ -54,7 +54,7 @@ pub fn of_word(x: u16) -> usize
 
 // ip_ttl and data_size: x is compared with n.
 pub fn order_holds(order: Order, x: usize, n: usize) -> bool
-    ensures { result ≡ orderHolds order x n }
+    ensures { result ≡ order_holds order x n }
 {
     match order {
         Order::Equal => x == n,
@@ -65,7 +65,7 @@ pub fn order_holds(order: Order, x: usize, n: usize) -> bool
 
 // ip_ttl: the time to live compared with the number.
 pub fn ttl_holds(f: PacketHeader, t: TtlTest) -> bool
-    ensures { result ≡ orderHolds t.order f.ttl t.number }
+    ensures { result ≡ order_holds t.order f.ttl t.number }
 {
     let order = t.order;
     let x = of_byte(f.ttl);
@@ -74,7 +74,7 @@ pub fn ttl_holds(f: PacketHeader, t: TtlTest) -> bool
 }
 
 fn header_value(f: PacketHeader, field: HeaderField) -> usize
-    ensures { result ≡ headerValue f field }
+    ensures { result ≡ header_value f field }
 {
     match field {
         HeaderField::TotalLength => f.total,
@@ -86,7 +86,7 @@ fn header_value(f: PacketHeader, field: HeaderField) -> usize
 
 // x is compared with n, as a field test or a byte test asks.
 pub fn operator_holds(operator: Operator, x: usize, n: usize) -> bool
-    ensures { result ≡ operatorHolds operator x n }
+    ensures { result ≡ operator_holds operator x n }
 {
     match operator {
         Operator::Equal => x == n,
@@ -100,7 +100,7 @@ pub fn operator_holds(operator: Operator, x: usize, n: usize) -> bool
 
 // ip.total_length, ip.id, ip.checksum, ip.ttl: the field and the mask, compared, whatever the field's width.
 pub fn field_holds(f: PacketHeader, t: FieldTest) -> bool
-    ensures { result ≡ fieldHolds f t }
+    ensures { result ≡ field_holds f t }
 {
     let field = t.field;
     let operator = t.operator;

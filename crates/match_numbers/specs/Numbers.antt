@@ -1,7 +1,7 @@
 -- How many numbers an answer is compared by. Section "Meaning", its last paragraph.
 use Rattle.std.specs.Prelude.{ℕ, ◌+◌}
-use Rattle.definitions.specs.Limits.{maxPatterns}
+use Rattle.definitions.specs.Limits.{max_patterns}
 
 -- refusal number, found or none, count, and all starts
-abbrev pub numbersOfOne : ℕ
-numbersOfOne = 3 + maxPatterns
+abbrev pub numbers_of_one : ℕ
+numbers_of_one = 3 + max_patterns

@@ -1,11 +1,11 @@
 // An answer as numbers: refusal number, found or none, count, starts and unused room.
 ghost use Rattle.std.specs.Prelude.{◌≡◌, ◌++◌, map, ◌+◌, ◌≤◌, length, take, drop};
 ghost use Rattle.std.proofs.lemmas.List.Edits.{sets};
-ghost use Rattle.definitions.specs.Limits.{maxPatterns};
-ghost use Rattle.definitions.specs.Starts.{startNumber};
-ghost use Rattle.definitions.specs.Refusals.{foundNumber, foundOne};
-ghost use Rattle.definitions.specs.AnswerNumbers.{answerNumbers};
-ghost use Rattle.match_numbers.specs.Numbers.{numbersOfOne};
+ghost use Rattle.definitions.specs.Limits.{max_patterns};
+ghost use Rattle.definitions.specs.Starts.{start_number};
+ghost use Rattle.definitions.specs.Refusals.{found_number, found_one};
+ghost use Rattle.definitions.specs.AnswerNumbers.{answer_numbers};
+ghost use Rattle.match_numbers.specs.Numbers.{numbers_of_one};
 
 use definitions::answers::{Answer, Found};
 use definitions::limits::PATTERNS;
@@ -18,7 +18,7 @@ pub const NUMBERS: usize = 3 + PATTERNS;
 
 // 0 where nothing is refused.
 fn found_number(f: Found) -> u64
-    ensures { result ≡ foundNumber f }
+    ensures { result ≡ found_number f }
 {
     match f {
         Found::Placed => 0,
@@ -29,7 +29,7 @@ fn found_number(f: Found) -> u64
 
 // 1 for a placement.
 fn found_one(f: Found) -> u64
-    ensures { result ≡ foundOne f }
+    ensures { result ≡ found_one f }
 {
     match f {
         Found::Placed => 1,
@@ -40,8 +40,8 @@ fn found_one(f: Found) -> u64
 
 // All starts, those not in use too.
 fn put_starts(out: &mut [u64], at: usize, starts: [Start; PATTERNS])
-    requires { at + maxPatterns ≤ length out.old }
-    ensures { out.new ≡ sets out.old at (map startNumber starts) }
+    requires { at + max_patterns ≤ length out.old }
+    ensures { out.new ≡ sets out.old at (map start_number starts) }
 {
     let mut j = 0;
     while j < PATTERNS {
@@ -52,8 +52,8 @@ fn put_starts(out: &mut [u64], at: usize, starts: [Start; PATTERNS])
 
 // The answer's numbers from `at` on.
 pub fn put_answer(out: &mut [u64], at: usize, a: Answer)
-    requires { at + numbersOfOne ≤ length out.old }
-    ensures { out.new ≡ take at out.old ++ answerNumbers a ++ drop (at + numbersOfOne) out.old }
+    requires { at + numbers_of_one ≤ length out.old }
+    ensures { out.new ≡ take at out.old ++ answer_numbers a ++ drop (at + numbers_of_one) out.old }
 {
     let found = a.found;
     let placement = a.placement;

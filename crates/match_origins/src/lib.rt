@@ -1,13 +1,13 @@
 // What data_at and byte_test are counted from: the payload's start, or with relative the end of the last positive pattern before, in its field.
 ghost use Rattle.std.specs.Prelude.{◌≡◌};
-ghost use Rattle.definitions.specs.Tests.{atContext, at_start};
+ghost use Rattle.definitions.specs.Tests.{at_context, at_start};
 
 use definitions::packets::LastMatch;
 use definitions::table::Context;
 
 // The field that data_at and byte_test look into.
 pub fn at_context(relative: bool, last: LastMatch) -> Context
-    ensures { result ≡ atContext relative last }
+    ensures { result ≡ at_context relative last }
 {
     if !relative {
         return Context::Packet;

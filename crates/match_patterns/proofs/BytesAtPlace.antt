@@ -9,37 +9,37 @@ use native.Mathlib.Numerals.{add-one}
 use lib.ListN.{length, get_or, drop, drop_of_length-le}
 use lib.Seq.{drop-cons}
 use borrow.Author.Tests.{eq-eqb, ne_eqb}
-use Rattle.definitions.specs.Windows.{alike, standsAt}
+use Rattle.definitions.specs.Windows.{alike, stands_at}
 
 -- without no_case alike is equal
-pub equal-alike : (x y : ℕ) → x ≡ y → alike false x y ≡ true
+pub equal_alike : (x y : ℕ) → x ≡ y → alike false x y ≡ true
 unfolding alike
-equal-alike x y e = eq-eqb x y e
+equal_alike x y e = eq-eqb x y e
 
-pub differ-alike : (x y : ℕ) → (x ≡ y → ⊥) → alike false x y ≡ false
+pub differ_alike : (x y : ℕ) → (x ≡ y → ⊥) → alike false x y ≡ false
 unfolding alike
-differ-alike x y n = ne_eqb x y n
+differ_alike x y n = ne_eqb x y n
 
 module _ (nocase : Bool) (b f : List ℕ) (at : ℕ) where
   -- what is left to compare at the i-th byte
   abbrev pub left : ℕ → Bool
-  left i = standsAt nocase (drop i b) (drop (at + i) f)
+  left i = stands_at nocase (drop i b) (drop (at + i) f)
 
-  pub stands-all : standsAt nocase b (drop at f) ≡ left 0
-  stands-all = rw add-zero
+  pub stands_all : stands_at nocase b (drop at f) ≡ left 0
+  stands_all = rw add-zero
 
-  pub stands-done : (i : ℕ) → length b ≤ i → left i ≡ true
-  unfolding standsAt
-  stands-done i h = rw (drop_of_length-le b h)
+  pub stands_done : (i : ℕ) → length b ≤ i → left i ≡ true
+  unfolding stands_at
+  stands_done i h = rw (drop_of_length-le b h)
 
   module _ (fits : at + length b ≤ length f) (i : ℕ) (h : i < length b) where
     inside : at + i < length f
     inside = omega arith
 
-    pub stands-more : alike nocase (get_or b i 0) (get_or f (at + i) 0) ≡ true → left i ≡ left (i + 1)
-    unfolding standsAt
-    stands-more e = rw (add-one i, add-suc at i, drop-cons b i 0 h, drop-cons f (at + i) 0 inside, e)
+    pub stands_more : alike nocase (get_or b i 0) (get_or f (at + i) 0) ≡ true → left i ≡ left (i + 1)
+    unfolding stands_at
+    stands_more e = rw (add-one i, add-suc at i, drop-cons b i 0 h, drop-cons f (at + i) 0 inside, e)
 
-    pub stands-not : alike nocase (get_or b i 0) (get_or f (at + i) 0) ≡ false → left i ≡ false
-    unfolding standsAt
-    stands-not e = rw (drop-cons b i 0 h, drop-cons f (at + i) 0 inside, e)
+    pub stands_not : alike nocase (get_or b i 0) (get_or f (at + i) 0) ≡ false → left i ≡ false
+    unfolding stands_at
+    stands_not e = rw (drop-cons b i 0 h, drop-cons f (at + i) 0 inside, e)

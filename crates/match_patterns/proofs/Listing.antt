@@ -12,8 +12,8 @@ use borrow.Author.Tests.{ltb-true, ltb-false, lt-ltb, le-ltb, le-leb, lt-leb}
 use Rattle.forms.proofs.Bools.{by_cases}
 use Rattle.definitions.specs.declared.table.Pattern.{Pattern}
 use Rattle.definitions.specs.declared.packets.LastMatch.{LastMatch}
-use Rattle.definitions.specs.Lists.{keep, keepOne, none?}
-use Rattle.definitions.specs.Windows.{standsAt, lies}
+use Rattle.definitions.specs.Lists.{keep, keep_one, none?}
+use Rattle.definitions.specs.Windows.{stands_at, lies}
 use Rattle.definitions.specs.Placements.{up_from}
 use Rattle.match_windows.specs.declared.Window.{Window}
 use Rattle.match_windows.specs.Spans.{Spans, places_of}
@@ -27,9 +27,9 @@ from_more : (at m : ℕ) → at < m → from at m ≡ at ∷ from (at + 1) m
 unfolding up_from
 from_more at m h = let e : m - at ≡ suc (m - (at + 1)) = omega arith in rw (e, add-one at)
 
-from-none : (at m : ℕ) → m ≤ at → from at m ≡ []
+from_none : (at m : ℕ) → m ≤ at → from at m ≡ []
 unfolding up_from
-from-none at m h = let e : m - at ≡ 0 = omega arith in rw e
+from_none at m h = let e : m - at ≡ 0 = omega arith in rw e
 
 module _ (f : ℕ → Bool) (m : ℕ) where
   pub passed : (at : ℕ) → f at ≡ false → keep f (from at m) ≡ keep f (from (at + 1) m)
@@ -37,7 +37,7 @@ module _ (f : ℕ → Bool) (m : ℕ) where
   passed at e =
       by_cases (ltb at m)
       (λ t. rw (from_more at m (ltb-true at m t), e))
-      (λ t. let h = ltb-false at m t in rw (from-none at m h, from-none (at + 1) m (omega arith)))
+      (λ t. let h = ltb-false at m t in rw (from_none at m h, from_none (at + 1) m (omega arith)))
 
   pub met : (at : ℕ) → at < m → f at ≡ true → none? (keep f (from at m)) ≡ false
   unfolding keep
@@ -45,7 +45,7 @@ module _ (f : ℕ → Bool) (m : ℕ) where
 
   pub ended : (at : ℕ) → m ≤ at → none? (keep f (from at m)) ≡ true
   unfolding keep
-  ended at h = rw (from-none at m h)
+  ended at h = rw (from_none at m h)
 
   none_before : (a : ℕ) → ((x : ℕ) → x < a → f x ≡ false) → keep f (up_from 0 m) ≡ keep f (from a m)
   none_before zero h = ap (λ (k : ℕ). keep f (up_from 0 k)) (omega arith)
@@ -63,20 +63,20 @@ unfolding keep up_from
 agree f g a zero more h n = rw zero-add (none_after f a more (λ x l. n x (omega arith)))
 agree f g a (suc k) more h n =
     rw (suc-add k more, h a (omega arith) (omega arith))
-    (ap (keepOne (g a) a) (agree f g (suc a) k more (λ x l r. h x (omega arith) (omega arith)) (λ x l. n x (omega arith))))
+    (ap (keep_one (g a) a) (agree f g (suc a) k more (λ x l r. h x (omega arith) (omega arith)) (λ x l. n x (omega arith))))
 
 module _ (p : Pattern) (b : List ℕ) (l : LastMatch) (f : List ℕ) (w : Window) (s : Spans p l (length f) w) (at : ℕ) where
-  lies_in : w.from ≤ at → at < w.to → lies p b l f at ≡ standsAt p.nocase b (drop at f)
+  lies_in_lem : w.from ≤ at → at < w.to → lies p b l f at ≡ stands_at p.nocase b (drop at f)
   unfolding lies
-  lies_in h k = rw (s.exact at, le-leb w.from at h, lt-ltb at w.to k)
+  lies_in_lem h k = rw (s.exact at, le-leb w.from at h, lt-ltb at w.to k)
 
-  lies-before : at < w.from → lies p b l f at ≡ false
+  lies_before : at < w.from → lies p b l f at ≡ false
   unfolding lies
-  lies-before h = rw (s.exact at, lt-leb w.from at h)
+  lies_before h = rw (s.exact at, lt-leb w.from at h)
 
-  lies-after : w.to ≤ at → lies p b l f at ≡ false
+  lies_after : w.to ≤ at → lies p b l f at ≡ false
   unfolding lies
-  lies-after h = rw (s.exact at, le-ltb at w.to h, and-false (leb w.from at))
+  lies_after h = rw (s.exact at, le-ltb at w.to h, and-false (leb w.from at))
 
 -- the starts at which a pattern lies are those of its window at which its bytes stand
 module _ (p : Pattern) (b : List ℕ) (l : LastMatch) (f : List ℕ) (w : Window) (s : Spans p l (length f) w) where
@@ -86,12 +86,12 @@ module _ (p : Pattern) (b : List ℕ) (l : LastMatch) (f : List ℕ) (w : Window
       (λ t. let h = ltb-true 0 w.to t in omega (arith, s.inside (w.to - 1) (omega arith)))
       (λ t. let h = ltb-false 0 w.to t in omega arith)
 
-  pub places-window : places_of p b l f ≡ keep (standing p.nocase b f) (from w.from w.to)
-  places-window =
+  pub places_window : places_of p b l f ≡ keep (standing p.nocase b f) (from w.from w.to)
+  places_window =
       let m = suc (length f) in
       let e : m - w.from ≡ (w.to - w.from) + ((m - w.from) - (w.to - w.from)) = omega (arith, few) in
-      none_before (lies p b l f) m w.from (λ x h. lies-before p b l f w s x h)
+      none_before (lies p b l f) m w.from (λ x h. lies_before p b l f w s x h)
       ∙ ap (λ (k : ℕ). keep (lies p b l f) (up_from w.from k)) e
       ∙ agree (lies p b l f) (standing p.nocase b f) w.from (w.to - w.from) ((m - w.from) - (w.to - w.from))
-      (λ x h k. lies_in p b l f w s x h (omega arith))
-      (λ x h. lies-after p b l f w s x (omega arith))
+      (λ x h k. lies_in_lem p b l f w s x h (omega arith))
+      (λ x h. lies_after p b l f w s x (omega arith))

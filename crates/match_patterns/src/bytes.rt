@@ -14,7 +14,7 @@ fn alike(folded: &[u8], x: u8, y: u8) -> bool
 // The bytes `b` stand in the field at the place, each equal.
 pub fn equal_at(b: &[u8], f: &[u8], at: usize) -> bool
     requires { at + length b.now ≤ length f.now }
-    ensures { result ≡ windows.standsAt false b.now (drop at f.now) }
+    ensures { result ≡ windows.stands_at false b.now (drop at f.now) }
 {
     let mut i = 0;
     while i < b.len() {
@@ -29,7 +29,7 @@ pub fn equal_at(b: &[u8], f: &[u8], at: usize) -> bool
 // The bytes `b` stand in the field at the place, each alike under no_case.
 pub fn alike_at(folded: &[u8], b: &[u8], f: &[u8], at: usize) -> bool
     requires { FoldTable folded.now × (at + length b.now ≤ length f.now) }
-    ensures { result ≡ windows.standsAt true b.now (drop at f.now) }
+    ensures { result ≡ windows.stands_at true b.now (drop at f.now) }
 {
     let mut i = 0;
     while i < b.len() {

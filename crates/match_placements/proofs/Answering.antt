@@ -19,56 +19,56 @@ use Rattle.definitions.specs.declared.answers.Check.{Check}
 use Rattle.definitions.specs.declared.answers.Check.TheVariants.{Pass, Refuse}
 use Rattle.definitions.specs.declared.answers.Answer.{Answer}
 use Rattle.definitions.specs.Lists.{keep}
-use Rattle.definitions.specs.Fields.{fieldsCheck}
-use Rattle.definitions.specs.Placements.{lexLess, items_of, positives}
-use Rattle.definitions.specs.Answers.{refusedAnswer, head_of}
-use Rattle.laws.proofs.Rising.{keep-take}
-use Rattle.laws.proofs.Listing.{listed-length}
+use Rattle.definitions.specs.Fields.{fields_check}
+use Rattle.definitions.specs.Placements.{lex_less, items_of, positives}
+use Rattle.definitions.specs.Answers.{refused_answer, head_of}
+use Rattle.laws.proofs.Rising.{keep_take}
+use Rattle.laws.proofs.Listing.{listed_length}
 use Rattle.fields.specs.Seen.{seen}
 use Rattle.search_state.specs.declared.outcomes.Outcome.{Outcome}
-use Rattle.search_state.specs.Outcomes.{outcomeOf}
-use Rattle.search_state.specs.Choosing.{afterIf}
+use Rattle.search_state.specs.Outcomes.{outcome_of}
+use Rattle.search_state.specs.Choosing.{after_if}
 use Rattle.match_answers.specs.Answering.{answer_of}
-use Rattle.match_placements.specs.Listing.{listIn, firstInList, nextInList}
+use Rattle.match_placements.specs.Listing.{list_in, first_in_list, next_in_list}
 
-answer-head : (l : List (List Start)) → answer_of (outcomeOf l) ≡ head_of l
-answer-head [] = refl
-answer-head (q ∷ l) = refl
+answer_head : (l : List (List Start)) → answer_of (outcome_of l) ≡ head_of l
+answer_head [] = refl
+answer_head (q ∷ l) = refl
 
-keep-every : (b : List Start) (l : List (List Start)) → keep (afterIf false b) l ≡ l
+keep_every : (b : List Start) (l : List (List Start)) → keep (after_if false b) l ≡ l
 unfolding keep
-keep-every b [] = refl
-keep-every b (q ∷ l) = ap (λ (k : List (List Start)). q ∷ k) (keep-every b l)
+keep_every b [] = refl
+keep_every b (q ∷ l) = ap (λ (k : List (List Start)). q ∷ k) (keep_every b l)
 
 module _ (t : Table) (f : PacketHeader) (s d : List ℕ) (dir : Direction) (m : FieldMap) where
   -- w is what the test of the fields says, y the answer given
-  module _ {w : Check} (ew : w ≡ fieldsCheck s d m) {y : Answer} where
-    module _ {r : Refusal} (k : w ≡ Refuse r) (g : y ≡ refusedAnswer r) where
-      pub first-refused : y ≡ firstInList t f s d dir m
-      unfolding firstInList
-      first-refused = rw (sym ew ∙ k) g
+  module _ {w : Check} (ew : w ≡ fields_check s d m) {y : Answer} where
+    module _ {r : Refusal} (k : w ≡ Refuse r) (g : y ≡ refused_answer r) where
+      pub first_refused : y ≡ first_in_list t f s d dir m
+      unfolding first_in_list
+      first_refused = rw (sym ew ∙ k) g
 
-      pub next-refused : (h : Placement) → y ≡ nextInList t f s d dir m h
-      unfolding nextInList
-      next-refused h = rw (sym ew ∙ k) g
+      pub next_refused : (h : Placement) → y ≡ next_in_list t f s d dir m h
+      unfolding next_in_list
+      next_refused h = rw (sym ew ∙ k) g
 
     module _ (k : w ≡ Pass) where
-      pub first_found : (b : List Start) {x : Outcome} → x ≡ outcomeOf (keep (afterIf false b) (listIn t f s d dir m)) → y ≡ answer_of x
-          → y ≡ firstInList t f s d dir m
-      unfolding firstInList
-      first_found b e g = g ∙ rw (sym ew ∙ k, e, keep-every b (listIn t f s d dir m)) (answer-head (listIn t f s d dir m))
+      pub first_found : (b : List Start) {x : Outcome} → x ≡ outcome_of (keep (after_if false b) (list_in t f s d dir m)) → y ≡ answer_of x
+          → y ≡ first_in_list t f s d dir m
+      unfolding first_in_list
+      first_found b e g = g ∙ rw (sym ew ∙ k, e, keep_every b (list_in t f s d dir m)) (answer_head (list_in t f s d dir m))
 
       -- n is the number of positive patterns
       module _ (h : Placement) {n : ℕ} (en : n ≡ positives (items_of t)) where
-        pub next-found : h.count ≡ n → {x : Outcome} → x ≡ outcomeOf (keep (afterIf true h.starts) (listIn t f s d dir m)) → y ≡ answer_of x
-            → y ≡ nextInList t f s d dir m h
-        unfolding nextInList
+        pub next-found : h.count ≡ n → {x : Outcome} → x ≡ outcome_of (keep (after_if true h.starts) (list_in t f s d dir m)) → y ≡ answer_of x
+            → y ≡ next_in_list t f s d dir m h
+        unfolding next_in_list
         next-found eh e g =
-            let short : (q : List Start) → Mem q (listIn t f s d dir m) → length q ≤ h.count = λ q i. omega (arith, listed-length t (seen f s d m) dir q i) in
+            let short : (q : List Start) → Mem q (list_in t f s d dir m) → length q ≤ h.count = λ q i. omega (arith, listed_length t (seen f s d m) dir q i) in
             g
-            ∙ rw (sym ew ∙ k, eq-eqb h.count (positives (items_of t)) (eh ∙ en), e, keep-take h.count h.starts (listIn t f s d dir m) short)
-            (answer-head (keep (lexLess (take h.count h.starts)) (listIn t f s d dir m)))
+            ∙ rw (sym ew ∙ k, eq-eqb h.count (positives (items_of t)) (eh ∙ en), e, keep_take h.count h.starts (list_in t f s d dir m) short)
+            (answer_head (keep (lex_less (take h.count h.starts)) (list_in t f s d dir m)))
 
-        pub next-uncounted : (h.count ≡ n → ⊥) → y ≡ refusedAnswer refusal.EarlierCount → y ≡ nextInList t f s d dir m h
-        unfolding nextInList
+        pub next-uncounted : (h.count ≡ n → ⊥) → y ≡ refused_answer refusal.EarlierCount → y ≡ next_in_list t f s d dir m h
+        unfolding next_in_list
         next-uncounted ne g = g ∙ rw (sym ew ∙ k, ne_eqb h.count (positives (items_of t)) (λ z. ne (z ∙ sym en)))

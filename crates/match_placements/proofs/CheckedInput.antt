@@ -19,98 +19,98 @@ use Rattle.definitions.specs.declared.answers.Check.{Check}
 use Rattle.definitions.specs.declared.answers.Check.TheVariants.{Pass, Refuse}
 use Rattle.definitions.specs.declared.answers.PacketAnswer.{PacketAnswer}
 use Rattle.definitions.specs.declared.answers.PacketAnswer.TheVariants.{Seen, Refused}
-use Rattle.definitions.specs.Limits.{maxPacket, maxDecoded}
-use Rattle.definitions.specs.Refusals.{refuseIf, and_then}
-use Rattle.definitions.specs.WellFormed.{wellFormed}
-use Rattle.definitions.specs.Packet.{totalLength, datagramOf, headerOf, payloadOf, packetCheck, packetBy, packetAnswer}
-use Rattle.definitions.specs.Fields.{fieldsCheck}
-use Rattle.definitions.specs.Answers.{inputCheck, placementsOf}
-use Rattle.laws.proofs.Checks.{refuse-fine, neither}
-use Rattle.packet.specs.Datagram.{payloadPart}
-use Rattle.packet.proofs.Payloads.{payload-part}
-use Rattle.match_windows.specs.Spans.{sizeBound}
+use Rattle.definitions.specs.Limits.{max_packet, max_decoded}
+use Rattle.definitions.specs.Refusals.{refuse_if, and_then}
+use Rattle.definitions.specs.WellFormed.{well_formed}
+use Rattle.definitions.specs.Packet.{total_length, datagram_of, header_of, payload_of, packet_check, packet_by, packet_answer}
+use Rattle.definitions.specs.Fields.{fields_check}
+use Rattle.definitions.specs.Answers.{input_check, placements_of}
+use Rattle.laws.proofs.Checks.{refuse_fine, neither}
+use Rattle.packet.specs.Datagram.{payload_part}
+use Rattle.packet.proofs.Payloads.{payload_part_lem}
+use Rattle.match_windows.specs.Spans.{size_bound}
 use Rattle.search.specs.Searching.{Searchable}
-use Rattle.search.proofs.Formed.{formed-searchable}
-use Rattle.match_checks.specs.InputChecks.{tableAndPacketCheck, inputHeader}
-use Rattle.match_placements.specs.Listing.{listIn}
+use Rattle.search.proofs.Formed.{formed_searchable}
+use Rattle.match_checks.specs.InputChecks.{table_and_packet_check, input_header}
+use Rattle.match_placements.specs.Listing.{list_in}
 
-by-seen : (w : Check) (g : List ℕ) (f : PacketHeader) → packetBy w g ≡ Seen f → (w ≡ Pass) × (f ≡ headerOf g)
-by-seen Pass g f e = (refl, cc)
-by-seen (Refuse r) g f e = (cc, cc)
+by_seen : (w : Check) (g : List ℕ) (f : PacketHeader) → packet_by w g ≡ Seen f → (w ≡ Pass) × (f ≡ header_of g)
+by_seen Pass g f e = (refl, cc)
+by_seen (Refuse r) g f e = (cc, cc)
 
-by-refused : (w : Check) (g : List ℕ) (r : Refusal) → packetBy w g ≡ Refused r → w ≡ Refuse r
-by-refused Pass g r e = cc
-by-refused (Refuse s) g r e = cc
+by_refused : (w : Check) (g : List ℕ) (r : Refusal) → packet_by w g ≡ Refused r → w ≡ Refuse r
+by_refused Pass g r e = cc
+by_refused (Refuse s) g r e = cc
 
 -- what is tested later plays no part
-refused-first : (b : Bool) (i r : Refusal) (w v : Check) → refuseIf b i w ≡ Refuse r → refuseIf b i (and_then w v) ≡ Refuse r
-refused-first true i r w v e = e
-refused-first false i r Pass v e = cc
-refused-first false i r (Refuse s) v e = e
+refused_first : (b : Bool) (i r : Refusal) (w v : Check) → refuse_if b i w ≡ Refuse r → refuse_if b i (and_then w v) ≡ Refuse r
+refused_first true i r w v e = e
+refused_first false i r Pass v e = cc
+refused_first false i r (Refuse s) v e = e
 
 -- neither 20 nor any of 30 to 34 is due, and f and s are the datagram's header fields and payload
 pub record CheckedInput (t : Table) (p d : List ℕ) (f : PacketHeader) (s : List ℕ) : Type 0 where
-  pub formed : wellFormed t ≡ true
-  pub packet : packetCheck p d ≡ Pass
-  pub header : f ≡ headerOf (datagramOf p)
-  pub payload : s ≡ payloadOf (datagramOf p)
+  pub formed : well_formed t ≡ true
+  pub packet : packet_check p d ≡ Pass
+  pub header : f ≡ header_of (datagram_of p)
+  pub payload : s ≡ payload_of (datagram_of p)
 
 -- what the checks answer, by what the table's test says
-pub input-told : (t : Table) (p d : List ℕ) {formed : Bool} {a : PacketAnswer} → formed ≡ wellFormed t → a ≡ inputHeader formed p d
-    → a ≡ inputHeader (wellFormed t) p d
-input-told t p d e k = k ∙ ap (λ (b : Bool). inputHeader b p d) e
+pub input_told : (t : Table) (p d : List ℕ) {formed : Bool} {a : PacketAnswer} → formed ≡ well_formed t → a ≡ input_header formed p d
+    → a ≡ input_header (well_formed t) p d
+input_told t p d e k = k ∙ ap (λ (b : Bool). input_header b p d) e
 
 -- ---- what the answer a says
 
-module _ (t : Table) (p d : List ℕ) {a : PacketAnswer} (e : a ≡ inputHeader (wellFormed t) p d) where
-  pub refused-check : {r : Refusal} → a ≡ Refused r → (dir : Direction) (m : FieldMap) → inputCheck t p d dir m ≡ Refuse r
-  unfolding inputCheck
-  refused-check {r} k dir m =
-      refused-first (not (wellFormed t)) refusal.IllFormed r (packetCheck p d) _ (by-refused (tableAndPacketCheck (wellFormed t) p d) (datagramOf p) r (sym e ∙ k))
+module _ (t : Table) (p d : List ℕ) {a : PacketAnswer} (e : a ≡ input_header (well_formed t) p d) where
+  pub refused_check : {r : Refusal} → a ≡ Refused r → (dir : Direction) (m : FieldMap) → input_check t p d dir m ≡ Refuse r
+  unfolding input_check
+  refused_check {r} k dir m =
+      refused_first (not (well_formed t)) refusal.IllFormed r (packet_check p d) _ (by_refused (table_and_packet_check (well_formed t) p d) (datagram_of p) r (sym e ∙ k))
 
-  pub seen-checked : {f : PacketHeader} → a ≡ Seen f → {s : List ℕ} → s ≡ payloadPart p f → CheckedInput t p d f s
-  seen-checked {f} k q =
-      let w = by-seen (tableAndPacketCheck (wellFormed t) p d) (datagramOf p) f (sym e ∙ k) in
-      let z = refuse-fine (not (wellFormed t)) refusal.IllFormed (packetCheck p d) w.0 in
+  pub seen_checked : {f : PacketHeader} → a ≡ Seen f → {s : List ℕ} → s ≡ payload_part p f → CheckedInput t p d f s
+  seen_checked {f} k q =
+      let w = by_seen (table_and_packet_check (well_formed t) p d) (datagram_of p) f (sym e ∙ k) in
+      let z = refuse_fine (not (well_formed t)) refusal.IllFormed (packet_check p d) w.0 in
       record {
-        formed = not-false (wellFormed t) z.0;
+        formed = not-false (well_formed t) z.0;
         packet = z.1;
         header = w.1;
-        payload = q ∙ ap (payloadPart p) w.1 ∙ payload-part p d z.1;
+        payload = q ∙ ap (payload_part p) w.1 ∙ payload_part_lem p d z.1;
       }
 
 -- ---- what is handed on
 
-module _ (p d : List ℕ) {s : List ℕ} (fine : packetCheck p d ≡ Pass) (part : s ≡ payloadOf (datagramOf p)) where
-  buffer-lengths : (length p ≤ maxPacket) × (length d ≤ maxDecoded)
-  unfolding packetCheck
-  buffer-lengths =
-      let w = neither _ _ (refuse-fine (ltb maxPacket (length p) || ltb maxDecoded (length d)) refusal.BufferLength _ fine).0 in
-      (ltb-false maxPacket (length p) w.0, ltb-false maxDecoded (length d) w.1)
+module _ (p d : List ℕ) {s : List ℕ} (fine : packet_check p d ≡ Pass) (part : s ≡ payload_of (datagram_of p)) where
+  buffer_lengths : (length p ≤ max_packet) × (length d ≤ max_decoded)
+  unfolding packet_check
+  buffer_lengths =
+      let w = neither _ _ (refuse_fine (ltb max_packet (length p) || ltb max_decoded (length d)) refusal.BufferLength _ fine).0 in
+      (ltb-false max_packet (length p) w.0, ltb-false max_decoded (length d) w.1)
 
-  payload-short : length s ≤ length p
-  payload-short = rw part (omega (arith, length-drop (headerOf (datagramOf p)).payload (datagramOf p), length-take (totalLength p) p))
+  payload_short : length s ≤ length p
+  payload_short = rw part (omega (arith, length-drop (header_of (datagram_of p)).payload (datagram_of p), length-take (total_length p) p))
 
-  pub lengths-small : (length s < sizeBound) × (length d < sizeBound)
-  lengths-small = (omega (arith, payload-short, buffer-lengths.0), omega (arith, buffer-lengths.1))
+  pub lengths_small : (length s < size_bound) × (length d < size_bound)
+  lengths_small = (omega (arith, payload_short, buffer_lengths.0), omega (arith, buffer_lengths.1))
 
 -- of a packet whose own check passed, whatever the table
-pub seen-small : (p d : List ℕ) {a : PacketAnswer} → a ≡ packetAnswer p d → {f : PacketHeader} → a ≡ Seen f → {s : List ℕ} → s ≡ payloadPart p f
-    → (length s < sizeBound) × (length d < sizeBound)
-unfolding packetAnswer
-seen-small p d e {f} k q =
-    let w = by-seen (packetCheck p d) (datagramOf p) f (sym e ∙ k) in
-    lengths-small p d w.0 (q ∙ ap (payloadPart p) w.1 ∙ payload-part p d w.0)
+pub seen_small : (p d : List ℕ) {a : PacketAnswer} → a ≡ packet_answer p d → {f : PacketHeader} → a ≡ Seen f → {s : List ℕ} → s ≡ payload_part p f
+    → (length s < size_bound) × (length d < size_bound)
+unfolding packet_answer
+seen_small p d e {f} k q =
+    let w = by_seen (packet_check p d) (datagram_of p) f (sym e ∙ k) in
+    lengths_small p d w.0 (q ∙ ap (payload_part p) w.1 ∙ payload_part_lem p d w.0)
 
 module _ {t : Table} {p d : List ℕ} {f : PacketHeader} {s : List ℕ} (c : CheckedInput t p d f s) where
-  pub searchable : length t.bytes < sizeBound → Searchable t.items t.count t.bytes s d
-  searchable b = let n = lengths-small p d c.packet c.payload in formed-searchable t c.formed s d b n.0 n.1
+  pub searchable : length t.bytes < size_bound → Searchable t.items t.count t.bytes s d
+  searchable b = let n = lengths_small p d c.packet c.payload in formed_searchable t c.formed s d b n.0 n.1
 
   module _ (dir : Direction) (m : FieldMap) where
-    pub check-here : inputCheck t p d dir m ≡ fieldsCheck s d m
-    unfolding inputCheck
-    check-here = rw (c.formed, c.packet, c.payload)
+    pub check_here : input_check t p d dir m ≡ fields_check s d m
+    unfolding input_check
+    check_here = rw (c.formed, c.packet, c.payload)
 
-    pub list-here : placementsOf t p d dir m ≡ listIn t f s d dir m
-    unfolding placementsOf
-    list-here = rw (c.header, c.payload)
+    pub list_here : placements_of t p d dir m ≡ list_in t f s d dir m
+    unfolding placements_of
+    list_here = rw (c.header, c.payload)

@@ -11,19 +11,19 @@ use Rattle.definitions.specs.declared.packets.Placement.{Placement}
 use Rattle.definitions.specs.declared.answers.Answer.{Answer}
 use Rattle.definitions.specs.Lists.{keep}
 use Rattle.definitions.specs.Refusals.{and_then}
-use Rattle.definitions.specs.Fields.{fieldsCheck}
-use Rattle.definitions.specs.Placements.{lexLess, listed}
-use Rattle.definitions.specs.Answers.{startsOf, head_of, unless, earlierCheck}
+use Rattle.definitions.specs.Fields.{fields_check}
+use Rattle.definitions.specs.Placements.{lex_less, listed}
+use Rattle.definitions.specs.Answers.{starts_of, head_of, unless, earlier_check}
 use Rattle.fields.specs.Seen.{seen}
 
 module _ (t : Table) (f : PacketHeader) (s d : List ℕ) (dir : Direction) (m : FieldMap) where
-  abbrev pub listIn : List (List Start)
-  listIn = listed t (seen f s d m) dir
+  abbrev pub list_in : List (List Start)
+  list_in = listed t (seen f s d m) dir
 
   -- 35, or the first of the list, or none
-  unfoldable pub firstInList : Answer
-  firstInList = unless (fieldsCheck s d m) (head_of listIn)
+  unfoldable pub first_in_list : Answer
+  first_in_list = unless (fields_check s d m) (head_of list_in)
 
   -- 35, then 36, which looks at the table alone; or the least of the list after the placement held, or none
-  unfoldable pub nextInList : Placement → Answer
-  nextInList h = unless (and_then (fieldsCheck s d m) (earlierCheck t s d dir m h)) (head_of (keep (lexLess (startsOf h)) listIn))
+  unfoldable pub next_in_list : Placement → Answer
+  next_in_list h = unless (and_then (fields_check s d m) (earlier_check t s d dir m h)) (head_of (keep (lex_less (starts_of h)) list_in))

@@ -1,8 +1,8 @@
 // The list of placements by a datagram's header fields and payload: its first, and the least after a placement held. Refusals 35 and 36 come first, in this
 // order; those before them the caller has tested.
 ghost use Rattle.std.specs.Prelude.{◌≡◌};
-ghost use Rattle.search.specs.Searching.{searchedTable, Searchable};
-ghost use Rattle.match_placements.specs.Listing.{firstInList, nextInList};
+ghost use Rattle.search.specs.Searching.{searched_table, Searchable};
+ghost use Rattle.match_placements.specs.Listing.{first_in_list, next_in_list};
 
 use definitions::answers::{Answer, Check, Refusal};
 use definitions::limits::{ITEMS, PATTERNS};
@@ -27,7 +27,7 @@ pub fn first_in<'a>(
     m: FieldMap,
 ) -> Answer
     requires { Searchable items count bytes.now payload.now decoded.now }
-    ensures { result ≡ firstInList (searchedTable protocol flow items count bytes.now) header payload.now decoded.now dir m }
+    ensures { result ≡ first_in_list (searched_table protocol flow items count bytes.now) header payload.now decoded.now dir m }
 {
     let check = fields_check(payload, decoded, m);
     if let Check::Refuse(r) = check {
@@ -65,7 +65,7 @@ pub fn next_in<'a>(
     held: Placement,
 ) -> Answer
     requires { Searchable items count bytes.now payload.now decoded.now }
-    ensures { result ≡ nextInList (searchedTable protocol flow items count bytes.now) header payload.now decoded.now dir m held }
+    ensures { result ≡ next_in_list (searched_table protocol flow items count bytes.now) header payload.now decoded.now dir m held }
 {
     let check = fields_check(payload, decoded, m);
     if let Check::Refuse(r) = check {

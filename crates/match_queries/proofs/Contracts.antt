@@ -15,7 +15,7 @@ use Rattle.definitions.specs.declared.answers.Answer.{Answer}
 use Rattle.definitions.specs.declared.answers.Query.{Query}
 use Rattle.definitions.specs.declared.answers.Query.TheVariants.{First, Next}
 use Rattle.definitions.specs.Queries.{answers}
-use Rattle.laws.proofs.Numbers.{first-told, next-told}
+use Rattle.laws.proofs.Numbers.{first_told, next_told}
 use Rattle.matcher.proofs.first.Reads as first
 use Rattle.matcher.proofs.first.Kinds as first-kinds
 use Rattle.matcher.proofs.next.Reads as next
@@ -30,17 +30,17 @@ module _ (κs : Lfts 1) (t : Table) (p d : Bor (List ℕ)) (dir : Direction) (m 
     by_next : {h : Placement} {queries : List Query} {r : Answer} {rs : List Answer} (s : AtExit (ended_of 1 next-kinds.ps next-kinds.r) κs)
         → next.Post κs (t, (p, (d, (dir, (m, (h, tt)))))) r s → Allowed r.placement queries rs → Allowed h (Next ∷ queries) (r ∷ rs)
 
-  pub allowed-is-model : {h : Placement} {queries : List Query} {rs : List Answer} → Allowed h queries rs → rs ≡ answers t p.now d.now dir m h queries
+  pub allowed_is_model : {h : Placement} {queries : List Query} {rs : List Answer} → Allowed h queries rs → rs ≡ answers t p.now d.now dir m h queries
   unfolding answers
-  allowed-is-model done = refl
-  allowed-is-model (by_first {queries = queries} {r = r} s e rest) =
-      ap (λ (l : List Answer). r ∷ l) (allowed-is-model rest) ∙ ap (λ (x : Answer). x ∷ answers t p.now d.now dir m x.placement queries) e.0
-  allowed-is-model (by_next {queries = queries} {r = r} s e rest) =
-      ap (λ (l : List Answer). r ∷ l) (allowed-is-model rest) ∙ ap (λ (x : Answer). x ∷ answers t p.now d.now dir m x.placement queries) e.0
+  allowed_is_model done = refl
+  allowed_is_model (by_first {queries = queries} {r = r} s e rest) =
+      ap (λ (l : List Answer). r ∷ l) (allowed_is_model rest) ∙ ap (λ (x : Answer). x ∷ answers t p.now d.now dir m x.placement queries) e.0
+  allowed_is_model (by_next {queries = queries} {r = r} s e rest) =
+      ap (λ (l : List Answer). r ∷ l) (allowed_is_model rest) ∙ ap (λ (x : Answer). x ∷ answers t p.now d.now dir m x.placement queries) e.0
 
   -- and the model's list is allowed
-  pub model-is-allowed : (h : Placement) (queries : List Query) → Allowed h queries (answers t p.now d.now dir m h queries)
+  pub model_is_allowed : (h : Placement) (queries : List Query) → Allowed h queries (answers t p.now d.now dir m h queries)
   unfolding answers
-  model-is-allowed h [] = done
-  model-is-allowed h (First ∷ queries) = by_first (t, (p, (d, (dir, (m, tt))))) (first-told t p.now d.now dir m refl) (model-is-allowed _ queries)
-  model-is-allowed h (Next ∷ queries) = by_next (t, (p, (d, (dir, (m, (h, tt)))))) (next-told t p.now d.now dir m h refl) (model-is-allowed _ queries)
+  model_is_allowed h [] = done
+  model_is_allowed h (First ∷ queries) = by_first (t, (p, (d, (dir, (m, tt))))) (first_told t p.now d.now dir m refl) (model_is_allowed _ queries)
+  model_is_allowed h (Next ∷ queries) = by_next (t, (p, (d, (dir, (m, (h, tt)))))) (next_told t p.now d.now dir m h refl) (model_is_allowed _ queries)

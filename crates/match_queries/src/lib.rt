@@ -1,8 +1,8 @@
 // A LIST OF QUERIES (document 01's "asks") of one table, packet, decoded buffer, direction and map: the matcher's "first" and "next", called one after the
 // other as a caller does, every answer written down as document 01 compares answers. Demand 3 is one claim about the whole list.
 ghost use Rattle.std.specs.Prelude.{◌≡◌};
-ghost use Rattle.definitions.specs.Queries.{queryAnswer};
-ghost use Rattle.match_queries.specs.Runs.{queryOfByte, room, written};
+ghost use Rattle.definitions.specs.Queries.{query_answer};
+ghost use Rattle.match_queries.specs.Runs.{query_of_byte, room, written};
 
 use definitions::answers::{Answer, Query};
 use definitions::packets::{Direction, FieldMap, Placement};
@@ -11,7 +11,7 @@ use match_numbers::{NUMBERS, put_answer};
 
 // A query of the list that is lent, a byte: 0 is "first", any other "next".
 fn query_of(b: u8) -> Query
-    ensures { result ≡ queryOfByte b }
+    ensures { result ≡ query_of_byte b }
 {
     if b == 0 { Query::First } else { Query::Next }
 }
@@ -26,7 +26,7 @@ fn answer_to<'a>(
     held: Placement,
     query: Query,
 ) -> Answer
-    ensures { result ≡ queryAnswer t p.now decoded.now dir m held query }
+    ensures { result ≡ query_answer t p.now decoded.now dir m held query }
 {
     match query {
         Query::First => matcher::first(t, p, decoded, dir, m),

@@ -3,5 +3,5 @@ use Rattle.std.specs.Prelude.{ℕ, List}
 use Rattle.definitions.specs.declared.packets.Start.{Start}
 use Rattle.definitions.specs.Canonical.{decimal}
 
-abbrev pub startText : Start → List ℕ
-startText s = decimal s.at
+abbrev pub start_text : Start → List ℕ
+start_text s = decimal s.at

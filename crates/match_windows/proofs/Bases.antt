@@ -13,25 +13,25 @@ use Rattle.definitions.specs.declared.table.Distance.TheVariants as distance
 use Rattle.definitions.specs.declared.table.Within.{Within}
 use Rattle.definitions.specs.declared.table.Within.TheVariants as within
 use Rattle.definitions.specs.declared.packets.LastMatch.{LastMatch}
-use Rattle.definitions.specs.Windows.{last_end, base, windowStart}
-use Rattle.match_windows.specs.Spans.{sizeBound}
+use Rattle.definitions.specs.Windows.{last_end, base, window_start}
+use Rattle.match_windows.specs.Spans.{size_bound}
 use Rattle.match_windows.specs.Ends.{Begins}
 
-pub base-small : (l : LastMatch) (r : Reference) → last_end l < sizeBound → base l r < sizeBound
-base-small l reference.Match h = h
-base-small l reference.Packet h = omega arith
-base-small l reference.Context h = omega arith
+pub base_small : (l : LastMatch) (r : Reference) → last_end l < size_bound → base l r < size_bound
+base_small l reference.Match h = h
+base_small l reference.Packet h = omega arith
+base_small l reference.Context h = omega arith
 
 -- without a distance the field's length plays no part
-pub free-start : (l : LastMatch) (len : ℕ) (w : Within) → windowStart l 0 distance.Unset w ≡ windowStart l len distance.Unset w
-free-start l len within.Unset = refl
-free-start l len (within.Given w) = refl
+pub free_start : (l : LastMatch) (len : ℕ) (w : Within) → window_start l 0 distance.Unset w ≡ window_start l len distance.Unset w
+free_start l len within.Unset = refl
+free_start l len (within.Given w) = refl
 
 -- with a reach alone the window starts at what it is counted from
-pub within-begins : (l : LastMatch) (w : Within) (v : WithinValue) → w ≡ within.Given v → last_end l < sizeBound
-    → (r : ℕ) → r ≡ base l v.reference → (s : ℤ) → s ≡ pos r → Begins (windowStart l 0 distance.Unset w) s
-within-begins l w v e h r q s z = rw (e, z, q) (record { is = refl; small = omega (arith, base-small l v.reference h) })
+pub within_begins : (l : LastMatch) (w : Within) (v : WithinValue) → w ≡ within.Given v → last_end l < size_bound
+    → (r : ℕ) → r ≡ base l v.reference → (s : ℤ) → s ≡ pos r → Begins (window_start l 0 distance.Unset w) s
+within_begins l w v e h r q s z = rw (e, z, q) (record { is = refl; small = omega (arith, base_small l v.reference h) })
 
 -- a start is read back from its bits
-pub begins-back : {z s : ℤ} → SFits w64 s → Begins z s → Begins z (to_z w64 (of_z w64 s))
-begins-back {z} {s} f b = rw (to_z-of_z w64 s f) b
+pub begins_back : {z s : ℤ} → SFits w64 s → Begins z s → Begins z (to_z w64 (of_z w64 s))
+begins_back {z} {s} f b = rw (to_z-of_z w64 s f) b

@@ -26,11 +26,11 @@ small (pos m) = omega arith
 small (negsuc m) = omega arith
 
 module _ (z : ℤ) (f : SFits w64 z) (near : mag z < start_bound) where
-  pub raised-zero : lt_z (to_z w64 (of_z w64 z)) (pos 0) ≡ true → Begins (pos (clip z)) (pos 0)
-  raised-zero e = record { is = below z (rw (to_z-of_z w64 z f) at e); small = omega arith }
+  pub raised_zero : lt_z (to_z w64 (of_z w64 z)) (pos 0) ≡ true → Begins (pos (clip z)) (pos 0)
+  raised_zero e = record { is = below z (rw (to_z-of_z w64 z f) at e); small = omega arith }
 
-  pub raised-self : lt_z (to_z w64 (of_z w64 z)) (pos 0) ≡ false → Begins (pos (clip z)) (to_z w64 (of_z w64 z))
-  raised-self e =
+  pub raised_self : lt_z (to_z w64 (of_z w64 z)) (pos 0) ≡ false → Begins (pos (clip z)) (to_z w64 (of_z w64 z))
+  raised_self e =
       let q : to_z w64 (of_z w64 z) ≡ pos (clip z) = to_z-of_z w64 z f ∙ natural z (rw (to_z-of_z w64 z f) at e) in
       rw q (record { is = refl; small = omega (arith, small z) })
 
@@ -47,26 +47,26 @@ unsigned (pos m) e = (tt, omega arith)
 unsigned (negsuc m) e = absurd (false≢true e)
 
 module _ (z : ℤ) (f : SFits w64 z) (most : ℕ) (few : most < start_bound) where
-  pub place-above : lt_z (to_z w64 most) (to_z w64 (of_z w64 z)) ≡ true → most ≡ min (clip z) most
-  place-above e = above z most (rw (to_z-of_z w64 z f, to_z_pos w64 most (omega arith)) at e)
+  pub place_above : lt_z (to_z w64 most) (to_z w64 (of_z w64 z)) ≡ true → most ≡ min (clip z) most
+  place_above e = above z most (rw (to_z-of_z w64 z f, to_z_pos w64 most (omega arith)) at e)
 
-  pub place-among : le_z (pos 0) z ≡ true → lt_z (to_z w64 most) (to_z w64 (of_z w64 z)) ≡ false → nat_abs (to_z w64 (of_z w64 z)) ≡ min (clip z) most
-  place-among e g = rw (to_z-of_z w64 z f) (among z most e (rw (to_z-of_z w64 z f, to_z_pos w64 most (omega arith)) at g))
+  pub place_among : le_z (pos 0) z ≡ true → lt_z (to_z w64 most) (to_z w64 (of_z w64 z)) ≡ false → nat_abs (to_z w64 (of_z w64 z)) ≡ min (clip z) most
+  place_among e g = rw (to_z-of_z w64 z f) (among z most e (rw (to_z-of_z w64 z f, to_z_pos w64 most (omega arith)) at g))
 
-  pub place-cast : le_z (pos 0) z ≡ true → T (non_neg (to_z w64 (of_z w64 z))) × Fits w64 (nat_abs (to_z w64 (of_z w64 z)))
-  place-cast e =
+  pub place_cast : le_z (pos 0) z ≡ true → T (non_neg (to_z w64 (of_z w64 z))) × Fits w64 (nat_abs (to_z w64 (of_z w64 z)))
+  place_cast e =
       let h = unsigned z e in
       rw (to_z-of_z w64 z f) (h.0, record { fits = omega (arith, h.1, f.sfits) })
 
 -- a raised start, read back from its bits, is not negative, and is clipped as the start is
-pub raised-back : (z s : ℤ) → SFits w64 s → s ≡ pos (clip z) → to_z w64 (of_z w64 s) ≡ pos (clip z)
-raised-back z s f e = to_z-of_z w64 s f ∙ e
+pub raised_back : (z s : ℤ) → SFits w64 s → s ≡ pos (clip z) → to_z w64 (of_z w64 s) ≡ pos (clip z)
+raised_back z s f e = to_z-of_z w64 s f ∙ e
 
 -- an end that n bytes reach is not negative
-pub reached-natural : (n : ℕ) (e : ℤ) → le_z (pos n) e ≡ true → le_z (pos 0) e ≡ true
-reached-natural n (pos k) t = le-leb 0 k (omega arith)
-reached-natural n (negsuc k) t = t
+pub reached_natural : (n : ℕ) (e : ℤ) → le_z (pos n) e ≡ true → le_z (pos 0) e ≡ true
+reached_natural n (pos k) t = le-leb 0 k (omega arith)
+reached_natural n (negsuc k) t = t
 
-pub le-clip : (z : ℤ) (at : ℕ) → le_z z (pos at) ≡ leb (clip z) at
-le-clip (pos n) at = refl
-le-clip (negsuc n) at = sym (leb-zero at)
+pub le_clip : (z : ℤ) (at : ℕ) → le_z z (pos at) ≡ leb (clip z) at
+le_clip (pos n) at = refl
+le_clip (negsuc n) at = sym (leb-zero at)

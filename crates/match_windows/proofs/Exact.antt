@@ -14,11 +14,11 @@ use Rattle.definitions.specs.declared.table.WithinValue.{WithinValue}
 use Rattle.definitions.specs.declared.table.Within.{Within}
 use Rattle.definitions.specs.declared.table.Within.TheVariants as within
 use Rattle.definitions.specs.declared.packets.LastMatch.{LastMatch}
-use Rattle.definitions.specs.Windows.{windowStart, beforeEnd, inWindow}
+use Rattle.definitions.specs.Windows.{window_start, before_end, in_window}
 use Rattle.match_windows.specs.declared.Window.{Window}
 use Rattle.match_windows.specs.Spans.{Spans}
-use Rattle.match_windows.specs.Ends.{clip, endsTo}
-use Rattle.match_windows.proofs.Clips.{le-clip}
+use Rattle.match_windows.specs.Ends.{clip, ends_to}
+use Rattle.match_windows.proofs.Clips.{le_clip}
 
 same_test : (a b : Bool) → (a ≡ true → b ≡ true) → (b ≡ true → a ≡ true) → a ≡ b
 same_test true b f g = sym (f refl)
@@ -69,23 +69,23 @@ limited s (pos k) len n at =
 
 -- the span's end where a reach is given
 module _ (s : ℤ) (w : Within) (v : WithinValue) (len n : ℕ) (e : w ≡ within.Given v) where
-  pub to_none : le_z (pos n) (s +ℤ pos v.number) ≡ false → 0 ≡ endsTo s w len n
-  unfolding endsTo
+  pub to_none : le_z (pos n) (s +ℤ pos v.number) ≡ false → 0 ≡ ends_to s w len n
+  unfolding ends_to
   to_none f = rw (e, f)
 
-  pub to_some : le_z (pos n) (s +ℤ pos v.number) ≡ true → (r : ℕ) → r ≡ min (clip (s +ℤ pos v.number)) len + 1 - n → r ≡ endsTo s w len n
-  unfolding endsTo
+  pub to_some : le_z (pos n) (s +ℤ pos v.number) ≡ true → (r : ℕ) → r ≡ min (clip (s +ℤ pos v.number)) len + 1 - n → r ≡ ends_to s w len n
+  unfolding ends_to
   to_some f r q = rw (e, f) q
 
 exactly : (s : ℤ) (w : Within) (len n at : ℕ)
-    → (le_z s (pos at) && beforeEnd s w len (at + n)) ≡ (leb (min (clip s) (len + 1)) at && ltb at (endsTo s w len n))
-unfolding endsTo
-exactly s within.Unset len n at = rw (le-clip s at) (span (clip s) n len len at (omega arith))
-exactly s (within.Given w) len n at = rw (le-clip s at) (limited (clip s) (s +ℤ pos w.number) len n at)
+    → (le_z s (pos at) && before_end s w len (at + n)) ≡ (leb (min (clip s) (len + 1)) at && ltb at (ends_to s w len n))
+unfolding ends_to
+exactly s within.Unset len n at = rw (le_clip s at) (span (clip s) n len len at (omega arith))
+exactly s (within.Given w) len n at = rw (le_clip s at) (limited (clip s) (s +ℤ pos w.number) len n at)
 
 -- before the span's end the bytes lie inside the field
-inner : (s : ℤ) (w : Within) (len n at : ℕ) → at < endsTo s w len n → at + n ≤ len
-unfolding endsTo
+inner : (s : ℤ) (w : Within) (len n at : ℕ) → at < ends_to s w len n → at + n ≤ len
+unfolding ends_to
 inner s within.Unset len n at h = omega arith
 inner s (within.Given w) len n at h =
     by_cases (le_z (pos n) (s +ℤ pos w.number))
@@ -93,11 +93,11 @@ inner s (within.Given w) len n at h =
     (λ t. let k : at < 0 = rw t at h in omega arith)
 
 pub spans : (p : Pattern) (l : LastMatch) (len : ℕ) (s : ℤ) (w : Window)
-    → s ≡ windowStart l len p.distance p.within
+    → s ≡ window_start l len p.distance p.within
     → w.from ≡ min (clip s) (len + 1)
-    → w.to ≡ endsTo s p.within len p.len
+    → w.to ≡ ends_to s p.within len p.len
     → Spans p l len w
-unfolding inWindow
+unfolding in_window
 spans p l len s w e f t =
     record {
       exact = λ at. rw (← e, f, t) (exactly s p.within len p.len at);

@@ -10,74 +10,74 @@ use mir.Val.{Fits, SFits, to_z, of_z}
 use mir.ValLaws.{to_z-of_z, to_z_pos}
 use borrow.Author.Tests.{ltb-true, ltb-false}
 use Rattle.forms.proofs.Bools.{by_cases}
-use Rattle.match_windows.specs.Spans.{sizeBound, start_bound}
+use Rattle.match_windows.specs.Spans.{size_bound, start_bound}
 use Rattle.match_windows.specs.Ends.{Begins}
 
-mag-sub : (a b : ℕ) → mag (sub_ℕ a b) ≤ a + b
-mag-sub a b =
+mag_sub : (a b : ℕ) → mag (sub_ℕ a b) ≤ a + b
+mag_sub a b =
     by_cases (ltb a b)
     (λ e. let h = ltb-true a b e in rw e (omega arith))
     (λ e. let h = ltb-false a b e in rw e (omega arith))
 
 pub mag_sum : (a z : ℤ) → mag (a +ℤ z) ≤ mag a + suc (mag z)
 mag_sum (pos a) (pos n) = omega arith
-mag_sum (pos a) (negsuc n) = mag-sub a (suc n)
-mag_sum (negsuc a) (pos n) = omega (arith, mag-sub n (suc a))
+mag_sum (pos a) (negsuc n) = mag_sub a (suc n)
+mag_sum (negsuc a) (pos n) = omega (arith, mag_sub n (suc a))
 mag_sum (negsuc a) (negsuc n) = omega arith
 
-mag-negative : (z : ℤ) → mag (neg_ℤ z) ≤ suc (mag z)
-mag-negative (pos zero) = omega arith
-mag-negative (pos (suc n)) = omega arith
-mag-negative (negsuc n) = omega arith
+mag_negative : (z : ℤ) → mag (neg_ℤ z) ≤ suc (mag z)
+mag_negative (pos zero) = omega arith
+mag_negative (pos (suc n)) = omega arith
+mag_negative (negsuc n) = omega arith
 
-pub mag-difference : (a z : ℤ) → mag (a -ℤ z) ≤ mag a + suc (suc (mag z))
-mag-difference a z = omega (arith, mag_sum a (neg_ℤ z), mag-negative z)
+pub mag_difference : (a z : ℤ) → mag (a -ℤ z) ≤ mag a + suc (suc (mag z))
+mag_difference a z = omega (arith, mag_sum a (neg_ℤ z), mag_negative z)
 
 wider : (z : ℤ) → SFits w32 z → SFits w64 z
 wider z f = record { sfits = omega (arith, f.sfits) }
 
-pub offset-cast : (d : ℤ) → SFits w32 d → SFits w64 (to_z w32 (of_z w32 d))
-offset-cast d f = rw (to_z-of_z w32 d f) (wider d f)
+pub offset_cast : (d : ℤ) → SFits w32 d → SFits w64 (to_z w32 (of_z w32 d))
+offset_cast d f = rw (to_z-of_z w32 d f) (wider d f)
 
 -- a length and an offset, added or taken away: an operation that grows by no more than its operands
-module _ (op : ℤ → ℤ → ℤ) (near : (a z : ℤ) → mag (op a z) ≤ mag a + suc (suc (mag z))) (r : ℕ) (d : ℤ) (few : r < sizeBound) (f : SFits w32 d) where
-  shift-sum : op (to_z w64 r) (to_z w64 (of_z w64 (to_z w32 (of_z w32 d)))) ≡ op (pos r) d
-  shift-sum = rw (to_z-of_z w32 d f, to_z-of_z w64 d (wider d f), to_z_pos w64 r (omega arith))
+module _ (op : ℤ → ℤ → ℤ) (near : (a z : ℤ) → mag (op a z) ≤ mag a + suc (suc (mag z))) (r : ℕ) (d : ℤ) (few : r < size_bound) (f : SFits w32 d) where
+  shift_sum : op (to_z w64 r) (to_z w64 (of_z w64 (to_z w32 (of_z w32 d)))) ≡ op (pos r) d
+  shift_sum = rw (to_z-of_z w32 d f, to_z-of_z w64 d (wider d f), to_z_pos w64 r (omega arith))
 
   pub shift_small : mag (op (pos r) d) < start_bound
   shift_small = omega (arith, near (pos r) d, f.sfits)
 
-  shift-held : SFits w64 (op (pos r) d)
-  shift-held = record { sfits = omega (arith, shift_small) }
+  shift_held : SFits w64 (op (pos r) d)
+  shift_held = record { sfits = omega (arith, shift_small) }
 
   pub shift_fits : SFits w64 (op (to_z w64 r) (to_z w64 (of_z w64 (to_z w32 (of_z w32 d)))))
-  shift_fits = rw shift-sum shift-held
+  shift_fits = rw shift_sum shift_held
 
   pub shift_is : to_z w64 (of_z w64 (op (to_z w64 r) (to_z w64 (of_z w64 (to_z w32 (of_z w32 d)))))) ≡ op (pos r) d
-  shift_is = rw shift-sum (to_z-of_z w64 (op (pos r) d) shift-held)
+  shift_is = rw shift_sum (to_z-of_z w64 (op (pos r) d) shift_held)
 
   -- the same, answered by a callee
-  pub shift-begins : (s : ℤ) → SFits w64 s → s ≡ op (pos r) (to_z w32 (of_z w32 d)) → Begins (op (pos r) d) (to_z w64 (of_z w64 s))
-  shift-begins s g e =
+  pub shift_begins : (s : ℤ) → SFits w64 s → s ≡ op (pos r) (to_z w32 (of_z w32 d)) → Begins (op (pos r) d) (to_z w64 (of_z w64 s))
+  shift_begins s g e =
       let q : s ≡ op (pos r) d = e ∙ ap (op (pos r)) (to_z-of_z w32 d f) in
       rw (to_z-of_z w64 s g, q) (record { is = refl; small = shift_small })
 
-pub near-sum : (a z : ℤ) → mag (a +ℤ z) ≤ mag a + suc (suc (mag z))
-near-sum a z = omega (arith, mag_sum a z)
+pub near_sum : (a z : ℤ) → mag (a +ℤ z) ≤ mag a + suc (suc (mag z))
+near_sum a z = omega (arith, mag_sum a z)
 
 -- a start and a reach
 module _ (s : ℤ) (n : ℕ) (few : mag s < start_bound) (g : SFits w64 s) (f : Fits w16 n) where
-  end-sum : to_z w64 (of_z w64 s) +ℤ to_z w64 n ≡ s +ℤ pos n
-  end-sum = rw (to_z-of_z w64 s g, to_z_pos w64 n (omega (arith, f.fits)))
+  end_sum : to_z w64 (of_z w64 s) +ℤ to_z w64 n ≡ s +ℤ pos n
+  end_sum = rw (to_z-of_z w64 s g, to_z_pos w64 n (omega (arith, f.fits)))
 
-  end-small : SFits w64 (s +ℤ pos n)
-  end-small = record { sfits = omega (arith, mag_sum s (pos n), f.fits) }
+  end_small : SFits w64 (s +ℤ pos n)
+  end_small = record { sfits = omega (arith, mag_sum s (pos n), f.fits) }
 
   pub end_fits : SFits w64 (to_z w64 (of_z w64 s) +ℤ to_z w64 n)
-  end_fits = rw end-sum end-small
+  end_fits = rw end_sum end_small
 
   pub end_is : to_z w64 (of_z w64 (to_z w64 (of_z w64 s) +ℤ to_z w64 n)) ≡ s +ℤ pos n
-  end_is = rw end-sum (to_z-of_z w64 (s +ℤ pos n) end-small)
+  end_is = rw end_sum (to_z-of_z w64 (s +ℤ pos n) end_small)
 
 -- the end that a callee answered, read back from its bits
 pub end_back : (s e : ℤ) (n : ℕ) → SFits w64 s → SFits w64 e → e ≡ to_z w64 (of_z w64 s) +ℤ pos n → to_z w64 (of_z w64 e) ≡ s +ℤ pos n

@@ -17,6 +17,6 @@ pub record Begins (z s : ℤ) : Type 0 where
   pub small : mag s < start_bound
 
 -- one past the last start at which n bytes end by the window's end
-unfoldable pub endsTo : ℤ → Within → ℕ → ℕ → ℕ
-endsTo s within.Unset len n = len + 1 - n
-endsTo s (within.Given w) len n = if le_z (pos n) (s +ℤ pos w.number) then min (clip (s +ℤ pos w.number)) len + 1 - n else 0
+unfoldable pub ends_to : ℤ → Within → ℕ → ℕ → ℕ
+ends_to s within.Unset len n = len + 1 - n
+ends_to s (within.Given w) len n = if le_z (pos n) (s +ℤ pos w.number) then min (clip (s +ℤ pos w.number)) len + 1 - n else 0

@@ -2,8 +2,8 @@
 ghost use Rattle.std.specs.Prelude.{◌≡◌, true, ◌+◌, ◌-◌, ◌<◌, min, pos, ◌+ℤ◌, ◌-ℤ◌};
 ghost use Rattle.std.specs.Int.Signed.{mag, le_z};
 ghost use Rattle.definitions.specs.Windows as windows;
-ghost use Rattle.match_windows.specs.Spans.{sizeBound, start_bound, Measured, Spans};
-ghost use Rattle.match_windows.specs.Ends.{clip, Begins, endsTo};
+ghost use Rattle.match_windows.specs.Spans.{size_bound, start_bound, Measured, Spans};
+ghost use Rattle.match_windows.specs.Ends.{clip, Begins, ends_to};
 
 use crate::Window;
 use definitions::packets::LastMatch;
@@ -30,28 +30,28 @@ fn base(last: LastMatch, reference: Reference) -> usize
 }
 
 fn forward(r: usize, offset: i32) -> i64
-    requires { r < sizeBound }
+    requires { r < size_bound }
     ensures { result ≡ pos r +ℤ offset }
 {
     r as i64 + offset as i64
 }
 
 fn backward(len: usize, offset: i32) -> i64
-    requires { len < sizeBound }
+    requires { len < size_bound }
     ensures { result ≡ pos len -ℤ offset }
 {
     len as i64 - offset as i64
 }
 
 fn unshifted(r: usize) -> i64
-    requires { r < sizeBound }
+    requires { r < size_bound }
     ensures { result ≡ pos r }
 {
     r as i64
 }
 
 fn shifted(last: LastMatch, len: usize, d: DistanceValue) -> i64
-    requires { (windows.last_end last < sizeBound) × (len < sizeBound) }
+    requires { (windows.last_end last < size_bound) × (len < size_bound) }
     ensures { Begins (windows.shifted last len d) result }
 {
     if d.reverse {
@@ -64,8 +64,8 @@ fn shifted(last: LastMatch, len: usize, d: DistanceValue) -> i64
 
 // The start where no distance is given.
 fn reached(last: LastMatch, within: Within) -> i64
-    requires { windows.last_end last < sizeBound }
-    ensures { Begins (windows.windowStart last 0 Distance.Unset within) result }
+    requires { windows.last_end last < size_bound }
+    ensures { Begins (windows.window_start last 0 Distance.Unset within) result }
 {
     match within {
         Within::Unset => 0,
@@ -78,8 +78,8 @@ fn reached(last: LastMatch, within: Within) -> i64
 }
 
 fn window_start(last: LastMatch, len: usize, distance: Distance, within: Within) -> i64
-    requires { (windows.last_end last < sizeBound) × (len < sizeBound) }
-    ensures { Begins (windows.windowStart last len distance within) result }
+    requires { (windows.last_end last < size_bound) × (len < size_bound) }
+    ensures { Begins (windows.window_start last len distance within) result }
 {
     match distance {
         Distance::Unset => reached(last, within),
@@ -96,7 +96,7 @@ fn window_end(s: i64, number: u16) -> i64
 
 // So many bytes from 0 on stand before the end.
 fn reaches(e: i64, n: usize) -> bool
-    requires { n < sizeBound }
+    requires { n < size_bound }
     ensures { result ≡ le_z (pos n) e }
 {
     (n as i64) <= e
@@ -123,15 +123,15 @@ fn place(z: i64, most: usize) -> usize
 
 // How many starts leave room for n bytes before an end.
 fn room(end: usize, n: usize) -> usize
-    requires { end < sizeBound }
+    requires { end < size_bound }
     ensures { result ≡ end + 1 - n }
 {
     if end < n { 0 } else { end - n + 1 }
 }
 
 fn starts_to(s: i64, within: Within, len: usize, n: usize) -> usize
-    requires { (mag s < start_bound) × (len < sizeBound) × (n < sizeBound) }
-    ensures { result ≡ endsTo s within len n }
+    requires { (mag s < start_bound) × (len < size_bound) × (n < size_bound) }
+    ensures { result ≡ ends_to s within len n }
 {
     let Within::Given(w) = within else {
         return room(len, n);

@@ -16,53 +16,53 @@ use Rattle.definitions.specs.declared.answers.PacketAnswer.{PacketAnswer}
 use Rattle.definitions.specs.declared.answers.PacketAnswer.TheVariants as packet
 use Rattle.definitions.specs.declared.answers.Verdict.TheVariants as verdict
 use Rattle.definitions.specs.declared.answers.Answer.{Answer}
-use Rattle.definitions.specs.WellFormed.{wellFormed}
-use Rattle.definitions.specs.Packet.{packetAnswer}
-use Rattle.definitions.specs.Fields.{fieldsCheck}
-use Rattle.definitions.specs.Answers.{refusedAnswer, head_of, unless, verdictBy, verdictAnswer, firstAnswer, nextAnswer}
-use Rattle.match_answers.specs.Verdicts.{verdictOf}
-use Rattle.match_checks.specs.InputChecks.{inputHeader}
-use Rattle.match_placements.specs.Listing.{listIn, firstInList, nextInList}
-use Rattle.match_placements.proofs.CheckedInput.{CheckedInput, refused-check, check-here, list-here}
+use Rattle.definitions.specs.WellFormed.{well_formed}
+use Rattle.definitions.specs.Packet.{packet_answer}
+use Rattle.definitions.specs.Fields.{fields_check}
+use Rattle.definitions.specs.Answers.{refused_answer, head_of, unless, verdict_by, verdict_answer, first_answer, next_answer}
+use Rattle.match_answers.specs.Verdicts.{verdict_of}
+use Rattle.match_checks.specs.InputChecks.{input_header}
+use Rattle.match_placements.specs.Listing.{list_in, first_in_list, next_in_list}
+use Rattle.match_placements.proofs.CheckedInput.{CheckedInput, refused_check, check_here, list_here}
 
 -- ---- a refusal is due: a is what the checks answered, x the answer given
 
-module _ (t : Table) (p d : List ℕ) (dir : Direction) (m : FieldMap) {a : PacketAnswer} (e : a ≡ inputHeader (wellFormed t) p d) {r : Refusal}
+module _ (t : Table) (p d : List ℕ) (dir : Direction) (m : FieldMap) {a : PacketAnswer} (e : a ≡ input_header (well_formed t) p d) {r : Refusal}
     (k : a ≡ packet.Refused r) where
-  pub verdict-refused : verdict.Refused r ≡ verdictAnswer t p d dir m
-  unfolding verdictAnswer
-  verdict-refused = rw (refused-check t p d e k dir m)
+  pub verdict_refused : verdict.Refused r ≡ verdict_answer t p d dir m
+  unfolding verdict_answer
+  verdict_refused = rw (refused_check t p d e k dir m)
 
-  pub first-refused : {x : Answer} → x ≡ refusedAnswer r → x ≡ firstAnswer t p d dir m
-  unfolding firstAnswer
-  first-refused g = rw (refused-check t p d e k dir m) g
+  pub first_refused : {x : Answer} → x ≡ refused_answer r → x ≡ first_answer t p d dir m
+  unfolding first_answer
+  first_refused g = rw (refused_check t p d e k dir m) g
 
-  pub next-refused : (h : Placement) {x : Answer} → x ≡ refusedAnswer r → x ≡ nextAnswer t p d dir m h
-  unfolding nextAnswer
-  next-refused h g = rw (refused-check t p d e k dir m) g
+  pub next_refused : (h : Placement) {x : Answer} → x ≡ refused_answer r → x ≡ next_answer t p d dir m h
+  unfolding next_answer
+  next_refused h g = rw (refused_check t p d e k dir m) g
 
 -- ---- the packet passed its checks: f and s are its header fields and payload
 
-verdict-head : (w : Check) (l : List (List Start)) → verdictOf (unless w (head_of l)).found ≡ verdictBy w l
-verdict-head Pass [] = refl
-verdict-head Pass (q ∷ l) = refl
-verdict-head (Refuse r) l = refl
+verdict_head : (w : Check) (l : List (List Start)) → verdict_of (unless w (head_of l)).found ≡ verdict_by w l
+verdict_head Pass [] = refl
+verdict_head Pass (q ∷ l) = refl
+verdict_head (Refuse r) l = refl
 
 module _ {t : Table} {p d : List ℕ} {f : PacketHeader} {s : List ℕ} (c : CheckedInput t p d f s) (dir : Direction) (m : FieldMap) where
-  pub verdict-here : verdictOf (firstInList t f s d dir m).found ≡ verdictAnswer t p d dir m
-  unfolding firstInList verdictAnswer
-  verdict-here = rw (check-here c dir m, list-here c dir m) (verdict-head (fieldsCheck s d m) (listIn t f s d dir m))
+  pub verdict_here : verdict_of (first_in_list t f s d dir m).found ≡ verdict_answer t p d dir m
+  unfolding first_in_list verdict_answer
+  verdict_here = rw (check_here c dir m, list_here c dir m) (verdict_head (fields_check s d m) (list_in t f s d dir m))
 
-  pub first-here : firstInList t f s d dir m ≡ firstAnswer t p d dir m
-  unfolding firstInList firstAnswer
-  first-here = rw (check-here c dir m, list-here c dir m)
+  pub first_here : first_in_list t f s d dir m ≡ first_answer t p d dir m
+  unfolding first_in_list first_answer
+  first_here = rw (check_here c dir m, list_here c dir m)
 
-  pub next_here : (h : Placement) → nextInList t f s d dir m h ≡ nextAnswer t p d dir m h
-  unfolding nextInList nextAnswer
-  next_here h = rw (check-here c dir m, list-here c dir m)
+  pub next_here : (h : Placement) → next_in_list t f s d dir m h ≡ next_answer t p d dir m h
+  unfolding next_in_list next_answer
+  next_here h = rw (check_here c dir m, list_here c dir m)
 
 -- ---- a table that is known to be well formed
 
-pub formed-header : (t : Table) (p d : List ℕ) → wellFormed t ≡ true → packetAnswer p d ≡ inputHeader (wellFormed t) p d
-unfolding packetAnswer
-formed-header t p d e = rw e
+pub formed_header : (t : Table) (p d : List ℕ) → well_formed t ≡ true → packet_answer p d ≡ input_header (well_formed t) p d
+unfolding packet_answer
+formed_header t p d e = rw e

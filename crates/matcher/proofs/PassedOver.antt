@@ -17,74 +17,74 @@ use Rattle.definitions.specs.declared.packets.Start.{Start}
 use Rattle.definitions.specs.declared.answers.Refusal.TheVariants as refusal
 use Rattle.definitions.specs.declared.answers.Check.{Check}
 use Rattle.definitions.specs.declared.answers.Check.TheVariants.{Pass, Refuse}
-use Rattle.definitions.specs.Limits.{maxPacket, maxDecoded}
-use Rattle.definitions.specs.Refusals.{refuseIf, and_then}
-use Rattle.definitions.specs.WellFormed.{wellFormed}
-use Rattle.definitions.specs.Tests.{flowHolds}
-use Rattle.definitions.specs.Packet.{bigEndian, versionOf, headerWords, headerLength, totalLength, datagramOf, headerOf, payloadOf, packetCheck}
-use Rattle.definitions.specs.Fields.{view_of, fieldsCheck}
-use Rattle.definitions.specs.Placements.{only_if, headHolds, listed}
-use Rattle.definitions.specs.Answers.{verdictBy, inputCheck, placementsOf, verdictAnswer}
-use Rattle.definitions.specs.Decisions.{isMet}
-use Rattle.laws.proofs.Checks.{refuse-fine, else-fine, neither}
-use Rattle.matcher.specs.PassedOver.{mayMeet}
+use Rattle.definitions.specs.Limits.{max_packet, max_decoded}
+use Rattle.definitions.specs.Refusals.{refuse_if, and_then}
+use Rattle.definitions.specs.WellFormed.{well_formed}
+use Rattle.definitions.specs.Tests.{flow_holds}
+use Rattle.definitions.specs.Packet.{big_endian, version_of, header_words, header_length, total_length, datagram_of, header_of, payload_of, packet_check}
+use Rattle.definitions.specs.Fields.{view_of, fields_check}
+use Rattle.definitions.specs.Placements.{only_if, head_holds, listed}
+use Rattle.definitions.specs.Answers.{verdict_by, input_check, placements_of, verdict_answer}
+use Rattle.definitions.specs.Decisions.{is_met}
+use Rattle.laws.proofs.Checks.{refuse_fine, else_fine, neither}
+use Rattle.matcher.specs.PassedOver.{may_meet}
 
 -- ---- as the code finds it
 
 module _ (protocol : ℕ) (flow : Flow) (p : List ℕ) (dir : Direction) where
-  pub too_short : length p < 10 → false ≡ mayMeet protocol flow p dir
-  unfolding mayMeet
+  pub too_short : length p < 10 → false ≡ may_meet protocol flow p dir
+  unfolding may_meet
   too_short h = rw (lt-leb 10 (length p) h)
 
-  pub other-protocol : 10 ≤ length p → (get_or p 9 0 ≡ protocol → ⊥) → false ≡ mayMeet protocol flow p dir
-  unfolding mayMeet
-  other-protocol h f = rw (le-leb 10 (length p) h, ne_eqb (get_or p 9 0) protocol f)
+  pub other_protocol : 10 ≤ length p → (get_or p 9 0 ≡ protocol → ⊥) → false ≡ may_meet protocol flow p dir
+  unfolding may_meet
+  other_protocol h f = rw (le-leb 10 (length p) h, ne_eqb (get_or p 9 0) protocol f)
 
-  pub by-flow : 10 ≤ length p → get_or p 9 0 ≡ protocol → flowHolds flow dir ≡ mayMeet protocol flow p dir
-  unfolding mayMeet
-  by-flow h e = rw (le-leb 10 (length p) h, eq-eqb (get_or p 9 0) protocol e)
+  pub by_flow : 10 ≤ length p → get_or p 9 0 ≡ protocol → flow_holds flow dir ≡ may_meet protocol flow p dir
+  unfolding may_meet
+  by_flow h e = rw (le-leb 10 (length p) h, eq-eqb (get_or p 9 0) protocol e)
 
 -- ---- what it says
 
-module _ (p decoded : List ℕ) (fine : packetCheck p decoded ≡ Pass) where
+module _ (p decoded : List ℕ) (fine : packet_check p decoded ≡ Pass) where
   -- the datagram has its header, and lies in the packet
-  header-there : (10 ≤ length p) × (10 ≤ totalLength p)
-  unfolding packetCheck
-  header-there =
-      let a = (refuse-fine (ltb maxPacket (length p) || ltb maxDecoded (length decoded)) refusal.BufferLength _ fine).1 in
-      let b = refuse-fine (ltb (length p) 20 || not (eqb (versionOf p) 4)) refusal.NotIpv4 _ a in
-      let c = (refuse-fine (ltb (headerWords p) 5 || (ltb (totalLength p) (headerLength p) || ltb (length p) (totalLength p))) refusal.Lengths _ b.1).0 in
+  header_there : (10 ≤ length p) × (10 ≤ total_length p)
+  unfolding packet_check
+  header_there =
+      let a = (refuse_fine (ltb max_packet (length p) || ltb max_decoded (length decoded)) refusal.BufferLength _ fine).1 in
+      let b = refuse_fine (ltb (length p) 20 || not (eqb (version_of p) 4)) refusal.NotIpv4 _ a in
+      let c = (refuse_fine (ltb (header_words p) 5 || (ltb (total_length p) (header_length p) || ltb (length p) (total_length p))) refusal.Lengths _ b.1).0 in
       let n = ltb-false (length p) 20 (neither (ltb (length p) 20) _ b.0).0 in
-      let w = neither (ltb (headerWords p) 5) _ c in
-      let five = ltb-false (headerWords p) 5 w.0 in
-      let total = ltb-false (totalLength p) (headerLength p) (neither (ltb (totalLength p) (headerLength p)) _ w.1).0 in
+      let w = neither (ltb (header_words p) 5) _ c in
+      let five = ltb-false (header_words p) 5 w.0 in
+      let total = ltb-false (total_length p) (header_length p) (neither (ltb (total_length p) (header_length p)) _ w.1).0 in
       (omega (arith, n), omega (arith, five, total))
 
-  protocol-there : (headerOf (datagramOf p)).protocol ≡ get_or p 9 0
-  unfolding headerOf bigEndian
-  protocol-there =
-      let e : get_or (take (totalLength p) p) 9 0 ≡ get_or p 9 0 = get_or-take (totalLength p) p 9 0 (omega (arith, header-there.1)) in
-      let z : 0 * 256 + get_or (take (totalLength p) p) 9 0 ≡ get_or (take (totalLength p) p) 9 0 = omega arith in
+  protocol_there : (header_of (datagram_of p)).protocol ≡ get_or p 9 0
+  unfolding header_of big_endian
+  protocol_there =
+      let e : get_or (take (total_length p) p) 9 0 ≡ get_or p 9 0 = get_or-take (total_length p) p 9 0 (omega (arith, header_there.1)) in
+      let z : 0 * 256 + get_or (take (total_length p) p) 9 0 ≡ get_or (take (total_length p) p) 9 0 = omega arith in
       z ∙ e
 
 only_none : (b : Bool) (l : List (List Start)) → b ≡ false → only_if b l ≡ []
 only_none b l e = rw e
 
 module _ (t : Table) (p decoded : List ℕ) (dir : Direction) (m : FieldMap) where
-  none-listed : packetCheck p decoded ≡ Pass → mayMeet t.protocol t.flow p dir ≡ false → placementsOf t p decoded dir m ≡ []
-  unfolding placementsOf listed mayMeet
-  none-listed fine f =
-      only_none (headHolds t (view_of p decoded m) dir) _
-      (ap (λ (n : ℕ). eqb n t.protocol && flowHolds t.flow dir) (protocol-there p decoded fine)
-      ∙ (rw (le-leb 10 (length p) (header-there p decoded fine).0) at f))
+  none_listed : packet_check p decoded ≡ Pass → may_meet t.protocol t.flow p dir ≡ false → placements_of t p decoded dir m ≡ []
+  unfolding placements_of listed may_meet
+  none_listed fine f =
+      only_none (head_holds t (view_of p decoded m) dir) _
+      (ap (λ (n : ℕ). eqb n t.protocol && flow_holds t.flow dir) (protocol_there p decoded fine)
+      ∙ (rw (le-leb 10 (length p) (header_there p decoded fine).0) at f))
 
-  unmet-by : (d : Check) (l : List (List Start)) → (d ≡ Pass → l ≡ []) → isMet (verdictBy d l) ≡ false
-  unmet-by Pass l h = rw (h refl)
-  unmet-by (Refuse r) l h = refl
+  unmet_by : (d : Check) (l : List (List Start)) → (d ≡ Pass → l ≡ []) → is_met (verdict_by d l) ≡ false
+  unmet_by Pass l h = rw (h refl)
+  unmet_by (Refuse r) l h = refl
 
-  pub passed_over : mayMeet t.protocol t.flow p dir ≡ false → isMet (verdictAnswer t p decoded dir m) ≡ false
-  unfolding verdictAnswer inputCheck
+  pub passed_over : may_meet t.protocol t.flow p dir ≡ false → is_met (verdict_answer t p decoded dir m) ≡ false
+  unfolding verdict_answer input_check
   passed_over f =
-      let fields : Check = fieldsCheck (payloadOf (datagramOf p)) decoded m in
-      unmet-by (refuseIf (not (wellFormed t)) refusal.IllFormed (and_then (packetCheck p decoded) fields)) (placementsOf t p decoded dir m)
-      (λ e. none-listed (else-fine (packetCheck p decoded) fields (refuse-fine (not (wellFormed t)) refusal.IllFormed _ e).1).0 f)
+      let fields : Check = fields_check (payload_of (datagram_of p)) decoded m in
+      unmet_by (refuse_if (not (well_formed t)) refusal.IllFormed (and_then (packet_check p decoded) fields)) (placements_of t p decoded dir m)
+      (λ e. none_listed (else_fine (packet_check p decoded) fields (refuse_fine (not (well_formed t)) refusal.IllFormed _ e).1).0 f)

@@ -12,31 +12,31 @@ use Rattle.definitions.specs.declared.packets.FieldMap.{FieldMap}
 use Rattle.definitions.specs.declared.packets.FieldSpan.TheVariants.{Absent}
 use Rattle.definitions.specs.declared.answers.Verdict.{Verdict}
 use Rattle.definitions.specs.declared.answers.Verdict.TheVariants.{Met, NotMet}
-use Rattle.definitions.specs.Limits.{documentLimits}
-use Rattle.definitions.specs.Reading.{acceptedReading, read}
-use Rattle.definitions.specs.Answers.{verdictAnswer}
-use Rattle.definitions.specs.Cases.{signature, packetWith, uriOnly}
+use Rattle.definitions.specs.Limits.{document_limits}
+use Rattle.definitions.specs.Reading.{accepted_reading, read}
+use Rattle.definitions.specs.Answers.{verdict_answer}
+use Rattle.definitions.specs.Cases.{signature, packet_with, uri_only}
 use Rattle.definitions.specs.Computing.{computing}
 
-abbrev pub xTable : Table
-xTable = (read documentLimits (signature "--pattern \"X\";")).table
+abbrev pub x_table : Table
+x_table = (read document_limits (signature "--pattern \"X\";")).table
 
-pub x-read : read documentLimits (signature "--pattern \"X\";") ≡ acceptedReading xTable
+pub x_read : read document_limits (signature "--pattern \"X\";") ≡ accepted_reading x_table
 unfolding computing
-x-read = refl
+x_read = refl
 
-pub x-met : verdictAnswer xTable (packetWith (text "aaXbbX")) [] Client (uriOnly Absent) ≡ Met
+pub x_met : verdict_answer x_table (packet_with (text "aaXbbX")) [] Client (uri_only Absent) ≡ Met
 unfolding computing
-x-met = refl
+x_met = refl
 
-pub x-not-met : verdictAnswer xTable (packetWith (text "aaxbbx")) [] Client (uriOnly Absent) ≡ NotMet
+pub x_not_met : verdict_answer x_table (packet_with (text "aaxbbx")) [] Client (uri_only Absent) ≡ NotMet
 unfolding computing
-x-not-met = refl
+x_not_met = refl
 
 -- so no one verdict is right for every table, packet, buffer, direction and map
-pub verdict-varies : (v : Verdict) → ((t : Table) (p decoded : List ℕ) (dir : Direction) (m : FieldMap) → v ≡ verdictAnswer t p decoded dir m) → ⊥
-verdict-varies v h =
-    let met : v ≡ Met = h xTable (packetWith (text "aaXbbX")) [] Client (uriOnly Absent) ∙ x-met in
-    let not-met : v ≡ NotMet = h xTable (packetWith (text "aaxbbx")) [] Client (uriOnly Absent) ∙ x-not-met in
+pub verdict_varies : (v : Verdict) → ((t : Table) (p decoded : List ℕ) (dir : Direction) (m : FieldMap) → v ≡ verdict_answer t p decoded dir m) → ⊥
+verdict_varies v h =
+    let met : v ≡ Met = h x_table (packet_with (text "aaXbbX")) [] Client (uri_only Absent) ∙ x_met in
+    let not-met : v ≡ NotMet = h x_table (packet_with (text "aaxbbx")) [] Client (uri_only Absent) ∙ x_not_met in
     let clash : false ≡ true = cc in
     false≢true clash

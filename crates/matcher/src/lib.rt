@@ -2,13 +2,13 @@
 // and earlier placement; refusals 20 and 30 to 36 come first, in this order. Packet and decoded buffer have one lifetime, which ends with the call, since no
 // answer lends anything: it costs a caller nothing.
 ghost use Rattle.std.specs.Prelude.{◌≡◌, true, List, ℕ};
-ghost use Rattle.definitions.specs.Tables.{tableWith};
-ghost use Rattle.definitions.specs.Answers.{verdictAnswer, firstAnswer, nextAnswer};
-ghost use Rattle.definitions.specs.WellFormed.{wellFormed};
-ghost use Rattle.definitions.specs.Decisions.{isMet};
-ghost use Rattle.matcher.specs.PassedOver.{mayMeet};
+ghost use Rattle.definitions.specs.Tables.{table_with};
+ghost use Rattle.definitions.specs.Answers.{verdict_answer, first_answer, next_answer};
+ghost use Rattle.definitions.specs.WellFormed.{well_formed};
+ghost use Rattle.definitions.specs.Decisions.{is_met};
+ghost use Rattle.matcher.specs.PassedOver.{may_meet};
 ghost use Rattle.matcher.specs.Matching.{Matchable};
-ghost use Rattle.definitions.specs.AnswerNumbers.{verdictNumbers, answerNumbers, verdictInNumbers, firstInNumbers, nextInNumbers};
+ghost use Rattle.definitions.specs.AnswerNumbers.{verdict_numbers, answer_numbers, verdict_in_numbers, first_in_numbers, next_in_numbers};
 
 use definitions::answers::{Answer, PacketAnswer, Verdict};
 use definitions::limits::ITEMS;
@@ -24,8 +24,8 @@ use table_well_formed::well_formed;
 
 // THE VERDICT: met exactly if some placement meets the table.
 pub fn verdict<'a>(t: Table, p: &'a [u8], decoded: &'a [u8], dir: Direction, m: FieldMap) -> Verdict
-    ensures answer { result ≡ verdictAnswer t p.now decoded.now dir m }
-    ensures numbers { verdictNumbers result ≡ verdictInNumbers t p.now decoded.now dir m }
+    ensures answer { result ≡ verdict_answer t p.now decoded.now dir m }
+    ensures numbers { verdict_numbers result ≡ verdict_in_numbers t p.now decoded.now dir m }
 {
     let name = t.name;
     let items = t.items;
@@ -47,8 +47,8 @@ pub fn verdict<'a>(t: Table, p: &'a [u8], decoded: &'a [u8], dir: Direction, m: 
 
 // FIRST: the first of the list of placements, or none.
 pub fn first<'a>(t: Table, p: &'a [u8], decoded: &'a [u8], dir: Direction, m: FieldMap) -> Answer
-    ensures answer { result ≡ firstAnswer t p.now decoded.now dir m }
-    ensures numbers { answerNumbers result ≡ firstInNumbers t p.now decoded.now dir m }
+    ensures answer { result ≡ first_answer t p.now decoded.now dir m }
+    ensures numbers { answer_numbers result ≡ first_in_numbers t p.now decoded.now dir m }
 {
     let name = t.name;
     let items = t.items;
@@ -75,8 +75,8 @@ pub fn next<'a>(
     m: FieldMap,
     held: Placement,
 ) -> Answer
-    ensures answer { result ≡ nextAnswer t p.now decoded.now dir m held }
-    ensures numbers { answerNumbers result ≡ nextInNumbers t p.now decoded.now dir m held }
+    ensures answer { result ≡ next_answer t p.now decoded.now dir m held }
+    ensures numbers { answer_numbers result ≡ next_in_numbers t p.now decoded.now dir m held }
 {
     let name = t.name;
     let items = t.items;
@@ -96,7 +96,7 @@ pub fn next<'a>(
 
 // For a caller that asks many packets of one table: whether protocol and flow leave it open that the table is met. Where they don't, it is not.
 pub fn may_meet(protocol: u8, flow: Flow, p: &[u8], dir: Direction) -> bool
-    ensures { result ≡ mayMeet protocol flow p.now dir }
+    ensures { result ≡ may_meet protocol flow p.now dir }
 {
     if p.len() < 10 {
         return false;
@@ -109,7 +109,7 @@ pub fn may_meet(protocol: u8, flow: Flow, p: &[u8], dir: Direction) -> bool
 
 // Whether a verdict is met.
 fn is_met(v: Verdict) -> bool
-    ensures { result ≡ isMet v }
+    ensures { result ≡ is_met v }
 {
     match v {
         Verdict::Met => true,
@@ -131,7 +131,7 @@ pub fn meets<'a>(
     m: FieldMap,
 ) -> bool
     requires { Matchable items count bytes.now }
-    ensures { (name : List ℕ) (len used : ℕ) → wellFormed (tableWith name len protocol flow bytes.now used items count) ≡ true → result ≡ isMet (verdictAnswer (tableWith name len protocol flow bytes.now used items count) p.now decoded.now dir m) }
+    ensures { (name : List ℕ) (len used : ℕ) → well_formed (table_with name len protocol flow bytes.now used items count) ≡ true → result ≡ is_met (verdict_answer (table_with name len protocol flow bytes.now used items count) p.now decoded.now dir m) }
 {
     let seen = packet_header(p, decoded);
     match seen {

@@ -7,7 +7,7 @@ use native.Mathlib.Nat.{sub-zero}
 use lib.ListN.{length, take, drop}
 use lib.Dec.{ltb}
 use borrow.Author.Tests.{ltb-false}
-use Rattle.definitions.specs.Packet.{headerWords, headerLength, totalLength, datagramOf}
+use Rattle.definitions.specs.Packet.{header_words, header_length, total_length, datagram_of}
 
 pub neither_left : (a b : Bool) → (a || b) ≡ false → a ≡ false
 neither_left true b e = e
@@ -18,19 +18,19 @@ neither_right true b e = cc
 neither_right false b e = e
 
 pub record Lengths (p : List ℕ) : Type 0 where
-  pub words : 5 ≤ headerWords p
-  pub header : headerLength p ≤ totalLength p
-  pub total : totalLength p ≤ length p
+  pub words : 5 ≤ header_words p
+  pub header : header_length p ≤ total_length p
+  pub total : total_length p ≤ length p
 
-pub lengths : (p : List ℕ) → (ltb (headerWords p) 5 || (ltb (totalLength p) (headerLength p) || ltb (length p) (totalLength p))) ≡ false → Lengths p
+pub lengths : (p : List ℕ) → (ltb (header_words p) 5 || (ltb (total_length p) (header_length p) || ltb (length p) (total_length p))) ≡ false → Lengths p
 lengths p e =
-    let rest = neither_right (ltb (headerWords p) 5) _ e in
+    let rest = neither_right (ltb (header_words p) 5) _ e in
     record {
-      words = ltb-false (headerWords p) 5 (neither_left _ _ e);
-      header = ltb-false (totalLength p) (headerLength p) (neither_left _ _ rest);
-      total = ltb-false (length p) (totalLength p) (neither_right (ltb (totalLength p) (headerLength p)) _ rest);
+      words = ltb-false (header_words p) 5 (neither_left _ _ e);
+      header = ltb-false (total_length p) (header_length p) (neither_left _ _ rest);
+      total = ltb-false (length p) (total_length p) (neither_right (ltb (total_length p) (header_length p)) _ rest);
     }
 
 -- the part from the start up to the total length is the datagram
-pub datagram-part : (p : List ℕ) (n : ℕ) → n ≡ totalLength p → take (n - 0) (drop 0 p) ≡ datagramOf p
-datagram-part p n e = rw (sub-zero n, e)
+pub datagram_part : (p : List ℕ) (n : ℕ) → n ≡ total_length p → take (n - 0) (drop 0 p) ≡ datagram_of p
+datagram_part p n e = rw (sub-zero n, e)

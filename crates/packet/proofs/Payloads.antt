@@ -16,109 +16,109 @@ use Rattle.definitions.specs.declared.answers.Refusal.TheVariants as refusal
 use Rattle.definitions.specs.declared.answers.Check.{Check}
 use Rattle.definitions.specs.declared.answers.Check.TheVariants.{Pass, Refuse}
 use Rattle.definitions.specs.declared.answers.PacketAnswer.TheVariants.{Seen}
-use Rattle.definitions.specs.Limits.{maxPacket, maxDecoded}
-use Rattle.definitions.specs.Refusals.{refuseIf}
-use Rattle.definitions.specs.Packet.{versionOf, isFragment, headerWords, headerLength, totalLength, protocolOf, datagramOf, afterHeader, isTcp}
-use Rattle.definitions.specs.Packet.{isUdp, isIcmp, tcpWords, tcpShort, transportLength, transportShort, headerOf, payloadOf, packetCheck, packetBy}
-use Rattle.definitions.specs.Packet.{packetAnswer}
-use Rattle.packet.specs.Datagram.{payloadPart}
-use Rattle.packet_header.proofs.Widths.{be-take}
+use Rattle.definitions.specs.Limits.{max_packet, max_decoded}
+use Rattle.definitions.specs.Refusals.{refuse_if}
+use Rattle.definitions.specs.Packet.{version_of, is_fragment, header_words, header_length, total_length, protocol_of, datagram_of, after_header, is_tcp}
+use Rattle.definitions.specs.Packet.{is_udp, is_icmp, tcp_words, tcp_short, transport_length, transport_short, header_of, payload_of, packet_check, packet_by}
+use Rattle.definitions.specs.Packet.{packet_answer}
+use Rattle.packet.specs.Datagram.{payload_part}
+use Rattle.packet_header.proofs.Widths.{be_take}
 use Rattle.packet.proofs.Passed.{neither_right, Lengths, lengths}
 
-drop-take : (k n : ℕ) (l : List ℕ) → drop k (take n l) ≡ take (n - k) (drop k l)
-drop-take zero n l = rw (sub-zero n)
-drop-take (suc k) zero l = rw (zero-sub (suc k))
-drop-take (suc k) (suc n) [] = none (suc n - suc k)
+drop_take : (k n : ℕ) (l : List ℕ) → drop k (take n l) ≡ take (n - k) (drop k l)
+drop_take zero n l = rw (sub-zero n)
+drop_take (suc k) zero l = rw (zero-sub (suc k))
+drop_take (suc k) (suc n) [] = none (suc n - suc k)
   where
     none : (m : ℕ) → ◌≡◌ {A = List ℕ} [] (take m [])
     none zero = refl
     none (suc m) = refl
-drop-take (suc k) (suc n) (x ∷ xs) = rw (suc-sub-suc n k) (drop-take k n xs)
+drop_take (suc k) (suc n) (x ∷ xs) = rw (suc-sub-suc n k) (drop_take k n xs)
 
 -- where nothing is due, neither 32 nor 34 is
-neither-check : (a b c d e : Bool)
-    → refuseIf a refusal.BufferLength
-    (refuseIf b refusal.NotIpv4 (refuseIf c refusal.Lengths (refuseIf d refusal.Fragment (refuseIf e refusal.Transport Pass)))) ≡ Pass
+neither_check : (a b c d e : Bool)
+    → refuse_if a refusal.BufferLength
+    (refuse_if b refusal.NotIpv4 (refuse_if c refusal.Lengths (refuse_if d refusal.Fragment (refuse_if e refusal.Transport Pass)))) ≡ Pass
     → (c ≡ false) × (e ≡ false)
-neither-check true b c d e h = (cc, cc)
-neither-check false true c d e h = (cc, cc)
-neither-check false false true d e h = (cc, cc)
-neither-check false false false true e h = (cc, cc)
-neither-check false false false false true h = (cc, cc)
-neither-check false false false false false h = (refl, refl)
+neither_check true b c d e h = (cc, cc)
+neither_check false true c d e h = (cc, cc)
+neither_check false false true d e h = (cc, cc)
+neither_check false false false true e h = (cc, cc)
+neither_check false false false false true h = (cc, cc)
+neither_check false false false false false h = (refl, refl)
 
 -- the transport header lies in the datagram where 34 is not due
-transport-inside : (d : List ℕ) → headerLength d ≤ length d → transportShort d ≡ false → headerLength d + transportLength d ≤ length d
-transport-inside d h e = by_cases (isTcp (protocolOf d)) tcp other
+transport_inside : (d : List ℕ) → header_length d ≤ length d → transport_short d ≡ false → header_length d + transport_length d ≤ length d
+transport_inside d h e = by_cases (is_tcp (protocol_of d)) tcp other
   where
-    left : length (afterHeader d) ≡ length d - headerLength d
-    left = length-drop (headerLength d) d
+    left : length (after_header d) ≡ length d - header_length d
+    left = length-drop (header_length d) d
 
-    tcp : isTcp (protocolOf d) ≡ true → headerLength d + transportLength d ≤ length d
+    tcp : is_tcp (protocol_of d) ≡ true → header_length d + transport_length d ≤ length d
     tcp t =
-        let short : tcpShort d ≡ false = rw t at e in
-        let long = neither_right (ltb (tcpWords d) 5) _ (neither_right (ltb (length (afterHeader d)) 20) _ short) in
-        let fits : tcpWords d * 4 ≤ length (afterHeader d) = ltb-false (length (afterHeader d)) (tcpWords d * 4) long in
+        let short : tcp_short d ≡ false = rw t at e in
+        let long = neither_right (ltb (tcp_words d) 5) _ (neither_right (ltb (length (after_header d)) 20) _ short) in
+        let fits : tcp_words d * 4 ≤ length (after_header d) = ltb-false (length (after_header d)) (tcp_words d * 4) long in
         rw t (omega (arith, left))
 
-    eight : (b : Bool) → (isUdp (protocolOf d) || isIcmp (protocolOf d)) ≡ b → isTcp (protocolOf d) ≡ false → headerLength d + transportLength d ≤ length d
+    eight : (b : Bool) → (is_udp (protocol_of d) || is_icmp (protocol_of d)) ≡ b → is_tcp (protocol_of d) ≡ false → header_length d + transport_length d ≤ length d
     eight true b t =
-        let short : ltb (length (afterHeader d)) 8 ≡ false = rw (t, b) at e in
-        let fits : 8 ≤ length (afterHeader d) = ltb-false (length (afterHeader d)) 8 short in
+        let short : ltb (length (after_header d)) 8 ≡ false = rw (t, b) at e in
+        let fits : 8 ≤ length (after_header d) = ltb-false (length (after_header d)) 8 short in
         rw (t, b) (omega (arith, left))
     eight false b t = rw (t, b) (omega arith)
 
-    other : isTcp (protocolOf d) ≡ false → headerLength d + transportLength d ≤ length d
+    other : is_tcp (protocol_of d) ≡ false → header_length d + transport_length d ≤ length d
     other t = eight _ refl t
 
 -- header fields whose numbers lie in the packet
-part-inside : (p : List ℕ) (f : PacketHeader) → f.payload ≤ f.total → f.total ≤ length p → payloadPart p f ≡ drop f.payload (take f.total p)
-unfolding payloadPart
-part-inside p f h k =
+part_inside : (p : List ℕ) (f : PacketHeader) → f.payload ≤ f.total → f.total ≤ length p → payload_part p f ≡ drop f.payload (take f.total p)
+unfolding payload_part
+part_inside p f h k =
     let end : f.payload + (f.total - f.payload) ≡ f.total = omega arith in
-    rw (le-ltb f.total f.payload h, end, le-ltb (length p) f.total k) (sym (drop-take f.payload f.total p))
+    rw (le-ltb f.total f.payload h, end, le-ltb (length p) f.total k) (sym (drop_take f.payload f.total p))
 
 module _ (p : List ℕ) (ok : Lengths p) where
-  headers-alike : headerLength (datagramOf p) ≡ headerLength p
-  headers-alike = ap (λ (b : ℕ). b % 16 * 4) (be-take 1 (totalLength p) p 0 (omega (arith, ok.words, ok.header)))
+  headers_alike : header_length (datagram_of p) ≡ header_length p
+  headers_alike = ap (λ (b : ℕ). b % 16 * 4) (be_take 1 (total_length p) p 0 (omega (arith, ok.words, ok.header)))
 
-  totals-alike : totalLength (datagramOf p) ≡ totalLength p
-  totals-alike = be-take 2 (totalLength p) p 2 (omega (arith, ok.words, ok.header))
+  totals_alike : total_length (datagram_of p) ≡ total_length p
+  totals_alike = be_take 2 (total_length p) p 2 (omega (arith, ok.words, ok.header))
 
-  passed-payload : transportShort (datagramOf p) ≡ false → payloadPart p (headerOf (datagramOf p)) ≡ payloadOf (datagramOf p)
-  unfolding headerOf
-  passed-payload e =
-      let d = datagramOf p in
-      let all : length d ≡ totalLength p = length-take-le (totalLength p) p ok.total in
-      let header : headerLength d ≤ length d = omega (arith, headers-alike, all, ok.header) in
-      let inside = transport-inside d header e in
-      part-inside p (headerOf d) (omega (arith, inside, all, totals-alike)) (omega (arith, totals-alike, ok.total))
-      ∙ ap (λ (n : ℕ). drop (headerOf d).payload (take n p)) totals-alike
+  passed_payload : transport_short (datagram_of p) ≡ false → payload_part p (header_of (datagram_of p)) ≡ payload_of (datagram_of p)
+  unfolding header_of
+  passed_payload e =
+      let d = datagram_of p in
+      let all : length d ≡ total_length p = length-take-le (total_length p) p ok.total in
+      let header : header_length d ≤ length d = omega (arith, headers_alike, all, ok.header) in
+      let inside = transport_inside d header e in
+      part_inside p (header_of d) (omega (arith, inside, all, totals_alike)) (omega (arith, totals_alike, ok.total))
+      ∙ ap (λ (n : ℕ). drop (header_of d).payload (take n p)) totals_alike
 
 module _ (p decoded : List ℕ) where
   -- THE LAW of the payload
-  pub payload-part : packetCheck p decoded ≡ Pass → payloadPart p (headerOf (datagramOf p)) ≡ payloadOf (datagramOf p)
-  unfolding packetCheck
-  payload-part e =
+  pub payload_part_lem : packet_check p decoded ≡ Pass → payload_part p (header_of (datagram_of p)) ≡ payload_of (datagram_of p)
+  unfolding packet_check
+  payload_part_lem e =
       let check =
-      neither-check
-      (ltb maxPacket (length p) || ltb maxDecoded (length decoded))
-      (ltb (length p) 20 || not (eqb (versionOf p) 4))
-      (ltb (headerWords p) 5 || (ltb (totalLength p) (headerLength p) || ltb (length p) (totalLength p)))
-      (isFragment (datagramOf p))
-      (transportShort (datagramOf p))
+      neither_check
+      (ltb max_packet (length p) || ltb max_decoded (length decoded))
+      (ltb (length p) 20 || not (eqb (version_of p) 4))
+      (ltb (header_words p) 5 || (ltb (total_length p) (header_length p) || ltb (length p) (total_length p)))
+      (is_fragment (datagram_of p))
+      (transport_short (datagram_of p))
       e in
-      passed-payload p (lengths p check.0) check.1
+      passed_payload p (lengths p check.0) check.1
 
-  seen : (check : Check) (d : List ℕ) (f : PacketHeader) → packetBy check d ≡ Seen f → check ≡ Pass
+  seen : (check : Check) (d : List ℕ) (f : PacketHeader) → packet_by check d ≡ Seen f → check ≡ Pass
   seen Pass d f e = refl
   seen (Refuse r) d f e = cc
 
-  seen-header : (check : Check) (d : List ℕ) (f : PacketHeader) → packetBy check d ≡ Seen f → f ≡ headerOf d
-  seen-header Pass d f e = cc
-  seen-header (Refuse r) d f e = cc
+  seen_header : (check : Check) (d : List ℕ) (f : PacketHeader) → packet_by check d ≡ Seen f → f ≡ header_of d
+  seen_header Pass d f e = cc
+  seen_header (Refuse r) d f e = cc
 
   -- the same of the header fields that a caller has been given
-  pub seen-payload : (f : PacketHeader) → packetAnswer p decoded ≡ Seen f → payloadPart p f ≡ payloadOf (datagramOf p)
-  unfolding packetAnswer
-  seen-payload f e = rw (seen-header (packetCheck p decoded) (datagramOf p) f e) (payload-part (seen (packetCheck p decoded) (datagramOf p) f e))
+  pub seen_payload : (f : PacketHeader) → packet_answer p decoded ≡ Seen f → payload_part p f ≡ payload_of (datagram_of p)
+  unfolding packet_answer
+  seen_payload f e = rw (seen_header (packet_check p decoded) (datagram_of p) f e) (payload_part_lem (seen (packet_check p decoded) (datagram_of p) f e))

@@ -5,20 +5,20 @@ use Rattle.definitions.specs.declared.packets.PacketHeader.{PacketHeader}
 use Rattle.definitions.specs.declared.packets.FieldSpan.{FieldSpan}
 use Rattle.definitions.specs.declared.packets.FieldSpan.TheVariants.{Absent, At}
 use Rattle.definitions.specs.declared.answers.PacketAnswer.{PacketAnswer}
-use Rattle.definitions.specs.Packet.{datagramCheck, packetBy}
+use Rattle.definitions.specs.Packet.{datagram_check, packet_by}
 use Rattle.definitions.specs.Fields.{shown, cut}
 
-unfoldable pub datagramAnswer : List ℕ → PacketAnswer
-datagramAnswer d = packetBy (datagramCheck d) d
+unfoldable pub datagram_answer : List ℕ → PacketAnswer
+datagram_answer d = packet_by (datagram_check d) d
 
 -- from a start up to an end; no span where the end comes first
-abbrev pub spanBetween : ℕ → ℕ → FieldSpan
-spanBetween start end = if ltb end start then Absent else At (record { start = start; len = end - start })
+abbrev pub span_between : ℕ → ℕ → FieldSpan
+span_between start end = if ltb end start then Absent else At (record { start = start; len = end - start })
 
 -- the payload reaches from its start up to the total length; the rest of the packet is padding
-abbrev pub payloadSpan : PacketHeader → FieldSpan
-payloadSpan f = spanBetween f.payload f.total
+abbrev pub payload_span : PacketHeader → FieldSpan
+payload_span f = span_between f.payload f.total
 
 -- its bytes in a packet; none where they don't lie in it
-unfoldable pub payloadPart : List ℕ → PacketHeader → List ℕ
-payloadPart p f = cut (shown (payloadSpan f) p) p
+unfoldable pub payload_part : List ℕ → PacketHeader → List ℕ
+payload_part p f = cut (shown (payload_span f) p) p

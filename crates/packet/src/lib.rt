@@ -1,10 +1,10 @@
 // One IPv4 packet: refusals 30 to 34 in order, the datagram's header fields by value, and its payload as a part of the packet.
 ghost use Rattle.std.specs.Prelude.{◌≡◌};
-ghost use Rattle.definitions.specs.Packet.{headerOf, packetAnswer};
+ghost use Rattle.definitions.specs.Packet.{header_of, packet_answer};
 ghost use Rattle.definitions.specs.Fields.{shown};
-ghost use Rattle.definitions.specs.AnswerNumbers.{packetNumbers, packetInNumbers};
+ghost use Rattle.definitions.specs.AnswerNumbers.{packet_numbers, packet_in_numbers};
 ghost use Rattle.field_parts.specs.Parts.{PartOf};
-ghost use Rattle.packet.specs.Datagram.{datagramAnswer, spanBetween, payloadSpan, payloadPart};
+ghost use Rattle.packet.specs.Datagram.{datagram_answer, span_between, payload_span, payload_part};
 
 use definitions::answers::{PacketAnswer, Refusal};
 use definitions::packets::{FieldSpan, PacketHeader, Span};
@@ -17,7 +17,7 @@ use packet_transport::{port_at, protocol_of, transport_length, transport_short};
 
 // The header fields of a datagram.
 fn header_of(d: &[u8]) -> PacketHeader
-    ensures { result ≡ headerOf d.now }
+    ensures { result ≡ header_of d.now }
 {
     let total = total_length(d);
     let payload = header_length(d) + transport_length(d);
@@ -47,7 +47,7 @@ fn header_of(d: &[u8]) -> PacketHeader
 
 // Refusals 33 and 34, which look at the datagram alone, or its header fields.
 fn datagram_header(d: &[u8]) -> PacketAnswer
-    ensures { result ≡ datagramAnswer d.now }
+    ensures { result ≡ datagram_answer d.now }
 {
     if is_fragment(d) {
         return PacketAnswer::Refused(Refusal::Fragment);
@@ -60,8 +60,8 @@ fn datagram_header(d: &[u8]) -> PacketAnswer
 
 // THE PACKET: the header fields of the datagram in a lent packet, or the first due of 30 to 34.
 pub fn packet_header(p: &[u8], decoded: &[u8]) -> PacketAnswer
-    ensures answer { result ≡ packetAnswer p.now decoded.now }
-    ensures numbers { packetNumbers result ≡ packetInNumbers p.now decoded.now }
+    ensures answer { result ≡ packet_answer p.now decoded.now }
+    ensures numbers { packet_numbers result ≡ packet_in_numbers p.now decoded.now }
 {
     if buffer_too_long(p, decoded) {
         return PacketAnswer::Refused(Refusal::BufferLength);
@@ -78,7 +78,7 @@ pub fn packet_header(p: &[u8], decoded: &[u8]) -> PacketAnswer
 
 // From a start up to an end; no span where the end comes first.
 fn span_between(start: usize, end: usize) -> FieldSpan
-    ensures { result ≡ spanBetween start end }
+    ensures { result ≡ span_between start end }
 {
     if end < start {
         return FieldSpan::Absent;
@@ -92,8 +92,8 @@ fn span_between(start: usize, end: usize) -> FieldSpan
 // The payload: the bytes from its start up to the total length, at their own place in the packet; padding is not payload. For header fields that are not
 // this packet's: the same numbers' bytes where they lie in the packet, else the empty part at its start.
 pub fn payload_of<'a>(p: &'a [u8], f: PacketHeader) -> &'a [u8]
-    ensures bytes { result.now ≡ payloadPart p.now f }
-    ensures part { PartOf p.entry (shown (payloadSpan f) p.now) result }
+    ensures bytes { result.now ≡ payload_part p.now f }
+    ensures part { PartOf p.entry (shown (payload_span f) p.now) result }
 {
     let span = span_between(f.payload, f.total);
     part_of(p, span)

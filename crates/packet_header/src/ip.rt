@@ -1,14 +1,14 @@
 // The IP header: its numbers, and refusals 30 to 33.
 ghost use Rattle.std.specs.Prelude.{◌≡◌, ◌||◌, not, ◌≤◌, length, ltb, eqb};
-ghost use Rattle.definitions.specs.Limits.{maxPacket, maxDecoded};
-ghost use Rattle.definitions.specs.Packet.{versionOf, headerWords, headerLength, totalLength, isFragment};
+ghost use Rattle.definitions.specs.Limits.{max_packet, max_decoded};
+ghost use Rattle.definitions.specs.Packet.{version_of, header_words, header_length, total_length, is_fragment};
 
 use crate::big_endian::{be8, be16};
 use definitions::limits::{DECODED_BYTES, PACKET_BYTES};
 
 // The length of the IP header, in bytes.
 pub fn header_length(d: &[u8]) -> usize
-    ensures { (result ≡ headerLength d.now) × (result ≤ 60) }
+    ensures { (result ≡ header_length d.now) × (result ≤ 60) }
 {
     let words = be8(d, 0) % 16;
     (words as usize) * 4
@@ -16,21 +16,21 @@ pub fn header_length(d: &[u8]) -> usize
 
 // The length of the datagram, as its header gives it.
 pub fn total_length(d: &[u8]) -> usize
-    ensures { result ≡ totalLength d.now }
+    ensures { result ≡ total_length d.now }
 {
     be16(d, 2) as usize
 }
 
 // 30: more bytes are lent than a packet or a decoded buffer may have.
 pub fn buffer_too_long(p: &[u8], decoded: &[u8]) -> bool
-    ensures { result ≡ (ltb maxPacket (length p.now) || ltb maxDecoded (length decoded.now)) }
+    ensures { result ≡ (ltb max_packet (length p.now) || ltb max_decoded (length decoded.now)) }
 {
     (PACKET_BYTES < p.len()) | (DECODED_BYTES < decoded.len())
 }
 
 // 31: fewer bytes than an IP header has, or another version.
 pub fn not_ipv4(p: &[u8]) -> bool
-    ensures { result ≡ (ltb (length p.now) 20 || not (eqb (versionOf p.now) 4)) }
+    ensures { result ≡ (ltb (length p.now) 20 || not (eqb (version_of p.now) 4)) }
 {
     let version = be8(p, 0) / 16;
     (p.len() < 20) | (version != 4)
@@ -38,7 +38,7 @@ pub fn not_ipv4(p: &[u8]) -> bool
 
 // 32: too few header words, a header longer than the datagram, or a datagram longer than the lent bytes.
 pub fn wrong_lengths(p: &[u8]) -> bool
-    ensures { result ≡ (ltb (headerWords p.now) 5 || (ltb (totalLength p.now) (headerLength p.now) || ltb (length p.now) (totalLength p.now))) }
+    ensures { result ≡ (ltb (header_words p.now) 5 || (ltb (total_length p.now) (header_length p.now) || ltb (length p.now) (total_length p.now))) }
 {
     let words = be8(p, 0) % 16;
     let header = header_length(p);
@@ -48,7 +48,7 @@ pub fn wrong_lengths(p: &[u8]) -> bool
 
 // 33: the more-fragments bit is set, or the offset is not 0.
 pub fn is_fragment(d: &[u8]) -> bool
-    ensures { result ≡ isFragment d.now }
+    ensures { result ≡ is_fragment d.now }
 {
     let word = be16(d, 6);
     let more = word / 8192 % 2;

@@ -1,6 +1,6 @@
 // What stands after the IP header of a datagram: the transport header's length, ports, and refusal 34.
 ghost use Rattle.std.specs.Prelude.{◌≡◌, ◌≤◌, length};
-ghost use Rattle.definitions.specs.Packet.{protocolOf, afterHeader, tcpWords, transportLength, portAt, tcpShort, transportShort};
+ghost use Rattle.definitions.specs.Packet.{protocol_of, after_header, tcp_words, transport_length, port_at, tcp_short, transport_short};
 
 use packet_header::big_endian::{be8, be16};
 use packet_header::ip::header_length;
@@ -8,14 +8,14 @@ use packet_header::protocols::{ICMP, TCP, UDP, has_ports};
 
 // The datagram's protocol.
 pub fn protocol_of(d: &[u8]) -> u8
-    ensures { result ≡ protocolOf d.now }
+    ensures { result ≡ protocol_of d.now }
 {
     be8(d, 9)
 }
 
 // How many bytes stand after the IP header.
 fn left_after(d: &[u8]) -> usize
-    ensures { result ≡ length (afterHeader d.now) }
+    ensures { result ≡ length (after_header d.now) }
 {
     let header = header_length(d);
     if d.len() < header {
@@ -27,7 +27,7 @@ fn left_after(d: &[u8]) -> usize
 
 // The TCP header's offset field, in words.
 fn tcp_words(d: &[u8]) -> u8
-    ensures { (result ≡ tcpWords d.now) × (result ≤ 15) }
+    ensures { (result ≡ tcp_words d.now) × (result ≤ 15) }
 {
     let header = header_length(d);
     be8(d, header + 12) / 16
@@ -35,7 +35,7 @@ fn tcp_words(d: &[u8]) -> u8
 
 // The length of the transport header: TCP's own, 8 bytes for UDP and ICMP, none for other protocols.
 pub fn transport_length(d: &[u8]) -> usize
-    ensures { (result ≡ transportLength d.now) × (result ≤ 60) }
+    ensures { (result ≡ transport_length d.now) × (result ≤ 60) }
 {
     let protocol = protocol_of(d);
     if protocol == TCP {
@@ -51,7 +51,7 @@ pub fn transport_length(d: &[u8]) -> usize
 // The port at a place after the IP header; 0 where the protocol has none.
 pub fn port_at(d: &[u8], at: usize) -> u16
     requires { at ≤ 2 }
-    ensures { result ≡ portAt d.now at }
+    ensures { result ≡ port_at d.now at }
 {
     if has_ports(protocol_of(d)) {
         let header = header_length(d);
@@ -62,7 +62,7 @@ pub fn port_at(d: &[u8], at: usize) -> u16
 }
 
 fn tcp_short(d: &[u8]) -> bool
-    ensures { result ≡ tcpShort d.now }
+    ensures { result ≡ tcp_short d.now }
 {
     let left = left_after(d);
     let words = tcp_words(d);
@@ -72,7 +72,7 @@ fn tcp_short(d: &[u8]) -> bool
 
 // 34: the transport header does not fit into the datagram, or TCP's is too short.
 pub fn transport_short(d: &[u8]) -> bool
-    ensures { result ≡ transportShort d.now }
+    ensures { result ≡ transport_short d.now }
 {
     let protocol = protocol_of(d);
     if protocol == TCP {

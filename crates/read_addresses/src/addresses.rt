@@ -1,11 +1,11 @@
 // Lists of addresses: all are counted, and the first are kept, as many as a test can hold.
 ghost use Rattle.std.specs.Prelude.{◌≡◌, ◌∷◌, [], set};
-ghost use Rattle.definitions.specs.Limits.{maxAddresses};
+ghost use Rattle.definitions.specs.Limits.{max_addresses};
 ghost use Rattle.definitions.specs.Lists.{padded};
-ghost use Rattle.definitions.specs.Tables.{noAddress};
+ghost use Rattle.definitions.specs.Tables.{no_address};
 ghost use Rattle.definitions.specs.Forms.{addresses};
 ghost use Rattle.scan_cursors.specs.Reads.{Inside};
-ghost use Rattle.read_addresses.specs.Listing.{listedAddresses, Lists};
+ghost use Rattle.read_addresses.specs.Listing.{listed_addresses, Lists};
 
 use crate::dotted::then_address;
 use definitions::limits::ADDRESSES;
@@ -41,7 +41,7 @@ fn kept(row: Row, count: usize, a: Address) -> Row
 
 // One address alone.
 fn one_kept(a: Address) -> Row
-    ensures { result.list ≡ padded maxAddresses noAddress (a ∷ []) }
+    ensures { result.list ≡ padded max_addresses no_address (a ∷ []) }
 {
     let list = no_addresses();
     kept(Row { list: list }, 0, a)
@@ -50,7 +50,7 @@ fn one_kept(a: Address) -> Row
 // One address or more, parted by commas.
 fn then_list(s: &[u8], c: Cursor) -> AddressesAt
     requires { Inside s.now c }
-    ensures { Lists listedAddresses s.now c result.list result.count result.cursor }
+    ensures { Lists listed_addresses s.now c result.list result.count result.cursor }
 {
     let first = then_address(s, c);
     let a = first.address;

@@ -1,6 +1,6 @@
 // Addresses: four numbers with dots, and an optional prefix.
 ghost use Rattle.std.specs.Prelude.{◌≡◌, ◌+◌, ◌*◌, ◌≤◌};
-ghost use Rattle.definitions.specs.Limits.{maxByte};
+ghost use Rattle.definitions.specs.Limits.{max_byte};
 ghost use Rattle.definitions.specs.Numbers.{number};
 ghost use Rattle.definitions.specs.Forms.{dotted, address};
 ghost use Rattle.scan_cursors.specs.Reads.{Inside, Reads};
@@ -21,7 +21,7 @@ pub struct ByteAt {
 
 // A number that fits a byte.
 fn then_byte(s: &[u8], c: Cursor, limit: u64) -> ByteAt
-    requires { Inside s.now c × (limit ≤ maxByte) }
+    requires { Inside s.now c × (limit ≤ max_byte) }
     ensures { Reads (number limit) s.now c result.value result.cursor }
 {
     let n = then_number(s, c, limit);

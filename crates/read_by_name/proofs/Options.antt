@@ -12,7 +12,7 @@ use types.Run.{OneOf, miss}
 use Rattle.read_names.specs.contracts.options.OptionName.{the_type}
 use Rattle.read_names.specs.declared.options.OptionName.{OptionName}
 use Rattle.read_names.specs.declared.options.OptionName.TheVariants as option
-use Rattle.read_names.specs.Names.{optionOrder}
+use Rattle.read_names.specs.Names.{option_order}
 use Rattle.read_by_name.specs.Parsing.{Single}
 
 -- the option is one of a few, told by its tag as an arm has it
@@ -20,8 +20,8 @@ abbrev OneOfOptions : List OptionName → OptionName → Type 0
 OneOfOptions ps o = OneOf (map (tag_of the_type) ps) (tag_of the_type o)
 
 -- an option's tag is its row
-row : (o : OptionName) → get_or optionOrder (tag_of the_type o) option.Name ≡ o
-unfolding optionOrder
+row : (o : OptionName) → get_or option_order (tag_of the_type o) option.Name ≡ o
+unfolding option_order
 row option.Name = refl
 row option.Protocol = refl
 row option.Flow = refl
@@ -46,18 +46,18 @@ row option.NoCase = refl
 row option.Distance = refl
 row option.Within = refl
 
-tagged : (o : OptionName) {k : ℕ} → tag_of the_type o ≡ k → o ≡ get_or optionOrder k option.Name
-tagged o e = sym (row o) ∙ ap (λ (k : ℕ). get_or optionOrder k option.Name) e
+tagged : (o : OptionName) {k : ℕ} → tag_of the_type o ≡ k → o ≡ get_or option_order k option.Name
+tagged o e = sym (row o) ∙ ap (λ (k : ℕ). get_or option_order k option.Name) e
 
 -- of within and the lists, only within stands alone
-pub only-within : (o : OptionName) → Single o
+pub only_within : (o : OptionName) → Single o
     → OneOfOptions (option.Name ∷ option.SourceAddress ∷ option.DestinationAddress ∷ option.Pattern ∷ option.Within ∷ []) o → o ≡ option.Within
-unfolding optionOrder
-only-within o s (inl e) = absurd (s.0 (tagged o e))
-only-within o s (inr (inl e)) = absurd (s.1 (tagged o e))
-only-within o s (inr (inr (inl e))) = absurd (s.2 (tagged o e))
-only-within o s (inr (inr (inr (inl e)))) = absurd (s.3 (tagged o e))
-only-within o s (inr (inr (inr (inr e)))) = tagged o e
+unfolding option_order
+only_within o s (inl e) = absurd (s.0 (tagged o e))
+only_within o s (inr (inl e)) = absurd (s.1 (tagged o e))
+only_within o s (inr (inr (inl e))) = absurd (s.2 (tagged o e))
+only_within o s (inr (inr (inr (inl e)))) = absurd (s.3 (tagged o e))
+only_within o s (inr (inr (inr (inr e)))) = tagged o e
 
 abbrev singles : List OptionName
 singles =
@@ -70,7 +70,7 @@ module _ (ps : List OptionName) (o : OptionName) (k : OneOfOptions ps o) where
   other : (p : OptionName) → T (not (has_key (map (tag_of the_type) ps) (tag_of the_type p))) → o ≡ p → ⊥
   other p t e = miss (map (tag_of the_type) ps) (tag_of the_type p) t (subst (OneOfOptions ps) e k)
 
-pub all-single : (o : OptionName) → OneOfOptions singles o → Single o
-all-single o k =
+pub all_single : (o : OptionName) → OneOfOptions singles o → Single o
+all_single o k =
     let no = other singles o k in
     (no option.Name tt, no option.SourceAddress tt, no option.DestinationAddress tt, no option.Pattern tt)

@@ -1,7 +1,7 @@
 // The option that a name stands for, read after that name.
 ghost use Rattle.std.specs.Prelude.{ℕ, ◌≤◌, List, ◌≡◌, length};
-ghost use Rattle.definitions.specs.Limits.{documentLimits};
-ghost use Rattle.read_value.specs.Values.{patternBytesOf};
+ghost use Rattle.definitions.specs.Limits.{document_limits};
+ghost use Rattle.read_value.specs.Values.{pattern_bytes_of};
 ghost use Rattle.read_names.specs.Names.{form_of};
 ghost use Rattle.read_by_name.specs.Parsing.{Single, ReadsAlone, Parses};
 
@@ -49,7 +49,7 @@ fn value_by_name(s: &[u8], at: usize, o: OptionName) -> Valued
 // An option with nothing beside its value, read after its name.
 fn plain_by_name(s: &[u8], at: usize, o: OptionName, used: usize) -> ParsedOption
     requires { (at ≤ length s.now) × Single o }
-    ensures { (bytes : List ℕ) → Parses (form_of o) s.now at (patternBytesOf bytes used) (patternBytesOf bytes result.used) result }
+    ensures { (bytes : List ℕ) → Parses (form_of o) s.now at (pattern_bytes_of bytes used) (pattern_bytes_of bytes result.used) result }
 {
     let v = value_by_name(s, at, o);
     let value = v.value;
@@ -71,8 +71,8 @@ pub fn option_by_name(
     bytes: &mut [u8],
     used: usize,
 ) -> ParsedOption
-    requires { (at ≤ length s.now) × (length s.now ≤ documentLimits.text) × (used ≤ at) × (length bytes.old ≡ documentLimits.room) }
-    ensures { Parses (form_of o) s.now at (patternBytesOf bytes.old used) (patternBytesOf bytes.new result.used) result }
+    requires { (at ≤ length s.now) × (length s.now ≤ document_limits.text) × (used ≤ at) × (length bytes.old ≡ document_limits.room) }
+    ensures { Parses (form_of o) s.now at (pattern_bytes_of bytes.old used) (pattern_bytes_of bytes.new result.used) result }
 {
     match o {
         OptionName::Name => name_option(s, at, used),

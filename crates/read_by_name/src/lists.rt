@@ -1,8 +1,8 @@
 // The options whose values are lists: name, addresses and pattern.
 ghost use Rattle.std.specs.Prelude.{◌≡◌, List, ℕ, ◌≤◌, length};
-ghost use Rattle.definitions.specs.Limits.{documentLimits};
-ghost use Rattle.definitions.specs.Forms.{nameForm, addressForm, patternForm};
-ghost use Rattle.read_value.specs.Values.{patternBytesOf};
+ghost use Rattle.definitions.specs.Limits.{document_limits};
+ghost use Rattle.definitions.specs.Forms.{name_form, address_form, pattern_form};
+ghost use Rattle.read_value.specs.Values.{pattern_bytes_of};
 ghost use Rattle.read_by_name.specs.Parsing.{Parses};
 
 use crate::parsed::ParsedOption;
@@ -17,7 +17,7 @@ use scan_steps::literals::{then_closing, then_optional_literal};
 // The option name.
 pub fn name_option(s: &[u8], at: usize, used: usize) -> ParsedOption
     requires { at ≤ length s.now }
-    ensures { (bytes : List ℕ) → Parses nameForm s.now at (patternBytesOf bytes used) (patternBytesOf bytes result.used) result }
+    ensures { (bytes : List ℕ) → Parses name_form s.now at (pattern_bytes_of bytes used) (pattern_bytes_of bytes result.used) result }
 {
     let list = no_addresses();
     let c = gap_at(s, at);
@@ -35,7 +35,7 @@ pub fn name_option(s: &[u8], at: usize, used: usize) -> ParsedOption
 // The options src_addr and dst_addr, whose side the caller names.
 pub fn address_option(s: &[u8], at: usize, side: Side, used: usize) -> ParsedOption
     requires { at ≤ length s.now }
-    ensures { (bytes : List ℕ) → Parses (addressForm side) s.now at (patternBytesOf bytes used) (patternBytesOf bytes result.used) result }
+    ensures { (bytes : List ℕ) → Parses (address_form side) s.now at (pattern_bytes_of bytes used) (pattern_bytes_of bytes result.used) result }
 {
     let c = gap_at(s, at);
     let m = then_optional_literal(s, c, b'!');
@@ -58,8 +58,8 @@ pub fn address_option(s: &[u8], at: usize, side: Side, used: usize) -> ParsedOpt
 
 // The option pattern; its bytes are stored after those in use.
 pub fn pattern_option(s: &[u8], at: usize, bytes: &mut [u8], used: usize) -> ParsedOption
-    requires { (at ≤ length s.now) × (length s.now ≤ documentLimits.text) × (used ≤ at) × (length bytes.old ≡ documentLimits.room) }
-    ensures { Parses patternForm s.now at (patternBytesOf bytes.old used) (patternBytesOf bytes.new result.used) result }
+    requires { (at ≤ length s.now) × (length s.now ≤ document_limits.text) × (used ≤ at) × (length bytes.old ≡ document_limits.room) }
+    ensures { Parses pattern_form s.now at (pattern_bytes_of bytes.old used) (pattern_bytes_of bytes.new result.used) result }
 {
     let list = no_addresses();
     let c = gap_at(s, at);

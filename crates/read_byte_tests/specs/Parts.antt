@@ -6,7 +6,7 @@ use Rattle.definitions.specs.declared.table.ByteOperator.{ByteOperator}
 use Rattle.definitions.specs.declared.table.ByteOperator.TheVariants.{Greater, Less, Equal, Unequal}
 use Rattle.definitions.specs.Numbers.{number, numeral}
 use Rattle.scan_cursors.specs.declared.Cursor.{Cursor}
-use Rattle.scan_cursors.specs.Reads.{nextIn}
+use Rattle.scan_cursors.specs.Reads.{next_in}
 
 -- a number up to a limit, with hex or without
 abbrev pub number_in : Bool → ℕ → Form ℕ
@@ -21,9 +21,9 @@ sign_of Equal = 61
 sign_of Unequal = 33
 
 -- the operator that the next byte tells
-abbrev pub operatorNext : List ℕ → Cursor → ByteOperator
-operatorNext s c =
-    if nextIn ((62, 62) ∷ []) s c then Greater
-    else if nextIn ((60, 60) ∷ []) s c then Less
-    else if nextIn ((61, 61) ∷ []) s c then Equal
+abbrev pub operator_next : List ℕ → Cursor → ByteOperator
+operator_next s c =
+    if next_in ((62, 62) ∷ []) s c then Greater
+    else if next_in ((60, 60) ∷ []) s c then Less
+    else if next_in ((61, 61) ∷ []) s c then Equal
     else Unequal

@@ -1,12 +1,12 @@
 // The option byte_test: its parts from a cursor on, and the option's value after its name, with the place after its `;`.
 ghost use Rattle.std.specs.Prelude.{◌≡◌, [], ◌≤◌, ◌<◌, length};
-ghost use Rattle.definitions.specs.ByteCounts.{isByteCount, width_of};
-ghost use Rattle.definitions.specs.Forms.{width, byteComparison, flagWords, flags, byteForm};
-ghost use Rattle.read_value.specs.Values.{optionValueOf, Plain};
-ghost use Rattle.scan_bytes.specs.Capped.{numberCap};
+ghost use Rattle.definitions.specs.ByteCounts.{is_byte_count, width_of};
+ghost use Rattle.definitions.specs.Forms.{width, byte_comparison, flag_words, flags, byte_form};
+ghost use Rattle.read_value.specs.Values.{option_value_of, Plain};
+ghost use Rattle.scan_bytes.specs.Capped.{number_cap};
 ghost use Rattle.scan_cursors.specs.Reads.{Inside, Reads};
 ghost use Rattle.scan_cursors.specs.declared.Cursor.TheVariants.{Parsed};
-ghost use Rattle.read_byte_tests.specs.Parts.{number_in, sign_of, operatorNext};
+ghost use Rattle.read_byte_tests.specs.Parts.{number_in, sign_of, operator_next};
 
 use definitions::limits::{MAX_BYTE, MAX_LONG, MAX_WORD};
 use definitions::table::{ByteOperator, ByteTest, Item, Width};
@@ -41,7 +41,7 @@ pub struct FlagsAt {
 }
 
 fn is_byte_count(n: u64) -> bool
-    ensures { result ≡ isByteCount n }
+    ensures { result ≡ is_byte_count n }
 {
     (n == 1) | ((n == 2) | (n == 4))
 }
@@ -60,7 +60,7 @@ fn width_of(n: u64) -> Width
 
 // A number up to a limit, in decimal, or where it may be so in hex: one function for all three of them, which keeps the option's body small.
 fn then_part(s: &[u8], c: Cursor, hex: bool, limit: u64) -> Numeric
-    requires { Inside s.now c × (limit < numberCap) }
+    requires { Inside s.now c × (limit < number_cap) }
     ensures { Reads (number_in hex limit) s.now c result.value result.cursor × (result.value ≤ limit) }
 {
     if hex {
@@ -86,7 +86,7 @@ fn then_width(s: &[u8], c: Cursor) -> WidthAt
 
 // The operator whose byte stands there; if none does, it is the last that must.
 fn operator_next(s: &[u8], c: Cursor) -> ByteOperator
-    ensures { result ≡ operatorNext s.now c }
+    ensures { result ≡ operator_next s.now c }
 {
     if next_is(s, c, b'>') {
         return ByteOperator::Greater;
@@ -114,7 +114,7 @@ fn sign_of(o: ByteOperator) -> u8
 // One of `>`, `<`, `=`, `!`.
 fn then_byte_operator(s: &[u8], c: Cursor) -> ByteOperatorAt
     requires { Inside s.now c }
-    ensures { Reads byteComparison s.now c result.operator result.cursor }
+    ensures { Reads byte_comparison s.now c result.operator result.cursor }
 {
     let operator = operator_next(s, c);
     let sign = sign_of(operator);
@@ -125,7 +125,7 @@ fn then_byte_operator(s: &[u8], c: Cursor) -> ByteOperatorAt
 // `relative` with optional `,little`, or `little`.
 fn then_flag_words(s: &[u8], c: Cursor) -> FlagsAt
     requires { Inside s.now c }
-    ensures { Reads flagWords s.now c (result.relative, result.little) result.cursor }
+    ensures { Reads flag_words s.now c (result.relative, result.little) result.cursor }
 {
     let word = then_either_word(s, c, b"relative", b"little");
     let after = word.cursor;
@@ -164,7 +164,7 @@ fn then_flags(s: &[u8], c: Cursor) -> FlagsAt
 // The option byte_test.
 pub fn byte_option(s: &[u8], at: usize) -> Valued
     requires { at ≤ length s.now }
-    ensures { Reads byteForm s.now (Parsed at) (optionValueOf s.now result.value [] []) result.cursor × Plain result.value }
+    ensures { Reads byte_form s.now (Parsed at) (option_value_of s.now result.value [] []) result.cursor × Plain result.value }
 {
     let c = gap_at(s, at);
     let w = then_width(s, c);

@@ -9,7 +9,7 @@ use lib.ListN.{length, get_or, drop, length-drop, drop_of_length-le}
 use lib.Seq.{drop-cons}
 use lib.Dec.{eqb}
 use borrow.Author.Tests.{ne_eqb}
-use Rattle.definitions.specs.Lists.{sameBytes}
+use Rattle.definitions.specs.Lists.{same_bytes}
 use Rattle.definitions.specs.Reading.{dashes}
 
 module _ (s : List ℕ) (at : ℕ) (h : at < length s) where
@@ -17,30 +17,30 @@ module _ (s : List ℕ) (at : ℕ) (h : at < length s) where
   head = rw add-one (drop-cons s at 0 h)
 
 -- `--` by its two bytes
-and-true : (t : Bool) → (t && true) ≡ t
-and-true true = refl
-and-true false = refl
+and_true : (t : Bool) → (t && true) ≡ t
+and_true true = refl
+and_true false = refl
 
 module _ (s : List ℕ) (at : ℕ) (h : at < length s) where
-  pub dashes-both : get_or s at 0 ≡ 45 → at + 1 < length s → eqb (get_or s (at + 1) 0) 45 ≡ dashes (drop at s)
-  unfolding sameBytes
-  dashes-both e g = rw (head s at h, head s (at + 1) g, e) (sym (and-true (eqb (get_or s (at + 1) 0) 45)))
+  pub dashes_both : get_or s at 0 ≡ 45 → at + 1 < length s → eqb (get_or s (at + 1) 0) 45 ≡ dashes (drop at s)
+  unfolding same_bytes
+  dashes_both e g = rw (head s at h, head s (at + 1) g, e) (sym (and_true (eqb (get_or s (at + 1) 0) 45)))
 
-  pub dashes-one : get_or s at 0 ≡ 45 → length s ≤ at + 1 → false ≡ dashes (drop at s)
-  unfolding sameBytes
-  dashes-one e g = rw (head s at h, drop_of_length-le s {i = at + 1} g, e)
+  pub dashes_one : get_or s at 0 ≡ 45 → length s ≤ at + 1 → false ≡ dashes (drop at s)
+  unfolding same_bytes
+  dashes_one e g = rw (head s at h, drop_of_length-le s {i = at + 1} g, e)
 
-  pub dashes-none : (get_or s at 0 ≡ 45 → ⊥) → false ≡ dashes (drop at s)
-  unfolding sameBytes
-  dashes-none n = rw (drop-cons s at 0 h) (go (drop (suc at) s))
+  pub dashes_none : (get_or s at 0 ≡ 45 → ⊥) → false ≡ dashes (drop at s)
+  unfolding same_bytes
+  dashes_none n = rw (drop-cons s at 0 h) (go (drop (suc at) s))
     where
       go : (l : List ℕ) → false ≡ dashes (get_or s at 0 ∷ l)
       go [] = rw (ne_eqb (get_or s at 0) 45 n)
       go (x ∷ l) = rw (ne_eqb (get_or s at 0) 45 n)
 
-  pub dashes-two : dashes (drop at s) ≡ true → at + 2 ≤ length s
-  unfolding sameBytes
-  dashes-two e = go (drop at s) refl e
+  pub dashes_two : dashes (drop at s) ≡ true → at + 2 ≤ length s
+  unfolding same_bytes
+  dashes_two e = go (drop at s) refl e
     where
       go : (l : List ℕ) → drop at s ≡ l → dashes l ≡ true → at + 2 ≤ length s
       go [] d q = absurd (let z : ◌≡◌ {A = ℕ} 0 1 = cc in omega arith)

@@ -3,7 +3,7 @@ ghost use Rattle.std.specs.Prelude.{◌≡◌, ◌<◌, length, drop};
 ghost use Rattle.forms.specs.Bytes.{run};
 ghost use Rattle.definitions.specs.Options.{printable};
 ghost use Rattle.definitions.specs.Reading.{dashes};
-ghost use Rattle.read_frame.specs.Framing.{isOpened, Fronts, endedBy};
+ghost use Rattle.read_frame.specs.Framing.{is_opened, Fronts, ended_by};
 
 use definitions::answers::Refusal;
 use definitions::limits::TEXT_BYTES;
@@ -37,7 +37,7 @@ fn printable_run(s: &[u8]) -> usize
 
 // Whether `F-SBID(` stands at the front.
 fn is_opened(s: &[u8]) -> bool
-    ensures { result ≡ isOpened s.now }
+    ensures { result ≡ is_opened s.now }
 {
     let w = b"F-SBID(";
     if s.len() < OPENING_BYTES {
@@ -90,7 +90,7 @@ pub fn dashes_at(s: &[u8], at: usize) -> bool
 
 // A cursor that goes on is the place after the option; a broken limit is 7 at its place, a form that failed 6 where it did.
 pub fn ended_by(c: Cursor) -> Ended
-    ensures { result ≡ endedBy c }
+    ensures { result ≡ ended_by c }
 {
     match c {
         Cursor::Parsed(n) => Ended::Next(n),

@@ -16,107 +16,107 @@ use Rattle.definitions.specs.declared.packets.LastMatch.TheVariants.{None}
 use Rattle.definitions.specs.declared.table.Address.{Address}
 use Rattle.definitions.specs.declared.table.Slot.{Slot}
 use Rattle.definitions.specs.declared.table.Table.{Table}
-use Rattle.definitions.specs.Limits.{documentLimits, maxPatterns, maxItems, maxAddresses}
+use Rattle.definitions.specs.Limits.{document_limits, max_patterns, max_items, max_addresses}
 use Rattle.definitions.specs.Lists.{any?, count, padded}
 use Rattle.definitions.specs.OptionValues.{Context, NoCase, Distance, Within, OptionValue, Name, Protocol}
-use Rattle.definitions.specs.Tables.{slotsIn, no_slot, noAddress, table_of}
-use Rattle.definitions.specs.Items.{patternsOf}
-use Rattle.definitions.specs.References.{usableRun, usableIn}
-use Rattle.definitions.specs.Occurrences.{sameKind, isPattern, missing}
-use Rattle.definitions.specs.Reading.{Located, optionValuesOf, refusedReading, acceptedReading, checkedTable}
+use Rattle.definitions.specs.Tables.{slots_in, no_slot, no_address, table_of}
+use Rattle.definitions.specs.Items.{patterns_of}
+use Rattle.definitions.specs.References.{usable_run, usable_in}
+use Rattle.definitions.specs.Occurrences.{same_kind, is_pattern, missing}
+use Rattle.definitions.specs.Reading.{Located, option_values_of, refused_reading, accepted_reading, checked_table}
 use Rattle.read_value.specs.declared.Value.{Value}
 use Rattle.read_value.specs.declared.Value.TheVariants as value
-use Rattle.read_value.specs.Values.{optionValueOf}
+use Rattle.read_value.specs.Values.{option_value_of}
 use Rattle.read_state.specs.declared.State.{State}
 use Rattle.read_state.specs.declared.Inserted.{Inserted}
-use Rattle.read_state.specs.State.{dashesOf, stateFrom, state_of, Holds, lastSlot, Beside, After, optionIn, InsertedRight}
-use Rattle.read_insert.specs.Inserting.{valueInserted}
-use Rattle.read_insert.specs.Checking.{tableIn, usableHeld, outcomeIn, readingBy}
-use Rattle.list_laws.proofs.Padded.{padded-at}
-use Rattle.read_insert.proofs.OneMore.{count_none, dashes-length}
-use Rattle.read_insert.proofs.Outcomes.{Outcome, name-outcome, protocol-outcome, flow-outcome}
-use Rattle.read_insert.proofs.Outcomes.{test-outcome, addresses-outcome, pattern-outcome, modifier-outcome}
+use Rattle.read_state.specs.State.{dashes_of, state_from, state_of, Holds, last_slot, Beside, After, option_in, InsertedRight}
+use Rattle.read_insert.specs.Inserting.{value_inserted}
+use Rattle.read_insert.specs.Checking.{table_in, usable_held, outcome_in, reading_by}
+use Rattle.list_laws.proofs.Padded.{padded_at}
+use Rattle.read_insert.proofs.OneMore.{count_none, dashes_length}
+use Rattle.read_insert.proofs.Outcomes.{Outcome, name_outcome, protocol_outcome, flow_outcome}
+use Rattle.read_insert.proofs.Outcomes.{test_outcome, addresses_outcome, pattern_outcome, modifier_outcome}
 
 -- ---- inserting
 
-no-addresses : (al list : List Address) → al ≡ [] → list ≡ padded maxAddresses noAddress (take maxAddresses al) → list ≡ padded maxAddresses noAddress []
-no-addresses al list e h = h ∙ ap (λ (l : List Address). padded maxAddresses noAddress (take maxAddresses l)) e
+no_addresses : (al list : List Address) → al ≡ [] → list ≡ padded max_addresses no_address (take max_addresses al) → list ≡ padded max_addresses no_address []
+no_addresses al list e h = h ∙ ap (λ (l : List Address). padded max_addresses no_address (take max_addresses l)) e
 
 -- a value without pattern bytes stores none
-none-stored : {s : List ℕ} {located : List Located} {dash : ℕ} {e : OptionValue} {bytes : List ℕ} {items : List Slot} {r : Inserted} (u : ℕ) (b : List ℕ)
+none_stored : {s : List ℕ} {located : List Located} {dash : ℕ} {e : OptionValue} {bytes : List ℕ} {items : List Slot} {r : Inserted} (u : ℕ) (b : List ℕ)
     → b ≡ []
     → Outcome s located dash e bytes items r → Outcome s located dash e (sets bytes u b) items r
-none-stored {s} {located} {dash} {e} {bytes} {items} {r} u b z o = subst (λ (c : List ℕ). Outcome s located dash e (sets bytes u c) items r) (sym z) o
+none_stored {s} {located} {dash} {e} {bytes} {items} {r} u b z o = subst (λ (c : List ℕ). Outcome s located dash e (sets bytes u c) items r) (sym z) o
 
 module _ (s : List ℕ) (located : List Located) (dash from : ℕ) (bytes : List ℕ) (items : List Slot) (h : Holds s located (state_of from located) bytes items)
-    (last : Slot) (at_last : last ≡ lastSlot items (state_of from located)) (list : List Address) (used : ℕ) (al : List Address) (b : List ℕ) where
+    (last : Slot) (at_last : last ≡ last_slot items (state_of from located)) (list : List Address) (used : ℕ) (al : List Address) (b : List ℕ) where
   abbrev now : State
   now = state_of from located
 
-  value-outcome : (v : Value) → Beside s now v list used al b
-      → Outcome s located dash (optionValueOf s v al b) (sets bytes now.used b) items (valueInserted now last dash v list used)
-  unfolding optionValueOf valueInserted
-  value-outcome (value.Name at n) k = none-stored now.used b k.apart.4 (name-outcome s located dash from bytes items h at n k.apart.1 k.apart.2)
-  value-outcome (value.Protocol p) k = none-stored now.used b k.apart.1 (protocol-outcome s located dash from bytes items h p)
-  value-outcome (value.Flow f) k = none-stored now.used b k.apart.1 (flow-outcome s located dash from bytes items h f)
-  value-outcome (value.Test it) k =
-      none-stored now.used b k.apart.1
-      (test-outcome s located dash from bytes items h it [] list (omega arith) (no-addresses al list k.apart.0 k.addresses))
-  value-outcome (value.Addresses a) k =
-      none-stored now.used b k.apart.1 (addresses-outcome s located dash from bytes items h a al list k.apart.0 k.addresses)
-  value-outcome (value.Pattern negated n) k =
-      pattern-outcome s located dash from bytes items h negated n b list used k.apart.0 (no-addresses al list k.apart.1 k.addresses)
+  value_outcome : (v : Value) → Beside s now v list used al b
+      → Outcome s located dash (option_value_of s v al b) (sets bytes now.used b) items (value_inserted now last dash v list used)
+  unfolding option_value_of value_inserted
+  value_outcome (value.Name at n) k = none_stored now.used b k.apart.4 (name_outcome s located dash from bytes items h at n k.apart.1 k.apart.2)
+  value_outcome (value.Protocol p) k = none_stored now.used b k.apart.1 (protocol_outcome s located dash from bytes items h p)
+  value_outcome (value.Flow f) k = none_stored now.used b k.apart.1 (flow_outcome s located dash from bytes items h f)
+  value_outcome (value.Test it) k =
+      none_stored now.used b k.apart.1
+      (test_outcome s located dash from bytes items h it [] list (omega arith) (no_addresses al list k.apart.0 k.addresses))
+  value_outcome (value.Addresses a) k =
+      none_stored now.used b k.apart.1 (addresses_outcome s located dash from bytes items h a al list k.apart.0 k.addresses)
+  value_outcome (value.Pattern negated n) k =
+      pattern_outcome s located dash from bytes items h negated n b list used k.apart.0 (no_addresses al list k.apart.1 k.addresses)
       k.counted k.fits
-  value-outcome (value.Context c) k = none-stored now.used b k.apart.1 (modifier-outcome s located dash from bytes items h (Context c) last at_last)
-  value-outcome value.NoCase k = none-stored now.used b k.apart.1 (modifier-outcome s located dash from bytes items h NoCase last at_last)
-  value-outcome (value.Distance d) k = none-stored now.used b k.apart.1 (modifier-outcome s located dash from bytes items h (Distance d) last at_last)
-  value-outcome (value.Within w) k = none-stored now.used b k.apart.1 (modifier-outcome s located dash from bytes items h (Within w) last at_last)
+  value_outcome (value.Context c) k = none_stored now.used b k.apart.1 (modifier_outcome s located dash from bytes items h (Context c) last at_last)
+  value_outcome value.NoCase k = none_stored now.used b k.apart.1 (modifier_outcome s located dash from bytes items h NoCase last at_last)
+  value_outcome (value.Distance d) k = none_stored now.used b k.apart.1 (modifier_outcome s located dash from bytes items h (Distance d) last at_last)
+  value_outcome (value.Within w) k = none_stored now.used b k.apart.1 (modifier_outcome s located dash from bytes items h (Within w) last at_last)
 
-pub inserted-right : (st : State) (last : Slot) (dash : ℕ) (v : Value) (list : List Address) (used : ℕ)
-    → InsertedRight st last dash v list used (valueInserted st last dash v list used)
-inserted-right st last dash v list used = record { check = λ k. (here k).check; holds = λ k. (here k).holds }
+pub inserted_right : (st : State) (last : Slot) (dash : ℕ) (v : Value) (list : List Address) (used : ℕ)
+    → InsertedRight st last dash v list used (value_inserted st last dash v list used)
+inserted_right st last dash v list used = record { check = λ k. (here k).check; holds = λ k. (here k).holds }
   where
     here : (k : After st last v list used)
-        → Outcome k.text k.located dash (optionIn k) (sets k.bytes st.used k.b) k.items (valueInserted st last dash v list used)
+        → Outcome k.text k.located dash (option_in k) (sets k.bytes st.used k.b) k.items (value_inserted st last dash v list used)
     here k =
-        subst (λ (x : State). Holds k.text k.located x k.bytes k.items → last ≡ lastSlot k.items x
+        subst (λ (x : State). Holds k.text k.located x k.bytes k.items → last ≡ last_slot k.items x
         → Beside k.text x v list used k.al k.b
-        → Outcome k.text k.located dash (optionIn k) (sets k.bytes x.used k.b) k.items (valueInserted x last dash v list used))
+        → Outcome k.text k.located dash (option_in k) (sets k.bytes x.used k.b) k.items (value_inserted x last dash v list used))
         (sym k.holds.is)
-        (λ h e. value-outcome k.text k.located dash st.from k.bytes k.items h last e list used k.al k.b v)
+        (λ h e. value_outcome k.text k.located dash st.from k.bytes k.items h last e list used k.al k.b v)
         k.holds k.latest k.beside
 
 -- ---- judging
 
 -- the code's two tests are the definition's one
-missing-by : (n : ℕ) (t : Table) (a b : Bool)
-    → readingBy (if a then outcome.Refused refusal.Missing n else if b then outcome.Refused refusal.Missing n else outcome.Accepted) t
-    ≡ (if (a || b) then refusedReading documentLimits.room refusal.Missing n else acceptedReading t)
-missing-by n t true b = refl
-missing-by n t false true = refl
-missing-by n t false false = refl
+missing_by : (n : ℕ) (t : Table) (a b : Bool)
+    → reading_by (if a then outcome.Refused refusal.Missing n else if b then outcome.Refused refusal.Missing n else outcome.Accepted) t
+    ≡ (if (a || b) then refused_reading document_limits.room refusal.Missing n else accepted_reading t)
+missing_by n t true b = refl
+missing_by n t false true = refl
+missing_by n t false false = refl
 
-checked-at : (s : List ℕ) (located : List Located) (from : ℕ) (bytes : List ℕ) (items : List Slot) → Holds s located (state_of from located) bytes items
-    → readingBy (outcomeIn (length s) (state_of from located) items) (tableIn s (state_of from located) bytes items)
-    ≡ checkedTable documentLimits.room s located
-unfolding outcomeIn checkedTable stateFrom tableIn table_of missing
-checked-at s located from bytes items h =
-    let es : List OptionValue = optionValuesOf located in
-    let u : usableHeld (state_of from located) items ≡ usableIn es =
-    ap (λ (l : List Slot). usableRun None (patternsOf l))
-    (ap (take (length (slotsIn es))) h.slots ∙ take-append_seam (slotsIn es) (replicate (maxItems - length (slotsIn es)) no_slot)) in
-    by_cases (ltb (usableIn es) (count isPattern es))
+checked_at : (s : List ℕ) (located : List Located) (from : ℕ) (bytes : List ℕ) (items : List Slot) → Holds s located (state_of from located) bytes items
+    → reading_by (outcome_in (length s) (state_of from located) items) (table_in s (state_of from located) bytes items)
+    ≡ checked_table document_limits.room s located
+unfolding outcome_in checked_table state_from table_in table_of missing
+checked_at s located from bytes items h =
+    let es : List OptionValue = option_values_of located in
+    let u : usable_held (state_of from located) items ≡ usable_in es =
+    ap (λ (l : List Slot). usable_run None (patterns_of l))
+    (ap (take (length (slots_in es))) h.slots ∙ take-append_seam (slots_in es) (replicate (max_items - length (slots_in es)) no_slot)) in
+    by_cases (ltb (usable_in es) (count is_pattern es))
     (λ t.
-    let m : usableIn es < length (dashesOf located) = omega (arith, ltb-true (usableIn es) (count isPattern es) t, dashes-length located) in
-    rw (u, t, padded-at maxPatterns 0 (dashesOf located) (usableIn es) 0 m))
-    (λ f. rw (u, f, h.named.is, h.stored, h.slots, count_none (sameKind (Name [])) es, count_none (sameKind (Protocol 0)) es)
-    (missing-by (length s) (table_of documentLimits.room es) (not (any? (sameKind (Name [])) es)) (not (any? (sameKind (Protocol 0)) es))))
+    let m : usable_in es < length (dashes_of located) = omega (arith, ltb-true (usable_in es) (count is_pattern es) t, dashes_length located) in
+    rw (u, t, padded_at max_patterns 0 (dashes_of located) (usable_in es) 0 m))
+    (λ f. rw (u, f, h.named.is, h.stored, h.slots, count_none (same_kind (Name [])) es, count_none (same_kind (Protocol 0)) es)
+    (missing_by (length s) (table_of document_limits.room es) (not (any? (same_kind (Name [])) es)) (not (any? (same_kind (Protocol 0)) es))))
 
 -- whichever text of n bytes, pattern bytes and options the state holds
-pub checked-right : (n : ℕ) (st : State) (items : List Slot) (s bytes : List ℕ) (located : List Located) → length s ≡ n → Holds s located st bytes items
-    → readingBy (outcomeIn n st items) (tableIn s st bytes items) ≡ checkedTable documentLimits.room s located
-checked-right n st items s bytes located e h =
+pub checked_right : (n : ℕ) (st : State) (items : List Slot) (s bytes : List ℕ) (located : List Located) → length s ≡ n → Holds s located st bytes items
+    → reading_by (outcome_in n st items) (table_in s st bytes items) ≡ checked_table document_limits.room s located
+checked_right n st items s bytes located e h =
     rw (← e)
     (subst (λ (x : State). Holds s located x bytes items
-    → readingBy (outcomeIn (length s) x items) (tableIn s x bytes items) ≡ checkedTable documentLimits.room s located) (sym h.is)
-    (checked-at s located st.from bytes items) h)
+    → reading_by (outcome_in (length s) x items) (table_in s x bytes items) ≡ checked_table document_limits.room s located) (sym h.is)
+    (checked_at s located st.from bytes items) h)

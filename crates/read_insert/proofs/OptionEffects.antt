@@ -8,18 +8,18 @@ use lib.ListN.{length, length-append}
 use Rattle.definitions.specs.declared.table.Flow.TheVariants.{Any}
 use Rattle.definitions.specs.declared.table.Pattern as patterns
 use Rattle.definitions.specs.declared.table.Slot.{Slot}
-use Rattle.forms.proofs.Bools.{or-false}
-use Rattle.definitions.specs.Lists.{any?, keep, keepOne, count}
+use Rattle.forms.proofs.Bools.{or_false}
+use Rattle.definitions.specs.Lists.{any?, keep, keep_one, count}
 use Rattle.definitions.specs.OptionValues.{Modifier, OptionValue, Name, Protocol, Flow, Test, Pattern, Modified}
-use Rattle.definitions.specs.Tables.{nameIn, protocolIn, flowIn, bytesIn, slotsIn, slot_of, modified, bare, with}
-use Rattle.definitions.specs.Occurrences.{sameKind, isTest, isPattern, latest}
-use Rattle.read_state.specs.State.{lastPlace}
+use Rattle.definitions.specs.Tables.{name_in, protocol_in, flow_in, bytes_in, slots_in, slot_of, modified, bare, with}
+use Rattle.definitions.specs.Occurrences.{same_kind, is_test, is_pattern, latest}
+use Rattle.read_state.specs.State.{last_place}
 
 -- ---- tests over lists
 
-pub or-true : (a : Bool) → (a || true) ≡ true
-or-true true = refl
-or-true false = refl
+pub or_true : (a : Bool) → (a || true) ≡ true
+or_true true = refl
+or_true false = refl
 
 module _ {A : Type 0} (f : A → Bool) where
   or_assoc : (a b c : Bool) → (a || (b || c)) ≡ ((a || b) || c)
@@ -31,115 +31,115 @@ module _ {A : Type 0} (f : A → Bool) where
   any_append [] b = refl
   any_append (x ∷ a) b = rw (any_append a b) (or_assoc (f x) (any? f a) (any? f b))
 
-  keep_one : (t : Bool) (x : A) (l m : List A) → keepOne t x (l ++ m) ≡ keepOne t x l ++ m
-  keep_one true x l m = refl
-  keep_one false x l m = refl
+  keep_one_lem : (t : Bool) (x : A) (l m : List A) → keep_one t x (l ++ m) ≡ keep_one t x l ++ m
+  keep_one_lem true x l m = refl
+  keep_one_lem false x l m = refl
 
   pub keep_append : (a b : List A) → keep f (a ++ b) ≡ keep f a ++ keep f b
   unfolding keep
   keep_append [] b = refl
-  keep_append (x ∷ a) b = rw (keep_append a b) (keep_one (f x) x (keep f a) (keep f b))
+  keep_append (x ∷ a) b = rw (keep_append a b) (keep_one_lem (f x) x (keep f a) (keep f b))
 
-  pub count-append : (a b : List A) → count f (a ++ b) ≡ count f a + count f b
-  count-append a b = ap length (keep_append a b) ∙ length-append (keep f a) (keep f b)
+  pub count_append : (a b : List A) → count f (a ++ b) ≡ count f a + count f b
+  count_append a b = ap length (keep_append a b) ∙ length-append (keep f a) (keep f b)
 
 -- ---- name, protocol and flow: the first counts
 
-pub name-after : (es t : List OptionValue) → nameIn t ≡ [] → nameIn (es ++ t) ≡ nameIn es
-unfolding nameIn
-name-after [] t h = h
-name-after (Name n ∷ es) t h = refl
-name-after (Protocol p ∷ es) t h = name-after es t h
-name-after (Flow f ∷ es) t h = name-after es t h
-name-after (Test it al ∷ es) t h = name-after es t h
-name-after (Pattern n b ∷ es) t h = name-after es t h
-name-after (Modified m ∷ es) t h = name-after es t h
+pub name_after : (es t : List OptionValue) → name_in t ≡ [] → name_in (es ++ t) ≡ name_in es
+unfolding name_in
+name_after [] t h = h
+name_after (Name n ∷ es) t h = refl
+name_after (Protocol p ∷ es) t h = name_after es t h
+name_after (Flow f ∷ es) t h = name_after es t h
+name_after (Test it al ∷ es) t h = name_after es t h
+name_after (Pattern n b ∷ es) t h = name_after es t h
+name_after (Modified m ∷ es) t h = name_after es t h
 
-pub name-first : (es t : List OptionValue) → any? (sameKind (Name [])) es ≡ false → nameIn (es ++ t) ≡ nameIn t
-unfolding nameIn any?
-name-first [] t h = refl
-name-first (Name n ∷ es) t h = absurd (true≢false h)
-name-first (Protocol p ∷ es) t h = name-first es t h
-name-first (Flow f ∷ es) t h = name-first es t h
-name-first (Test it al ∷ es) t h = name-first es t h
-name-first (Pattern n b ∷ es) t h = name-first es t h
-name-first (Modified m ∷ es) t h = name-first es t h
+pub name_first : (es t : List OptionValue) → any? (same_kind (Name [])) es ≡ false → name_in (es ++ t) ≡ name_in t
+unfolding name_in any?
+name_first [] t h = refl
+name_first (Name n ∷ es) t h = absurd (true≢false h)
+name_first (Protocol p ∷ es) t h = name_first es t h
+name_first (Flow f ∷ es) t h = name_first es t h
+name_first (Test it al ∷ es) t h = name_first es t h
+name_first (Pattern n b ∷ es) t h = name_first es t h
+name_first (Modified m ∷ es) t h = name_first es t h
 
-pub protocol-after : (es t : List OptionValue) → protocolIn t ≡ 0 → protocolIn (es ++ t) ≡ protocolIn es
-unfolding protocolIn
-protocol-after [] t h = h
-protocol-after (Name n ∷ es) t h = protocol-after es t h
-protocol-after (Protocol p ∷ es) t h = refl
-protocol-after (Flow f ∷ es) t h = protocol-after es t h
-protocol-after (Test it al ∷ es) t h = protocol-after es t h
-protocol-after (Pattern n b ∷ es) t h = protocol-after es t h
-protocol-after (Modified m ∷ es) t h = protocol-after es t h
+pub protocol_after : (es t : List OptionValue) → protocol_in t ≡ 0 → protocol_in (es ++ t) ≡ protocol_in es
+unfolding protocol_in
+protocol_after [] t h = h
+protocol_after (Name n ∷ es) t h = protocol_after es t h
+protocol_after (Protocol p ∷ es) t h = refl
+protocol_after (Flow f ∷ es) t h = protocol_after es t h
+protocol_after (Test it al ∷ es) t h = protocol_after es t h
+protocol_after (Pattern n b ∷ es) t h = protocol_after es t h
+protocol_after (Modified m ∷ es) t h = protocol_after es t h
 
-pub protocol-first : (es t : List OptionValue) → any? (sameKind (Protocol 0)) es ≡ false → protocolIn (es ++ t) ≡ protocolIn t
-unfolding protocolIn any?
-protocol-first [] t h = refl
-protocol-first (Name n ∷ es) t h = protocol-first es t h
-protocol-first (Protocol p ∷ es) t h = absurd (true≢false h)
-protocol-first (Flow f ∷ es) t h = protocol-first es t h
-protocol-first (Test it al ∷ es) t h = protocol-first es t h
-protocol-first (Pattern n b ∷ es) t h = protocol-first es t h
-protocol-first (Modified m ∷ es) t h = protocol-first es t h
+pub protocol_first : (es t : List OptionValue) → any? (same_kind (Protocol 0)) es ≡ false → protocol_in (es ++ t) ≡ protocol_in t
+unfolding protocol_in any?
+protocol_first [] t h = refl
+protocol_first (Name n ∷ es) t h = protocol_first es t h
+protocol_first (Protocol p ∷ es) t h = absurd (true≢false h)
+protocol_first (Flow f ∷ es) t h = protocol_first es t h
+protocol_first (Test it al ∷ es) t h = protocol_first es t h
+protocol_first (Pattern n b ∷ es) t h = protocol_first es t h
+protocol_first (Modified m ∷ es) t h = protocol_first es t h
 
-pub flow-after : (es t : List OptionValue) → flowIn t ≡ Any → flowIn (es ++ t) ≡ flowIn es
-unfolding flowIn
-flow-after [] t h = h
-flow-after (Name n ∷ es) t h = flow-after es t h
-flow-after (Protocol p ∷ es) t h = flow-after es t h
-flow-after (Flow f ∷ es) t h = refl
-flow-after (Test it al ∷ es) t h = flow-after es t h
-flow-after (Pattern n b ∷ es) t h = flow-after es t h
-flow-after (Modified m ∷ es) t h = flow-after es t h
+pub flow_after : (es t : List OptionValue) → flow_in t ≡ Any → flow_in (es ++ t) ≡ flow_in es
+unfolding flow_in
+flow_after [] t h = h
+flow_after (Name n ∷ es) t h = flow_after es t h
+flow_after (Protocol p ∷ es) t h = flow_after es t h
+flow_after (Flow f ∷ es) t h = refl
+flow_after (Test it al ∷ es) t h = flow_after es t h
+flow_after (Pattern n b ∷ es) t h = flow_after es t h
+flow_after (Modified m ∷ es) t h = flow_after es t h
 
-pub flow-first : (es t : List OptionValue) → any? (sameKind (Flow Any)) es ≡ false → flowIn (es ++ t) ≡ flowIn t
-unfolding flowIn any?
-flow-first [] t h = refl
-flow-first (Name n ∷ es) t h = flow-first es t h
-flow-first (Protocol p ∷ es) t h = flow-first es t h
-flow-first (Flow f ∷ es) t h = absurd (true≢false h)
-flow-first (Test it al ∷ es) t h = flow-first es t h
-flow-first (Pattern n b ∷ es) t h = flow-first es t h
-flow-first (Modified m ∷ es) t h = flow-first es t h
+pub flow_first : (es t : List OptionValue) → any? (same_kind (Flow Any)) es ≡ false → flow_in (es ++ t) ≡ flow_in t
+unfolding flow_in any?
+flow_first [] t h = refl
+flow_first (Name n ∷ es) t h = flow_first es t h
+flow_first (Protocol p ∷ es) t h = flow_first es t h
+flow_first (Flow f ∷ es) t h = absurd (true≢false h)
+flow_first (Test it al ∷ es) t h = flow_first es t h
+flow_first (Pattern n b ∷ es) t h = flow_first es t h
+flow_first (Modified m ∷ es) t h = flow_first es t h
 
 -- ---- pattern bytes and items: one after the other
 
-pub bytes-append : (es t : List OptionValue) → bytesIn (es ++ t) ≡ bytesIn es ++ bytesIn t
-unfolding bytesIn
-bytes-append [] t = refl
-bytes-append (Name n ∷ es) t = bytes-append es t
-bytes-append (Protocol p ∷ es) t = bytes-append es t
-bytes-append (Flow f ∷ es) t = bytes-append es t
-bytes-append (Test it al ∷ es) t = bytes-append es t
-bytes-append (Pattern n b ∷ es) t = rw (bytes-append es t) (sym (append_assoc b (bytesIn es) (bytesIn t)))
-bytes-append (Modified m ∷ es) t = bytes-append es t
+pub bytes_append : (es t : List OptionValue) → bytes_in (es ++ t) ≡ bytes_in es ++ bytes_in t
+unfolding bytes_in
+bytes_append [] t = refl
+bytes_append (Name n ∷ es) t = bytes_append es t
+bytes_append (Protocol p ∷ es) t = bytes_append es t
+bytes_append (Flow f ∷ es) t = bytes_append es t
+bytes_append (Test it al ∷ es) t = bytes_append es t
+bytes_append (Pattern n b ∷ es) t = rw (bytes_append es t) (sym (append_assoc b (bytes_in es) (bytes_in t)))
+bytes_append (Modified m ∷ es) t = bytes_append es t
 
 -- after options that change no pattern before them
-pub modified-after : (es t : List OptionValue) → ((p : patterns.Pattern) → modified t p ≡ p) → (p : patterns.Pattern) → modified (es ++ t) p ≡ modified es p
+pub modified_after : (es t : List OptionValue) → ((p : patterns.Pattern) → modified t p ≡ p) → (p : patterns.Pattern) → modified (es ++ t) p ≡ modified es p
 unfolding modified
-modified-after [] t h p = h p
-modified-after (Name n ∷ es) t h p = modified-after es t h p
-modified-after (Protocol q ∷ es) t h p = modified-after es t h p
-modified-after (Flow f ∷ es) t h p = modified-after es t h p
-modified-after (Test it al ∷ es) t h p = modified-after es t h p
-modified-after (Pattern n b ∷ es) t h p = refl
-modified-after (Modified m ∷ es) t h p = modified-after es t h (with m p)
+modified_after [] t h p = h p
+modified_after (Name n ∷ es) t h p = modified_after es t h p
+modified_after (Protocol q ∷ es) t h p = modified_after es t h p
+modified_after (Flow f ∷ es) t h p = modified_after es t h p
+modified_after (Test it al ∷ es) t h p = modified_after es t h p
+modified_after (Pattern n b ∷ es) t h p = refl
+modified_after (Modified m ∷ es) t h p = modified_after es t h (with m p)
 
-pub slots-append : (es t : List OptionValue) → ((p : patterns.Pattern) → modified t p ≡ p) → slotsIn (es ++ t) ≡ slotsIn es ++ slotsIn t
-unfolding slotsIn
-slots-append [] t h = refl
-slots-append (Name n ∷ es) t h = slots-append es t h
-slots-append (Protocol p ∷ es) t h = slots-append es t h
-slots-append (Flow f ∷ es) t h = slots-append es t h
-slots-append (Test it al ∷ es) t h = ap (λ (l : List Slot). slot_of it al ∷ l) (slots-append es t h)
-slots-append (Pattern n b ∷ es) t h = rw (modified-after es t h (bare n (length b)), slots-append es t h)
-slots-append (Modified m ∷ es) t h = slots-append es t h
+pub slots_append : (es t : List OptionValue) → ((p : patterns.Pattern) → modified t p ≡ p) → slots_in (es ++ t) ≡ slots_in es ++ slots_in t
+unfolding slots_in
+slots_append [] t h = refl
+slots_append (Name n ∷ es) t h = slots_append es t h
+slots_append (Protocol p ∷ es) t h = slots_append es t h
+slots_append (Flow f ∷ es) t h = slots_append es t h
+slots_append (Test it al ∷ es) t h = ap (λ (l : List Slot). slot_of it al ∷ l) (slots_append es t h)
+slots_append (Pattern n b ∷ es) t h = rw (modified_after es t h (bare n (length b)), slots_append es t h)
+slots_append (Modified m ∷ es) t h = slots_append es t h
 
-pub slots_length : (es : List OptionValue) → length (slotsIn es) ≡ count isPattern es + count isTest es
-unfolding slotsIn keep
+pub slots_length : (es : List OptionValue) → length (slots_in es) ≡ count is_pattern es + count is_test es
+unfolding slots_in keep
 slots_length [] = refl
 slots_length (Name n ∷ es) = slots_length es
 slots_length (Protocol p ∷ es) = slots_length es
@@ -150,38 +150,38 @@ slots_length (Modified m ∷ es) = slots_length es
 
 -- ---- the modifiers after the last pattern, and its place
 
-pub latest-append : (ms : List Modifier) (es t : List OptionValue) → latest ms (es ++ t) ≡ latest (latest ms es) t
+pub latest_append : (ms : List Modifier) (es t : List OptionValue) → latest ms (es ++ t) ≡ latest (latest ms es) t
 unfolding latest
-latest-append ms [] t = refl
-latest-append ms (Name n ∷ es) t = latest-append ms es t
-latest-append ms (Protocol p ∷ es) t = latest-append ms es t
-latest-append ms (Flow f ∷ es) t = latest-append ms es t
-latest-append ms (Test it al ∷ es) t = latest-append ms es t
-latest-append ms (Pattern n b ∷ es) t = latest-append [] es t
-latest-append ms (Modified m ∷ es) t = latest-append (m ∷ ms) es t
+latest_append ms [] t = refl
+latest_append ms (Name n ∷ es) t = latest_append ms es t
+latest_append ms (Protocol p ∷ es) t = latest_append ms es t
+latest_append ms (Flow f ∷ es) t = latest_append ms es t
+latest_append ms (Test it al ∷ es) t = latest_append ms es t
+latest_append ms (Pattern n b ∷ es) t = latest_append [] es t
+latest_append ms (Modified m ∷ es) t = latest_append (m ∷ ms) es t
 
-pub last-after-all : (es t : List OptionValue) → any? isPattern t ≡ false → lastPlace t ≡ 0 → lastPlace (es ++ t) ≡ lastPlace es
-unfolding lastPlace
-last-after-all [] t h z = z
-last-after-all (Name n ∷ es) t h z = last-after-all es t h z
-last-after-all (Protocol p ∷ es) t h z = last-after-all es t h z
-last-after-all (Flow f ∷ es) t h z = last-after-all es t h z
-last-after-all (Test it al ∷ es) t h z = rw (any_append isPattern es t, h, or-false (any? isPattern es), last-after-all es t h z)
-last-after-all (Pattern n b ∷ es) t h z = rw (any_append isPattern es t, h, or-false (any? isPattern es), last-after-all es t h z)
-last-after-all (Modified m ∷ es) t h z = last-after-all es t h z
+pub last_after_all_lem : (es t : List OptionValue) → any? is_pattern t ≡ false → last_place t ≡ 0 → last_place (es ++ t) ≡ last_place es
+unfolding last_place
+last_after_all_lem [] t h z = z
+last_after_all_lem (Name n ∷ es) t h z = last_after_all_lem es t h z
+last_after_all_lem (Protocol p ∷ es) t h z = last_after_all_lem es t h z
+last_after_all_lem (Flow f ∷ es) t h z = last_after_all_lem es t h z
+last_after_all_lem (Test it al ∷ es) t h z = rw (any_append is_pattern es t, h, or_false (any? is_pattern es), last_after_all_lem es t h z)
+last_after_all_lem (Pattern n b ∷ es) t h z = rw (any_append is_pattern es t, h, or_false (any? is_pattern es), last_after_all_lem es t h z)
+last_after_all_lem (Modified m ∷ es) t h z = last_after_all_lem es t h z
 
-pub last-new : (es : List OptionValue) (neg : Bool) (b : List ℕ) → lastPlace (es ++ (Pattern neg b ∷ [])) ≡ length (slotsIn es)
-unfolding lastPlace slotsIn any?
-last-new [] neg b = refl
-last-new (Name n ∷ es) neg b = last-new es neg b
-last-new (Protocol p ∷ es) neg b = last-new es neg b
-last-new (Flow f ∷ es) neg b = last-new es neg b
-last-new (Test it al ∷ es) neg b = rw (any_append isPattern es (Pattern neg b ∷ []), or-true (any? isPattern es), last-new es neg b)
-last-new (Pattern n c ∷ es) neg b = rw (any_append isPattern es (Pattern neg b ∷ []), or-true (any? isPattern es), last-new es neg b)
-last-new (Modified m ∷ es) neg b = last-new es neg b
+pub last_new : (es : List OptionValue) (neg : Bool) (b : List ℕ) → last_place (es ++ (Pattern neg b ∷ [])) ≡ length (slots_in es)
+unfolding last_place slots_in any?
+last_new [] neg b = refl
+last_new (Name n ∷ es) neg b = last_new es neg b
+last_new (Protocol p ∷ es) neg b = last_new es neg b
+last_new (Flow f ∷ es) neg b = last_new es neg b
+last_new (Test it al ∷ es) neg b = rw (any_append is_pattern es (Pattern neg b ∷ []), or_true (any? is_pattern es), last_new es neg b)
+last_new (Pattern n c ∷ es) neg b = rw (any_append is_pattern es (Pattern neg b ∷ []), or_true (any? is_pattern es), last_new es neg b)
+last_new (Modified m ∷ es) neg b = last_new es neg b
 
-pub last_none : (es : List OptionValue) → any? isPattern es ≡ false → lastPlace es ≡ 0
-unfolding lastPlace any?
+pub last_none : (es : List OptionValue) → any? is_pattern es ≡ false → last_place es ≡ 0
+unfolding last_place any?
 last_none [] h = refl
 last_none (Name n ∷ es) h = last_none es h
 last_none (Protocol p ∷ es) h = last_none es h

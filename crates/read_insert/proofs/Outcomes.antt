@@ -20,187 +20,187 @@ use Rattle.definitions.specs.declared.table.Item.{Item}
 use Rattle.definitions.specs.declared.table.Item.TheVariants as item
 use Rattle.definitions.specs.declared.table.Address.{Address}
 use Rattle.definitions.specs.declared.table.Slot.{Slot}
-use Rattle.definitions.specs.Limits.{documentLimits, maxName, maxPatterns, maxTests, maxItems, maxAddresses}
+use Rattle.definitions.specs.Limits.{document_limits, max_name, max_patterns, max_tests, max_items, max_addresses}
 use Rattle.definitions.specs.Lists.{any?, keep, count, padded}
-use Rattle.definitions.specs.Refusals.{refuseIf}
+use Rattle.definitions.specs.Refusals.{refuse_if}
 use Rattle.definitions.specs.OptionValues.{Modifier, Context, NoCase, Distance, Within, OptionValue, Name, Protocol, Flow, Test, Pattern, Modified}
-use Rattle.definitions.specs.Tables.{nameIn, bytesIn, slotsIn, slot_of, noAddress, modified, bare}
-use Rattle.definitions.specs.Occurrences.{isTest, isPattern, sameModifier, latest, occurrenceCheck}
-use Rattle.definitions.specs.Reading.{Located, optionValuesOf}
+use Rattle.definitions.specs.Tables.{name_in, bytes_in, slots_in, slot_of, no_address, modified, bare}
+use Rattle.definitions.specs.Occurrences.{is_test, is_pattern, same_modifier, latest, occurrence_check}
+use Rattle.definitions.specs.Reading.{Located, option_values_of}
 use Rattle.read_state.specs.declared.State.{State}
 use Rattle.read_state.specs.declared.Inserted.{Inserted}
-use Rattle.read_state.specs.State.{dashesOf, givenIn, stateFrom, state_of, locatedAlso, NameAt, Holds, lastSlot}
-use Rattle.read_state.specs.Sound.{refusedIn, itemAlso}
-use Rattle.read_insert.specs.Inserting.{withName, withProtocol, withFlow, nameInserted, protocolInserted, flowInserted}
-use Rattle.read_insert_counted.specs.Counting.{withTest, withNewPattern, testInserted, addressesInserted, patternInserted}
-use Rattle.read_insert_modifiers.specs.Modifying.{withGiven, modifierBy, modifierInserted, already, givenAlso}
-use Rattle.read_insert.proofs.OptionEffects.{slots_length, name-after, name-first}
-use Rattle.read_insert.proofs.Agreement.{count_same, count-new, bytes_same}
-use Rattle.read_insert.proofs.Steps.{bytes-also, name-step, protocol-step, flow-step, test-step, pattern-step, modifier-step}
-use Rattle.list_laws.proofs.Padded.{padded-more}
-use Rattle.read_insert.proofs.Items.{items_of, items-same, items-new, items-changed}
-use Rattle.read_insert.proofs.OneMore.{count_none, dashes-same, dashes-new, dashes-length, holds-also}
+use Rattle.read_state.specs.State.{dashes_of, given_in, state_from, state_of, located_also, NameAt, Holds, last_slot}
+use Rattle.read_state.specs.Sound.{refused_in, item_also}
+use Rattle.read_insert.specs.Inserting.{with_name, with_protocol, with_flow, name_inserted, protocol_inserted, flow_inserted}
+use Rattle.read_insert_counted.specs.Counting.{with_test, with_new_pattern, test_inserted, addresses_inserted, pattern_inserted}
+use Rattle.read_insert_modifiers.specs.Modifying.{with_given, modifier_by, modifier_inserted, already, given_also}
+use Rattle.read_insert.proofs.OptionEffects.{slots_length, name_after, name_first}
+use Rattle.read_insert.proofs.Agreement.{count_same, count_new, bytes_same}
+use Rattle.read_insert.proofs.Steps.{bytes_also, name_step, protocol_step, flow_step, test_step, pattern_step, modifier_step}
+use Rattle.list_laws.proofs.Padded.{padded_more}
+use Rattle.read_insert.proofs.Items.{items_of, items_same, items_new, items_changed}
+use Rattle.read_insert.proofs.OneMore.{count_none, dashes_same, dashes_new, dashes_length, holds_also}
 
 -- r is right for the option e after the options said in the text s, where bytes are stored already and r has its own slot to put
 pub record Outcome (s : List ℕ) (located : List Located) (dash : ℕ) (e : OptionValue) (bytes : List ℕ) (items : List Slot) (r : Inserted) : Type 0 where
-  pub check : r.check ≡ occurrenceCheck (optionValuesOf located) e
-  pub holds : r.check ≡ Pass → Holds s (locatedAlso located dash e) r.state bytes (set items r.place r.slot)
+  pub check : r.check ≡ occurrence_check (option_values_of located) e
+  pub holds : r.check ≡ Pass → Holds s (located_also located dash e) r.state bytes (set items r.place r.slot)
 
 -- a refusal that is not due
-fine-only : (t : Bool) (x : Refusal) (d : Check) → refuseIf t x d ≡ Pass → (t ≡ false) × (d ≡ Pass)
-fine-only true x d e = let z : ◌≡◌ {A = ℕ} 0 1 = cc in absurd (omega (arith, z))
-fine-only false x d e = (refl, e)
+fine_only : (t : Bool) (x : Refusal) (d : Check) → refuse_if t x d ≡ Pass → (t ≡ false) × (d ≡ Pass)
+fine_only true x d e = let z : ◌≡◌ {A = ℕ} 0 1 = cc in absurd (omega (arith, z))
+fine_only false x d e = (refl, e)
 
 module _ (s : List ℕ) (located : List Located) (dash : ℕ) (e : OptionValue) (bytes : List ℕ) (items : List Slot) where
-  outcome-if : (t : Bool) (x : Refusal) (st : State) (r : Inserted) → (t ≡ true → occurrenceCheck (optionValuesOf located) e ≡ Refuse x)
+  outcome_if : (t : Bool) (x : Refusal) (st : State) (r : Inserted) → (t ≡ true → occurrence_check (option_values_of located) e ≡ Refuse x)
       → (t ≡ false → Outcome s located dash e bytes items r)
-      → Outcome s located dash e bytes items (if t then refusedIn st x else r)
-  outcome-if true x st r h k = record { check = sym (h refl); holds = λ f. let z : ◌≡◌ {A = ℕ} 0 1 = cc in absurd (omega (arith, z)) }
-  outcome-if false x st r h k = k refl
+      → Outcome s located dash e bytes items (if t then refused_in st x else r)
+  outcome_if true x st r h k = record { check = sym (h refl); holds = λ f. let z : ◌≡◌ {A = ℕ} 0 1 = cc in absurd (omega (arith, z)) }
+  outcome_if false x st r h k = k refl
 
-already-is : (m : Modifier) (es : List OptionValue) → already m (givenIn es) ≡ any? (sameModifier m) (latest [] es)
-already-is (Context c) es = refl
-already-is NoCase es = refl
-already-is (Distance d) es = refl
-already-is (Within w) es = refl
+already_is : (m : Modifier) (es : List OptionValue) → already m (given_in es) ≡ any? (same_modifier m) (latest [] es)
+already_is (Context c) es = refl
+already_is NoCase es = refl
+already_is (Distance d) es = refl
+already_is (Within w) es = refl
 
 module _ (s : List ℕ) (located : List Located) (dash from : ℕ) (bytes : List ℕ) (items : List Slot)
     (h : Holds s located (state_of from located) bytes items) where
   abbrev es : List OptionValue
-  es = optionValuesOf located
+  es = option_values_of located
 
   abbrev now : State
   now = state_of from located
 
-  few : length (slotsIn es) ≤ maxItems
+  few : length (slots_in es) ≤ max_items
   few = let p = h.patterns in let t = h.tests in omega (arith, slots_length es, p, t)
 
   -- an option that says no name leaves it where it was
-  same_name : (e : OptionValue) → nameIn (e ∷ []) ≡ [] → NameAt s from (length (nameIn es)) (nameIn (es ++ (e ∷ [])))
-  unfolding stateFrom
-  same_name e n = rw (name-after es (e ∷ []) n) h.named
+  same_name : (e : OptionValue) → name_in (e ∷ []) ≡ [] → NameAt s from (length (name_in es)) (name_in (es ++ (e ∷ [])))
+  unfolding state_from
+  same_name e n = rw (name_after es (e ∷ []) n) h.named
 
-  same_bytes : (e : OptionValue) → bytesIn (e ∷ []) ≡ [] → bytes ≡ padded documentLimits.room 0 (bytesIn (es ++ (e ∷ [])))
-  same_bytes e b = h.stored ∙ ap (padded documentLimits.room 0) (sym (bytes_same es e b))
+  same_bytes_lem : (e : OptionValue) → bytes_in (e ∷ []) ≡ [] → bytes ≡ padded document_limits.room 0 (bytes_in (es ++ (e ∷ [])))
+  same_bytes_lem e b = h.stored ∙ ap (padded document_limits.room 0) (sym (bytes_same es e b))
 
   -- an option that is not counted
-  uncounted : (e : OptionValue) (st : State) (after : List Slot) → isPattern e ≡ false → count isPattern (e ∷ []) ≡ 0 → count isTest (e ∷ []) ≡ 0
-      → bytesIn (e ∷ []) ≡ [] → st ≡ stateFrom st.from (es ++ (e ∷ [])) (dashesOf located) → NameAt s st.from st.len (nameIn (es ++ (e ∷ [])))
-      → after ≡ items_of (es ++ (e ∷ [])) → Holds s (locatedAlso located dash e) st bytes after
+  uncounted : (e : OptionValue) (st : State) (after : List Slot) → is_pattern e ≡ false → count is_pattern (e ∷ []) ≡ 0 → count is_test (e ∷ []) ≡ 0
+      → bytes_in (e ∷ []) ≡ [] → st ≡ state_from st.from (es ++ (e ∷ [])) (dashes_of located) → NameAt s st.from st.len (name_in (es ++ (e ∷ [])))
+      → after ≡ items_of (es ++ (e ∷ [])) → Holds s (located_also located dash e) st bytes after
   uncounted e st after d p t b k n i =
-      holds-also s located dash e (dashesOf located) st bytes after (dashes-same located dash e d) k n (same_bytes e b) i
-      (omega (arith, count_same es e isPattern p, h.patterns))
-      (omega (arith, count_same es e isTest t, h.tests))
+      holds_also s located dash e (dashes_of located) st bytes after (dashes_same located dash e d) k n (same_bytes_lem e b) i
+      (omega (arith, count_same es e is_pattern p, h.patterns))
+      (omega (arith, count_same es e is_test t, h.tests))
 
-  pub name-outcome : (at n : ℕ) → n ≤ maxName → at + n ≤ length s
-      → Outcome s located dash (Name (take n (drop at s))) bytes items (nameInserted now at n)
-  unfolding nameInserted stateFrom occurrenceCheck keep nameIn bytesIn slotsIn modified
-  name-outcome at n short inside =
+  pub name_outcome : (at n : ℕ) → n ≤ max_name → at + n ≤ length s
+      → Outcome s located dash (Name (take n (drop at s))) bytes items (name_inserted now at n)
+  unfolding name_inserted state_from occurrence_check keep name_in bytes_in slots_in modified
+  name_outcome at n short inside =
       let x : List ℕ = take n (drop at s) in
       let l : length x ≡ n = length-take-le n (drop at s) (omega (arith, length-drop at s)) in
       record {
         check = refl;
         holds = λ f.
-            let new = (fine-only _ refusal.Repeated Pass f).0 in
-            uncounted (Name x) (withName now at n) _ refl refl refl refl
-            (ap (withName now at) (sym l) ∙ sym (name-step from es (dashesOf located) at x new))
-            (record { is = sym (name-first es (Name x ∷ []) new); inside = inside; short = short })
-            (items-same es items h.slots (Name x) few (λ p. refl) refl);
+            let new = (fine_only _ refusal.Repeated Pass f).0 in
+            uncounted (Name x) (with_name now at n) _ refl refl refl refl
+            (ap (with_name now at) (sym l) ∙ sym (name_step from es (dashes_of located) at x new))
+            (record { is = sym (name_first es (Name x ∷ []) new); inside = inside; short = short })
+            (items_same es items h.slots (Name x) few (λ p. refl) refl);
       }
 
-  pub protocol-outcome : (p : ℕ) → Outcome s located dash (Protocol p) bytes items (protocolInserted now p)
-  unfolding protocolInserted stateFrom occurrenceCheck keep nameIn bytesIn slotsIn modified
-  protocol-outcome p =
+  pub protocol_outcome : (p : ℕ) → Outcome s located dash (Protocol p) bytes items (protocol_inserted now p)
+  unfolding protocol_inserted state_from occurrence_check keep name_in bytes_in slots_in modified
+  protocol_outcome p =
       record {
         check = refl;
         holds = λ f.
-            uncounted (Protocol p) (withProtocol now p) _ refl refl refl refl
-            (sym (protocol-step from es (dashesOf located) p (fine-only _ refusal.Repeated Pass f).0))
-            (same_name (Protocol p) refl) (items-same es items h.slots (Protocol p) few (λ p. refl) refl);
+            uncounted (Protocol p) (with_protocol now p) _ refl refl refl refl
+            (sym (protocol_step from es (dashes_of located) p (fine_only _ refusal.Repeated Pass f).0))
+            (same_name (Protocol p) refl) (items_same es items h.slots (Protocol p) few (λ p. refl) refl);
       }
 
-  pub flow-outcome : (w : flows.Flow) → Outcome s located dash (Flow w) bytes items (flowInserted now w)
-  unfolding flowInserted stateFrom occurrenceCheck keep nameIn bytesIn slotsIn modified
-  flow-outcome w =
+  pub flow_outcome : (w : flows.Flow) → Outcome s located dash (Flow w) bytes items (flow_inserted now w)
+  unfolding flow_inserted state_from occurrence_check keep name_in bytes_in slots_in modified
+  flow_outcome w =
       record {
         check = refl;
         holds = λ f.
-            uncounted (Flow w) (withFlow now w) _ refl refl refl refl
-            (sym (flow-step from es (dashesOf located) w (fine-only _ refusal.Repeated Pass f).0))
-            (same_name (Flow w) refl) (items-same es items h.slots (Flow w) few (λ p. refl) refl);
+            uncounted (Flow w) (with_flow now w) _ refl refl refl refl
+            (sym (flow_step from es (dashes_of located) w (fine_only _ refusal.Repeated Pass f).0))
+            (same_name (Flow w) refl) (items_same es items h.slots (Flow w) few (λ p. refl) refl);
       }
 
-  pub test-outcome : (it : Item) (al list : List Address) → length al ≤ maxAddresses → list ≡ padded maxAddresses noAddress al
-      → Outcome s located dash (Test it al) bytes items (testInserted now it list)
-  unfolding testInserted stateFrom occurrenceCheck keep nameIn bytesIn slotsIn modified
-  test-outcome it al list k e =
+  pub test_outcome : (it : Item) (al list : List Address) → length al ≤ max_addresses → list ≡ padded max_addresses no_address al
+      → Outcome s located dash (Test it al) bytes items (test_inserted now it list)
+  unfolding test_inserted state_from occurrence_check keep name_in bytes_in slots_in modified
+  test_outcome it al list k e =
       let sl : Slot = record { item = it; addresses = list } in
-      let fewer : ltb maxAddresses (length al) ≡ false = le-ltb maxAddresses (length al) k in
-      outcome-if s located dash (Test it al) bytes items (leb maxTests (count isTest es)) refusal.CountExceeded now (itemAlso now (withTest now) sl)
+      let fewer : ltb max_addresses (length al) ≡ false = le-ltb max_addresses (length al) k in
+      outcome_if s located dash (Test it al) bytes items (leb max_tests (count is_test es)) refusal.CountExceeded now (item_also now (with_test now) sl)
       (λ t. rw (fewer, t))
       (λ f.
-      let m : count isTest es < maxTests = leb-false maxTests (count isTest es) f in
+      let m : count is_test es < max_tests = leb-false max_tests (count is_test es) f in
       record {
         check = sym (rw (fewer, f));
         holds = λ fine.
-            holds-also s located dash (Test it al) (dashesOf located) (withTest now) bytes _ (dashes-same located dash (Test it al) refl)
-            (sym (test-step from es (dashesOf located) it al)) (same_name (Test it al) refl) (same_bytes (Test it al) refl)
-            (ap (λ (l : List Address). set items (length (slotsIn es)) (record { item = it; addresses = l })) e
-            ∙ items-new es items h.slots (Test it al) (slot_of it al) (omega (arith, slots_length es, h.patterns, m)) (λ p. refl) refl)
-            (omega (arith, count_same es (Test it al) isPattern refl, h.patterns))
-            (omega (arith, count-new es (Test it al) isTest refl, m));
+            holds_also s located dash (Test it al) (dashes_of located) (with_test now) bytes _ (dashes_same located dash (Test it al) refl)
+            (sym (test_step from es (dashes_of located) it al)) (same_name (Test it al) refl) (same_bytes_lem (Test it al) refl)
+            (ap (λ (l : List Address). set items (length (slots_in es)) (record { item = it; addresses = l })) e
+            ∙ items_new es items h.slots (Test it al) (slot_of it al) (omega (arith, slots_length es, h.patterns, m)) (λ p. refl) refl)
+            (omega (arith, count_same es (Test it al) is_pattern refl, h.patterns))
+            (omega (arith, count_new es (Test it al) is_test refl, m));
       })
 
-  pub addresses-outcome : (a : AddressTest) (al list : List Address) → a.count ≡ length al
-      → list ≡ padded maxAddresses noAddress (take maxAddresses al)
-      → Outcome s located dash (Test (item.Address a) al) bytes items (addressesInserted now a list)
-  unfolding addressesInserted occurrenceCheck
-  addresses-outcome a al list k e =
-      outcome-if s located dash (Test (item.Address a) al) bytes items (ltb maxAddresses a.count) refusal.CountExceeded now
-      (testInserted now (item.Address a) list)
-      (λ t. rw (sym (ap (ltb maxAddresses) k) ∙ t))
+  pub addresses_outcome : (a : AddressTest) (al list : List Address) → a.count ≡ length al
+      → list ≡ padded max_addresses no_address (take max_addresses al)
+      → Outcome s located dash (Test (item.Address a) al) bytes items (addresses_inserted now a list)
+  unfolding addresses_inserted occurrence_check
+  addresses_outcome a al list k e =
+      outcome_if s located dash (Test (item.Address a) al) bytes items (ltb max_addresses a.count) refusal.CountExceeded now
+      (test_inserted now (item.Address a) list)
+      (λ t. rw (sym (ap (ltb max_addresses) k) ∙ t))
       (λ f.
-      let m : length al ≤ maxAddresses = omega (arith, ltb-false maxAddresses a.count f, k) in
-      test-outcome (item.Address a) al list m (e ∙ ap (padded maxAddresses noAddress) (take_all maxAddresses al m)))
+      let m : length al ≤ max_addresses = omega (arith, ltb-false max_addresses a.count f, k) in
+      test_outcome (item.Address a) al list m (e ∙ ap (padded max_addresses no_address) (take_all max_addresses al m)))
 
-  pub pattern-outcome : (neg : Bool) (n : ℕ) (b : List ℕ) (list : List Address) (used : ℕ) → n ≡ length b → list ≡ padded maxAddresses noAddress []
-      → used ≡ now.used + length b → now.used + length b ≤ documentLimits.room
-      → Outcome s located dash (Pattern neg b) (sets bytes now.used b) items (patternInserted now dash neg n list used)
-  unfolding patternInserted stateFrom occurrenceCheck keep nameIn bytesIn slotsIn modified
-  pattern-outcome neg n b list used hn hl hu fits =
+  pub pattern_outcome : (neg : Bool) (n : ℕ) (b : List ℕ) (list : List Address) (used : ℕ) → n ≡ length b → list ≡ padded max_addresses no_address []
+      → used ≡ now.used + length b → now.used + length b ≤ document_limits.room
+      → Outcome s located dash (Pattern neg b) (sets bytes now.used b) items (pattern_inserted now dash neg n list used)
+  unfolding pattern_inserted state_from occurrence_check keep name_in bytes_in slots_in modified
+  pattern_outcome neg n b list used hn hl hu fits =
       let sl : Slot = record { item = item.Pattern (bare neg n); addresses = list } in
-      outcome-if s located dash (Pattern neg b) (sets bytes now.used b) items (leb maxPatterns (count isPattern es)) refusal.CountExceeded now
-      (itemAlso now (withNewPattern now dash used) sl)
+      outcome_if s located dash (Pattern neg b) (sets bytes now.used b) items (leb max_patterns (count is_pattern es)) refusal.CountExceeded now
+      (item_also now (with_new_pattern now dash used) sl)
       (λ t. rw t)
       (λ f.
-      let m : count isPattern es < maxPatterns = leb-false maxPatterns (count isPattern es) f in
+      let m : count is_pattern es < max_patterns = leb-false max_patterns (count is_pattern es) f in
       record {
         check = sym (rw f);
         holds = λ fine.
-            holds-also s located dash (Pattern neg b) (dashesOf located ++ (dash ∷ [])) (withNewPattern now dash used) (sets bytes now.used b) _
-            (dashes-new located dash (Pattern neg b) refl)
-            (ap (withNewPattern now dash) hu
-            ∙ sym (pattern-step from es (dashesOf located) neg b dash (omega (arith, dashes-length located, m)) (dashes-length located)))
+            holds_also s located dash (Pattern neg b) (dashes_of located ++ (dash ∷ [])) (with_new_pattern now dash used) (sets bytes now.used b) _
+            (dashes_new located dash (Pattern neg b) refl)
+            (ap (with_new_pattern now dash) hu
+            ∙ sym (pattern_step from es (dashes_of located) neg b dash (omega (arith, dashes_length located, m)) (dashes_length located)))
             (same_name (Pattern neg b) refl)
-            (ap (λ (l : List ℕ). sets l (length (bytesIn es)) b) h.stored
-            ∙ sym (ap (padded documentLimits.room 0) (bytes-also es neg b) ∙ padded-more documentLimits.room 0 b (bytesIn es) fits))
-            ((λ i. set items (length (slotsIn es)) (record { item = item.Pattern (bare neg (hn i)); addresses = hl i }))
-            ∙ items-new es items h.slots (Pattern neg b) (slot_of (item.Pattern (bare neg (length b))) [])
+            (ap (λ (l : List ℕ). sets l (length (bytes_in es)) b) h.stored
+            ∙ sym (ap (padded document_limits.room 0) (bytes_also es neg b) ∙ padded_more document_limits.room 0 b (bytes_in es) fits))
+            ((λ i. set items (length (slots_in es)) (record { item = item.Pattern (bare neg (hn i)); addresses = hl i }))
+            ∙ items_new es items h.slots (Pattern neg b) (slot_of (item.Pattern (bare neg (length b))) [])
             (omega (arith, slots_length es, h.tests, m)) (λ p. refl) refl)
-            (omega (arith, count-new es (Pattern neg b) isPattern refl, m))
-            (omega (arith, count_same es (Pattern neg b) isTest refl, h.tests));
+            (omega (arith, count_new es (Pattern neg b) is_pattern refl, m))
+            (omega (arith, count_same es (Pattern neg b) is_test refl, h.tests));
       })
 
-  pub modifier-outcome : (m : Modifier) (last : Slot) → last ≡ lastSlot items now
-      → Outcome s located dash (Modified m) bytes items (modifierInserted now last m)
-  unfolding modifierBy stateFrom occurrenceCheck keep nameIn bytesIn slotsIn modified
-  modifier-outcome m last e =
+  pub modifier_outcome : (m : Modifier) (last : Slot) → last ≡ last_slot items now
+      → Outcome s located dash (Modified m) bytes items (modifier_inserted now last m)
+  unfolding modifier_by state_from occurrence_check keep name_in bytes_in slots_in modified
+  modifier_outcome m last e =
       record {
-        check = rw (already-is m es);
+        check = rw (already_is m es);
         holds = λ f.
-            let some : any? isPattern es ≡ true =
-            not-false (any? isPattern es) (sym (count_none isPattern es) ∙ (fine-only (eqb (count isPattern es) 0) refusal.ModifierWithoutPattern _ f).0) in
-            uncounted (Modified m) (withGiven now (givenAlso m now.given)) _ refl refl refl refl
-            (sym (modifier-step from es (dashesOf located) m some)) (same_name (Modified m) refl)
-            (items-changed es items h.slots m _ last some e);
+            let some : any? is_pattern es ≡ true =
+            not-false (any? is_pattern es) (sym (count_none is_pattern es) ∙ (fine_only (eqb (count is_pattern es) 0) refusal.ModifierWithoutPattern _ f).0) in
+            uncounted (Modified m) (with_given now (given_also m now.given)) _ refl refl refl refl
+            (sym (modifier_step from es (dashes_of located) m some)) (same_name (Modified m) refl)
+            (items_changed es items h.slots m _ last some e);
       }

@@ -1,10 +1,10 @@
 // The judgement after the last option: 10 by pattern, then 12.
 ghost use Rattle.std.specs.Prelude.{◌≡◌, ◌+◌, ◌≤◌, ◌<◌, length, get_or, take, drop};
-ghost use Rattle.definitions.specs.Limits.{documentLimits, maxName, maxPatterns};
+ghost use Rattle.definitions.specs.Limits.{document_limits, max_name, max_patterns};
 ghost use Rattle.definitions.specs.Lists.{padded};
-ghost use Rattle.definitions.specs.Reading.{refusedReading};
+ghost use Rattle.definitions.specs.Reading.{refused_reading};
 ghost use Rattle.read_state.specs.Sound.{Sound};
-ghost use Rattle.read_insert.specs.Checking.{outcomeIn};
+ghost use Rattle.read_insert.specs.Checking.{outcome_in};
 
 use definitions::answers::{ReadOutcome, Reading, Refusal};
 use definitions::limits::{ITEMS, NAME_BYTES, PATTERN_BYTES, PATTERNS};
@@ -14,8 +14,8 @@ use read_state::{State, no_slot};
 
 // The name of a table: the `n` bytes of `s` from `from` on, with zeros after them.
 pub fn name_of(s: &[u8], from: usize, n: usize) -> [u8; NAME_BYTES]
-    requires { (n ≤ maxName) × (from + n ≤ length s.now) }
-    ensures { result ≡ padded maxName 0 (take n (drop from s.now)) }
+    requires { (n ≤ max_name) × (from + n ≤ length s.now) }
+    ensures { result ≡ padded max_name 0 (take n (drop from s.now)) }
 {
     let mut name = [0u8; NAME_BYTES];
     let mut i = 0;
@@ -28,7 +28,7 @@ pub fn name_of(s: &[u8], from: usize, n: usize) -> [u8; NAME_BYTES]
 
 // A refusal with its place, and the table of a text that says nothing.
 pub fn refused(r: Refusal, place: usize) -> Reading
-    ensures { result ≡ refusedReading documentLimits.room r place }
+    ensures { result ≡ refused_reading document_limits.room r place }
 {
     let slot = no_slot();
     let table = Table {
@@ -48,7 +48,7 @@ pub fn refused(r: Refusal, place: usize) -> Reading
 }
 
 fn dash_of(dashes: [usize; PATTERNS], k: usize) -> usize
-    requires { k < maxPatterns }
+    requires { k < max_patterns }
     ensures { result ≡ get_or dashes k 0 }
 {
     dashes[k]
@@ -57,7 +57,7 @@ fn dash_of(dashes: [usize; PATTERNS], k: usize) -> usize
 // The state after the last option of the text, with the items beside it.
 pub fn judge(len: usize, st: State, items: [Slot; ITEMS]) -> ReadOutcome
     requires { Sound st }
-    ensures { result ≡ outcomeIn len st items }
+    ensures { result ≡ outcome_in len st items }
 {
     let usable = usable_count(items, st.count);
     if usable < st.patterns {

@@ -4,12 +4,12 @@ pub mod checking;
 mod once;
 
 ghost use Rattle.std.specs.Prelude.{◌≡◌, List, ℕ, length};
-ghost use Rattle.definitions.specs.Limits.{documentLimits};
-ghost use Rattle.definitions.specs.Reading.{Located, checkedTable};
+ghost use Rattle.definitions.specs.Limits.{document_limits};
+ghost use Rattle.definitions.specs.Reading.{Located, checked_table};
 ghost use Rattle.read_state.specs.Sound.{Sound};
 ghost use Rattle.read_state.specs.State.{Holds, After, InsertedRight};
-ghost use Rattle.read_insert.specs.Inserting.{valueInserted};
-ghost use Rattle.read_insert.specs.Checking.{tableIn, readingBy};
+ghost use Rattle.read_insert.specs.Inserting.{value_inserted};
+ghost use Rattle.read_insert.specs.Checking.{table_in, reading_by};
 
 use crate::checking::judge;
 use crate::once::{insert_flow, insert_name, insert_protocol};
@@ -31,7 +31,7 @@ fn insert_value(
     used: usize,
 ) -> Inserted
     requires { Sound st }
-    ensures { result ≡ valueInserted st last dash value list used }
+    ensures { result ≡ value_inserted st last dash value list used }
 {
     match value {
         Value::Name(from, n) => insert_name(st, from, n),
@@ -66,7 +66,7 @@ pub fn insert(
 // The last `)` of the text was met: 10 by pattern, then 12, or it is accepted.
 pub fn finish(len: usize, st: State, items: [Slot; ITEMS]) -> ReadOutcome
     requires { Sound st }
-    ensures { (s bytes : List ℕ) (located : List Located) → length s ≡ len → Holds s located st bytes items → readingBy result (tableIn s st bytes items) ≡ checkedTable documentLimits.room s located }
+    ensures { (s bytes : List ℕ) (located : List Located) → length s ≡ len → Holds s located st bytes items → reading_by result (table_in s st bytes items) ≡ checked_table document_limits.room s located }
 {
     judge(len, st, items)
 }

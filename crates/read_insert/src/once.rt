@@ -1,13 +1,13 @@
 // Options that may stand once in a text: name, protocol and flow. The state is made in any case: where something is due it says nothing.
 ghost use Rattle.std.specs.Prelude.{◌≡◌};
-ghost use Rattle.read_insert.specs.Inserting.{nameInserted, protocolInserted, flowInserted};
+ghost use Rattle.read_insert.specs.Inserting.{name_inserted, protocol_inserted, flow_inserted};
 
 use definitions::table::Flow;
 use read_state::{Inserted, State, check_again, no_item};
 
 // A name is told by its first byte's place and its length.
 pub fn insert_name(st: State, from: usize, n: usize) -> Inserted
-    ensures { result ≡ nameInserted st from n }
+    ensures { result ≡ name_inserted st from n }
 {
     let mut given = st.given;
     let check = check_again(given.name);
@@ -21,7 +21,7 @@ pub fn insert_name(st: State, from: usize, n: usize) -> Inserted
 
 // A protocol is kept by its number.
 pub fn insert_protocol(st: State, p: u8) -> Inserted
-    ensures { result ≡ protocolInserted st p }
+    ensures { result ≡ protocol_inserted st p }
 {
     let mut given = st.given;
     let check = check_again(given.protocol);
@@ -34,7 +34,7 @@ pub fn insert_protocol(st: State, p: u8) -> Inserted
 
 // A flow is kept as it is read.
 pub fn insert_flow(st: State, f: Flow) -> Inserted
-    ensures { result ≡ flowInserted st f }
+    ensures { result ≡ flow_inserted st f }
 {
     let mut given = st.given;
     let check = check_again(given.flow);

@@ -6,16 +6,16 @@ use Rattle.definitions.specs.declared.table.AddressTest.{AddressTest}
 use Rattle.definitions.specs.declared.table.Item.{Item}
 use Rattle.definitions.specs.declared.table.Item.TheVariants as item
 use Rattle.definitions.specs.declared.table.Address.{Address}
-use Rattle.definitions.specs.Limits.{maxPatterns, maxTests, maxAddresses}
+use Rattle.definitions.specs.Limits.{max_patterns, max_tests, max_addresses}
 use Rattle.definitions.specs.Tables.{bare}
 use Rattle.read_state.specs.declared.Given.{Given}
 use Rattle.read_state.specs.declared.State.{State}
 use Rattle.read_state.specs.declared.Inserted.{Inserted}
-use Rattle.read_state.specs.Sound.{refusedIn, itemAlso}
+use Rattle.read_state.specs.Sound.{refused_in, item_also}
 
 -- one test more
-abbrev pub withTest : State → State
-withTest st =
+abbrev pub with_test : State → State
+with_test st =
     record {
       from = st.from;
       len = st.len;
@@ -30,23 +30,23 @@ withTest st =
       dashes = st.dashes;
     }
 
-unfoldable pub testInserted : State → Item → List Address → Inserted
-testInserted st it list =
-    if leb maxTests st.tests then refusedIn st refusal.CountExceeded
-    else itemAlso st (withTest st) (record { item = it; addresses = list })
+unfoldable pub test_inserted : State → Item → List Address → Inserted
+test_inserted st it list =
+    if leb max_tests st.tests then refused_in st refusal.CountExceeded
+    else item_also st (with_test st) (record { item = it; addresses = list })
 
-unfoldable pub addressesInserted : State → AddressTest → List Address → Inserted
-addressesInserted st a list =
-    if ltb maxAddresses a.count then refusedIn st refusal.CountExceeded
-    else testInserted st (item.Address a) list
+unfoldable pub addresses_inserted : State → AddressTest → List Address → Inserted
+addresses_inserted st a list =
+    if ltb max_addresses a.count then refused_in st refusal.CountExceeded
+    else test_inserted st (item.Address a) list
 
 -- no modifier is given after a new pattern
-abbrev pub noModifiers : Given → Given
-noModifiers g = record { name = g.name; protocol = g.protocol; flow = g.flow; context = false; nocase = false; distance = false; within = false }
+abbrev pub no_modifiers : Given → Given
+no_modifiers g = record { name = g.name; protocol = g.protocol; flow = g.flow; context = false; nocase = false; distance = false; within = false }
 
 -- one pattern more, up to whose bytes so many are in use
-abbrev pub withNewPattern : State → ℕ → ℕ → State
-withNewPattern st dash used =
+abbrev pub with_new_pattern : State → ℕ → ℕ → State
+with_new_pattern st dash used =
     record {
       from = st.from;
       len = st.len;
@@ -54,14 +54,14 @@ withNewPattern st dash used =
       flow = st.flow;
       used = used;
       count = st.count + 1;
-      given = noModifiers st.given;
+      given = no_modifiers st.given;
       patterns = st.patterns + 1;
       tests = st.tests;
       last = st.count;
       dashes = set st.dashes st.patterns dash;
     }
 
-unfoldable pub patternInserted : State → ℕ → Bool → ℕ → List Address → ℕ → Inserted
-patternInserted st dash negated n list used =
-    if leb maxPatterns st.patterns then refusedIn st refusal.CountExceeded
-    else itemAlso st (withNewPattern st dash used) (record { item = item.Pattern (bare negated n); addresses = list })
+unfoldable pub pattern_inserted : State → ℕ → Bool → ℕ → List Address → ℕ → Inserted
+pattern_inserted st dash negated n list used =
+    if leb max_patterns st.patterns then refused_in st refusal.CountExceeded
+    else item_also st (with_new_pattern st dash used) (record { item = item.Pattern (bare negated n); addresses = list })

@@ -1,7 +1,7 @@
 // Options that are counted: tests and patterns, each an item more.
 ghost use Rattle.std.specs.Prelude.{◌≡◌};
 ghost use Rattle.read_state.specs.Sound.{Sound};
-ghost use Rattle.read_insert_counted.specs.Counting.{testInserted, addressesInserted, patternInserted};
+ghost use Rattle.read_insert_counted.specs.Counting.{test_inserted, addresses_inserted, pattern_inserted};
 
 use definitions::answers::{Check, Refusal};
 use definitions::limits::{ADDRESSES, PATTERNS, TESTS};
@@ -11,7 +11,7 @@ use read_state::{Given, Inserted, State, bare_pattern, no_item};
 // A test goes after the items so far, with its addresses beside it; 11 where there is no room for one more.
 pub fn insert_test(st: State, item: Item, list: [Address; ADDRESSES]) -> Inserted
     requires { Sound st }
-    ensures { result ≡ testInserted st item list }
+    ensures { result ≡ test_inserted st item list }
 {
     let tests = st.tests;
     if TESTS <= tests {
@@ -36,7 +36,7 @@ pub fn insert_test(st: State, item: Item, list: [Address; ADDRESSES]) -> Inserte
 // A list of more addresses than a test holds was read all the same, and is refused here.
 pub fn insert_addresses(st: State, a: AddressTest, list: [Address; ADDRESSES]) -> Inserted
     requires { Sound st }
-    ensures { result ≡ addressesInserted st a list }
+    ensures { result ≡ addresses_inserted st a list }
 {
     if ADDRESSES < a.count {
         return no_item(Check::Refuse(Refusal::CountExceeded), st);
@@ -54,7 +54,7 @@ pub fn insert_pattern(
     used: usize,
 ) -> Inserted
     requires { Sound st }
-    ensures { result ≡ patternInserted st dash negated n list used }
+    ensures { result ≡ pattern_inserted st dash negated n list used }
 {
     let patterns = st.patterns;
     if PATTERNS <= patterns {

@@ -6,26 +6,26 @@ use Rattle.definitions.specs.declared.table.Pattern.{Pattern}
 use Rattle.definitions.specs.declared.table.Item.{Item}
 use Rattle.definitions.specs.declared.table.Item.TheVariants as item
 use Rattle.definitions.specs.declared.table.Slot.{Slot}
-use Rattle.definitions.specs.Refusals.{refuseIf}
+use Rattle.definitions.specs.Refusals.{refuse_if}
 use Rattle.definitions.specs.OptionValues.{Modifier, Context, NoCase, Distance, Within}
 use Rattle.definitions.specs.Tables.{bare, with}
-use Rattle.definitions.specs.Items.{Kind, unused, addressed, patterned, plainTest, kind_of}
+use Rattle.definitions.specs.Items.{Kind, unused, addressed, patterned, plain_test, kind_of}
 use Rattle.read_state.specs.declared.Given.{Given}
 use Rattle.read_state.specs.declared.State.{State}
 use Rattle.read_state.specs.declared.Inserted.{Inserted}
 
 -- the pattern of an item; of any other item one that says nothing
-abbrev pub patternIn : Kind → Pattern
-patternIn unused = bare false 0
-patternIn (addressed a) = bare false 0
-patternIn (patterned p) = p
-patternIn plainTest = bare false 0
+abbrev pub pattern_in : Kind → Pattern
+pattern_in unused = bare false 0
+pattern_in (addressed a) = bare false 0
+pattern_in (patterned p) = p
+pattern_in plain_test = bare false 0
 
-unfoldable pub patternOf : Item → Pattern
-patternOf it = patternIn (kind_of it)
+unfoldable pub pattern_of : Item → Pattern
+pattern_of it = pattern_in (kind_of it)
 
-abbrev pub withGiven : State → Given → State
-withGiven st g =
+abbrev pub with_given : State → Given → State
+with_given st g =
     record {
       from = st.from;
       len = st.len;
@@ -41,16 +41,16 @@ withGiven st g =
     }
 
 -- a slot with another pattern in it
-abbrev pub slotWith : Slot → Pattern → Slot
-slotWith sl p = record { item = item.Pattern p; addresses = sl.addresses }
+abbrev pub slot_with : Slot → Pattern → Slot
+slot_with sl p = record { item = item.Pattern p; addresses = sl.addresses }
 
-unfoldable pub modifierBy : State → Slot → Bool → Pattern → Given → Inserted
-modifierBy st last again p g =
+unfoldable pub modifier_by : State → Slot → Bool → Pattern → Given → Inserted
+modifier_by st last again p g =
     record {
-      check = refuseIf (eqb st.patterns 0) refusal.ModifierWithoutPattern (refuseIf again refusal.Repeated Pass);
-      state = withGiven st g;
+      check = refuse_if (eqb st.patterns 0) refusal.ModifierWithoutPattern (refuse_if again refusal.Repeated Pass);
+      state = with_given st g;
       place = st.last;
-      slot = slotWith last p;
+      slot = slot_with last p;
     }
 
 -- whether it was given, and that it is
@@ -60,16 +60,16 @@ already NoCase g = g.nocase
 already (Distance d) g = g.distance
 already (Within w) g = g.within
 
-abbrev pub givenAlso : Modifier → Given → Given
-givenAlso (Context c) g =
+abbrev pub given_also : Modifier → Given → Given
+given_also (Context c) g =
     record { name = g.name; protocol = g.protocol; flow = g.flow; context = true; nocase = g.nocase; distance = g.distance; within = g.within }
-givenAlso NoCase g =
+given_also NoCase g =
     record { name = g.name; protocol = g.protocol; flow = g.flow; context = g.context; nocase = true; distance = g.distance; within = g.within }
-givenAlso (Distance d) g =
+given_also (Distance d) g =
     record { name = g.name; protocol = g.protocol; flow = g.flow; context = g.context; nocase = g.nocase; distance = true; within = g.within }
-givenAlso (Within w) g =
+given_also (Within w) g =
     record { name = g.name; protocol = g.protocol; flow = g.flow; context = g.context; nocase = g.nocase; distance = g.distance; within = true }
 
 -- where `last` is the slot of the last pattern
-abbrev pub modifierInserted : State → Slot → Modifier → Inserted
-modifierInserted st last m = modifierBy st last (already m st.given) (with m (patternOf last.item)) (givenAlso m st.given)
+abbrev pub modifier_inserted : State → Slot → Modifier → Inserted
+modifier_inserted st last m = modifier_by st last (already m st.given) (with m (pattern_of last.item)) (given_also m st.given)

@@ -1,8 +1,8 @@
 // Options that belong to the last pattern, each once: context, no_case, distance and within.
 ghost use Rattle.std.specs.Prelude.{◌≡◌};
 ghost use Rattle.definitions.specs.OptionValues as modifier;
-ghost use Rattle.definitions.specs.Refusals.{refuseIf};
-ghost use Rattle.read_insert_modifiers.specs.Modifying.{patternOf, modifierBy, modifierInserted};
+ghost use Rattle.definitions.specs.Refusals.{refuse_if};
+ghost use Rattle.read_insert_modifiers.specs.Modifying.{pattern_of, modifier_by, modifier_inserted};
 
 use definitions::answers::{Check, Refusal};
 use definitions::table::{
@@ -12,7 +12,7 @@ use read_state::{Given, Inserted, State, bare_pattern, check_again};
 
 // The pattern in a slot; in any other slot there is none to look at.
 fn pattern_of(slot: Slot) -> Pattern
-    ensures { result ≡ patternOf slot.item }
+    ensures { result ≡ pattern_of slot.item }
 {
     let item = slot.item;
     let Item::Pattern(p) = item else {
@@ -23,7 +23,7 @@ fn pattern_of(slot: Slot) -> Pattern
 
 // 9 where no pattern stands before, then 8.
 fn check_for(none: bool, again: bool) -> Check
-    ensures { result ≡ refuseIf none Refusal.ModifierWithoutPattern (refuseIf again Refusal.Repeated Check.Pass) }
+    ensures { result ≡ refuse_if none Refusal.ModifierWithoutPattern (refuse_if again Refusal.Repeated Check.Pass) }
 {
     if none {
         return Check::Refuse(Refusal::ModifierWithoutPattern);
@@ -33,7 +33,7 @@ fn check_for(none: bool, again: bool) -> Check
 
 // A modifier that makes `p` of the last pattern, whose slot is `last`; `again` says that it was given already.
 fn insert_modifier(st: State, last: Slot, again: bool, p: Pattern, given: Given) -> Inserted
-    ensures { result ≡ modifierBy st last again p given }
+    ensures { result ≡ modifier_by st last again p given }
 {
     let none = st.patterns == 0;
     let check = check_for(none, again);
@@ -55,7 +55,7 @@ fn insert_modifier(st: State, last: Slot, again: bool, p: Pattern, given: Given)
 
 // The context of the last pattern.
 pub fn insert_context(st: State, last: Slot, c: Context) -> Inserted
-    ensures { result ≡ modifierInserted st last (modifier.Context c) }
+    ensures { result ≡ modifier_inserted st last (modifier.Context c) }
 {
     let p = pattern_of(last);
     let distance = p.distance;
@@ -76,7 +76,7 @@ pub fn insert_context(st: State, last: Slot, c: Context) -> Inserted
 
 // The last pattern ignores letter case.
 pub fn insert_nocase(st: State, last: Slot) -> Inserted
-    ensures { result ≡ modifierInserted st last modifier.NoCase }
+    ensures { result ≡ modifier_inserted st last modifier.NoCase }
 {
     let p = pattern_of(last);
     let mut q = p;
@@ -89,7 +89,7 @@ pub fn insert_nocase(st: State, last: Slot) -> Inserted
 
 // The distance of the last pattern.
 pub fn insert_distance(st: State, last: Slot, d: DistanceValue) -> Inserted
-    ensures { result ≡ modifierInserted st last (modifier.Distance d) }
+    ensures { result ≡ modifier_inserted st last (modifier.Distance d) }
 {
     let p = pattern_of(last);
     let context = p.context;
@@ -110,7 +110,7 @@ pub fn insert_distance(st: State, last: Slot, d: DistanceValue) -> Inserted
 
 // How far the last pattern reaches.
 pub fn insert_within(st: State, last: Slot, w: WithinValue) -> Inserted
-    ensures { result ≡ modifierInserted st last (modifier.Within w) }
+    ensures { result ≡ modifier_inserted st last (modifier.Within w) }
 {
     let p = pattern_of(last);
     let context = p.context;

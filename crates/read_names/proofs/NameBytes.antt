@@ -7,22 +7,22 @@ use lib.Dec.{leb}
 use borrow.Author.Tests.{le-leb, leb-true}
 use Rattle.forms.specs.Bytes.{between, lower}
 use Rattle.forms.specs.Form.{has}
-use Rattle.forms.proofs.Bools.{by_cases, both_left, both_right, or-false}
-use Rattle.forms.proofs.Words.{span-one}
-use Rattle.definitions.specs.Options.{inName}
+use Rattle.forms.proofs.Bools.{by_cases, both_left, both_right, or_false}
+use Rattle.forms.proofs.Words.{span_one}
+use Rattle.definitions.specs.Options.{in_name}
 use Rattle.scan_bytes.specs.Classes.{class_of}
 use Rattle.scan_bytes.specs.declared.bytes.Class.TheVariants.{NameByte}
 
 -- 32 after a capital stands its small letter
-small-letter : (b : ℕ) → between 65 90 b ≡ true → between 97 122 (b + 32) ≡ true
-small-letter b t =
+small_letter : (b : ℕ) → between 65 90 b ≡ true → between 97 122 (b + 32) ≡ true
+small_letter b t =
     let low = leb-true 65 b (both_left (leb 65 b) (leb b 90) t) in
     let high = leb-true b 90 (both_right (leb 65 b) (leb b 90) t) in
     rw (le-leb 97 (b + 32) (omega arith), le-leb (b + 32) 122 (omega arith))
 
-pub name-bytes : (b : ℕ) → has (class_of NameByte) b ≡ inName b
-unfolding has inName lower
-name-bytes b =
+pub name_bytes : (b : ℕ) → has (class_of NameByte) b ≡ in_name b
+unfolding has in_name lower
+name_bytes b =
     by_cases (between 65 90 b)
-    (λ t. rw (t, small-letter b t))
-    (λ t. rw (t, span-one b 95, span-one b 46, or-false))
+    (λ t. rw (t, small_letter b t))
+    (λ t. rw (t, span_one b 95, span_one b 46, or_false))

@@ -7,69 +7,69 @@ use native.Mathlib.Omega.{arith}
 use native.Mathlib.Numerals.{add-one}
 use lib.ListN.{length, get_or, drop, drop_of_length-le}
 use lib.Seq.{drop-cons}
-use Rattle.forms.specs.Bytes.{if◌then◌else◌, sameWord}
+use Rattle.forms.specs.Bytes.{if◌then◌else◌, same_word}
 use Rattle.forms.specs.Form.{Form}
-use Rattle.forms.specs.Place.{readAt}
+use Rattle.forms.specs.Place.{read_at}
 use Rattle.forms.proofs.Bools.{by_cases}
 use Rattle.definitions.specs.Lists.{all?}
 use Rattle.definitions.specs.OptionValues.{OptionValue}
-use Rattle.definitions.specs.Options.{Option, optionTable, namedOption, listed}
-use Rattle.list_laws.proofs.Every.{all-at}
+use Rattle.definitions.specs.Options.{Option, option_table, named_option, listed}
+use Rattle.list_laws.proofs.Every.{all_at}
 use Rattle.read_names.specs.declared.options.OptionName.{OptionName}
 use Rattle.read_names.specs.declared.options.Lookup.TheVariants.{Found, Unlisted}
-use Rattle.read_names.specs.Names.{optionOrder, form_of, optionNames, optionCount, noCapitals, optionNamed, parsedAs}
+use Rattle.read_names.specs.Names.{option_order, form_of, option_names, option_count, no_capitals, option_named, parsed_as}
 
-pub rows-in-order : map form_of optionOrder ≡ map (λ row. row.form) optionTable
-unfolding optionOrder form_of optionTable
-rows-in-order = refl
+pub rows_in_order : map form_of option_order ≡ map (λ row. row.form) option_table
+unfolding option_order form_of option_table
+rows_in_order = refl
 
-pub names-count : length optionNames ≡ optionCount
-unfolding optionNames optionTable
-names-count = refl
+pub names_count : length option_names ≡ option_count
+unfolding option_names option_table
+names_count = refl
 
 -- the names are written in small letters
-pub names-small : (k : ℕ) → k < optionCount → noCapitals (get_or optionNames k []) ≡ true
-unfolding optionNames optionTable all?
-names-small k h = all-at noCapitals [] optionNames k refl h
+pub names_small : (k : ℕ) → k < option_count → no_capitals (get_or option_names k []) ≡ true
+unfolding option_names option_table all?
+names_small k h = all_at no_capitals [] option_names k refl h
 
-pub order-count : length optionOrder ≡ optionCount
-unfolding optionOrder
-order-count = refl
+pub order_count : length option_order ≡ option_count
+unfolding option_order
+order_count = refl
 
 -- ---- the first row with a name, row by row
 
 -- what is still to come after the first k rows
 abbrev pub Left : List OptionName → List (List ℕ) → List ℕ → ℕ → Type 0
-Left os ws n k = optionNamed os ws n ≡ optionNamed (drop k os) (drop k ws) n
+Left os ws n k = option_named os ws n ≡ option_named (drop k os) (drop k ws) n
 
 module _ (os : List OptionName) (ws : List (List ℕ)) (n : List ℕ) (k : ℕ) (d : OptionName) (h : k < length os) (g : k < length ws) (u : Left os ws n k) where
-  row : optionNamed (drop k os) (drop k ws) n ≡ (if sameWord n (get_or ws k []) then Found (get_or os k d) else optionNamed (drop (suc k) os) (drop (suc k) ws) n)
-  unfolding optionNamed
+  row : option_named (drop k os) (drop k ws) n ≡ (if same_word n (get_or ws k []) then Found (get_or os k d) else option_named (drop (suc k) os) (drop (suc k) ws) n)
+  unfolding option_named
   row = rw (drop-cons os k d h, drop-cons ws k [] g)
 
-  pub row-found : sameWord n (get_or ws k []) ≡ true → Found (get_or os k d) ≡ optionNamed os ws n
-  row-found t = sym (u ∙ row ∙ rw t)
+  pub row_found : same_word n (get_or ws k []) ≡ true → Found (get_or os k d) ≡ option_named os ws n
+  row_found t = sym (u ∙ row ∙ rw t)
 
-  pub row-passed : sameWord n (get_or ws k []) ≡ false → Left os ws n (k + 1)
-  row-passed t = rw add-one (u ∙ row ∙ rw t)
+  pub row_passed : same_word n (get_or ws k []) ≡ false → Left os ws n (k + 1)
+  row_passed t = rw add-one (u ∙ row ∙ rw t)
 
-pub rows_out : (os : List OptionName) (ws : List (List ℕ)) (n : List ℕ) (k : ℕ) → length os ≤ k → Left os ws n k → Unlisted ≡ optionNamed os ws n
-unfolding optionNamed
+pub rows_out : (os : List OptionName) (ws : List (List ℕ)) (n : List ℕ) (k : ℕ) → length os ≤ k → Left os ws n k → Unlisted ≡ option_named os ws n
+unfolding option_named
 rows_out os ws n k h u = sym (u ∙ rw (drop_of_length-le os {i = k} h))
 
 -- ---- what the definition reads
 
-parsed-by : (os : List OptionName) (rows : List Option) → map form_of os ≡ map (λ row. row.form) rows
-    → (n s : List ℕ) (at : ℕ) → namedOption rows n s at ≡ parsedAs (optionNamed os (map (λ row. row.name) rows) n) s at
-unfolding namedOption optionNamed
-parsed-by [] [] e n s at = refl
-parsed-by [] (r ∷ rows) e n s at = absurd (omega (arith, ap length e))
-parsed-by (o ∷ os) [] e n s at = absurd (omega (arith, ap length e))
-parsed-by (o ∷ os) (r ∷ rows) e n s at =
-    by_cases (sameWord n r.name)
-    (λ t. rw t (ap (λ (f : Form OptionValue). listed (readAt f s at)) (sym (head-eq_of_cons-eq e))))
-    (λ t. rw t (parsed-by os rows (tail-eq_of_cons-eq e) n s at))
+parsed_by : (os : List OptionName) (rows : List Option) → map form_of os ≡ map (λ row. row.form) rows
+    → (n s : List ℕ) (at : ℕ) → named_option rows n s at ≡ parsed_as (option_named os (map (λ row. row.name) rows) n) s at
+unfolding named_option option_named
+parsed_by [] [] e n s at = refl
+parsed_by [] (r ∷ rows) e n s at = absurd (omega (arith, ap length e))
+parsed_by (o ∷ os) [] e n s at = absurd (omega (arith, ap length e))
+parsed_by (o ∷ os) (r ∷ rows) e n s at =
+    by_cases (same_word n r.name)
+    (λ t. rw t (ap (λ (f : Form OptionValue). listed (read_at f s at)) (sym (head-eq_of_cons-eq e))))
+    (λ t. rw t (parsed_by os rows (tail-eq_of_cons-eq e) n s at))
 
-pub parsed-named : (n s : List ℕ) (at : ℕ) → namedOption optionTable n s at ≡ parsedAs (optionNamed optionOrder optionNames n) s at
-unfolding optionNames
-parsed-named n s at = parsed-by optionOrder optionTable rows-in-order n s at
+pub parsed_named : (n s : List ℕ) (at : ℕ) → named_option option_table n s at ≡ parsed_as (option_named option_order option_names n) s at
+unfolding option_names
+parsed_named n s at = parsed_by option_order option_table rows_in_order n s at

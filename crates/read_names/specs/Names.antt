@@ -1,24 +1,24 @@
--- The options of the table by name: their order and forms are those of its rows (`rows-in-order`).
+-- The options of the table by name: their order and forms are those of its rows (`rows_in_order`).
 use Rattle.std.specs.Prelude.{ℕ, Bool, not, List, [], ◌∷◌, map}
-use Rattle.forms.specs.Bytes.{if◌then◌else◌, between, sameWord}
+use Rattle.forms.specs.Bytes.{if◌then◌else◌, between, same_word}
 use Rattle.forms.specs.Form.{Form}
-use Rattle.forms.specs.Place.{readAt}
+use Rattle.forms.specs.Place.{read_at}
 use Rattle.definitions.specs.declared.table.Side.TheVariants.{Source, Destination}
 use Rattle.definitions.specs.declared.table.NumberField.TheVariants as number
 use Rattle.definitions.specs.declared.table.HeaderField.TheVariants as header
 use Rattle.definitions.specs.Lists.{all?}
 use Rattle.definitions.specs.OptionValues.{OptionValue}
-use Rattle.definitions.specs.Forms.{nameForm, protocolForm, flowForm, addressForm, sameIpForm, numberForm, ttlForm, fieldForm, ipIdForm}
-use Rattle.definitions.specs.Forms.{sizeForm, atForm, byteForm, patternForm, contextForm, noCaseForm, distanceForm, withinForm}
-use Rattle.definitions.specs.Options.{optionTable, NamedOption, unlisted, listed}
+use Rattle.definitions.specs.Forms.{name_form, protocol_form, flow_form, address_form, same_ip_form, number_form, ttl_form, field_form, ip_id_form}
+use Rattle.definitions.specs.Forms.{size_form, at_form, byte_form, pattern_form, context_form, no_case_form, distance_form, within_form}
+use Rattle.definitions.specs.Options.{option_table, NamedOption, unlisted, listed}
 use Rattle.read_names.specs.declared.options.OptionName.{OptionName}
 use Rattle.read_names.specs.declared.options.OptionName.TheVariants as option
 use Rattle.read_names.specs.declared.options.Lookup.{Lookup}
 use Rattle.read_names.specs.declared.options.Lookup.TheVariants.{Found, Unlisted}
 
 -- the options in the order of the rows
-unfoldable pub optionOrder : List OptionName
-optionOrder =
+unfoldable pub option_order : List OptionName
+option_order =
     option.Name ∷
     option.Protocol ∷
     option.Flow ∷
@@ -46,48 +46,48 @@ optionOrder =
 
 -- an option's form after its name
 unfoldable pub form_of : OptionName → Form OptionValue
-form_of option.Name = nameForm
-form_of option.Protocol = protocolForm
-form_of option.Flow = flowForm
-form_of option.SourceAddress = addressForm Source
-form_of option.DestinationAddress = addressForm Destination
-form_of option.SameIp = sameIpForm
-form_of option.IpId = ipIdForm
-form_of option.SourcePort = numberForm number.SourcePort
-form_of option.DestinationPort = numberForm number.DestinationPort
-form_of option.IpTos = numberForm number.Tos
-form_of option.IpTtl = ttlForm
-form_of option.HeaderTotalLength = fieldForm header.TotalLength
-form_of option.HeaderId = fieldForm header.Id
-form_of option.HeaderChecksum = fieldForm header.Checksum
-form_of option.HeaderTtl = fieldForm header.Ttl
-form_of option.DataSize = sizeForm
-form_of option.DataAt = atForm
-form_of option.ByteTest = byteForm
-form_of option.Pattern = patternForm
-form_of option.Context = contextForm
-form_of option.NoCase = noCaseForm
-form_of option.Distance = distanceForm
-form_of option.Within = withinForm
+form_of option.Name = name_form
+form_of option.Protocol = protocol_form
+form_of option.Flow = flow_form
+form_of option.SourceAddress = address_form Source
+form_of option.DestinationAddress = address_form Destination
+form_of option.SameIp = same_ip_form
+form_of option.IpId = ip_id_form
+form_of option.SourcePort = number_form number.SourcePort
+form_of option.DestinationPort = number_form number.DestinationPort
+form_of option.IpTos = number_form number.Tos
+form_of option.IpTtl = ttl_form
+form_of option.HeaderTotalLength = field_form header.TotalLength
+form_of option.HeaderId = field_form header.Id
+form_of option.HeaderChecksum = field_form header.Checksum
+form_of option.HeaderTtl = field_form header.Ttl
+form_of option.DataSize = size_form
+form_of option.DataAt = at_form
+form_of option.ByteTest = byte_form
+form_of option.Pattern = pattern_form
+form_of option.Context = context_form
+form_of option.NoCase = no_case_form
+form_of option.Distance = distance_form
+form_of option.Within = within_form
 
--- the names of the rows, and how many there are (`names-count`)
-unfoldable pub optionNames : List (List ℕ)
-optionNames = map (λ row. row.name) optionTable
+-- the names of the rows, and how many there are (`names_count`)
+unfoldable pub option_names : List (List ℕ)
+option_names = map (λ row. row.name) option_table
 
-abbrev pub optionCount : ℕ
-optionCount = 23
+abbrev pub option_count : ℕ
+option_count = 23
 
--- no byte of a word is a capital, as in the names of the rows (`names-small`)
-abbrev pub noCapitals : List ℕ → Bool
-noCapitals w = all? (λ b. not (between 65 90 b)) w
+-- no byte of a word is a capital, as in the names of the rows (`names_small`)
+abbrev pub no_capitals : List ℕ → Bool
+no_capitals w = all? (λ b. not (between 65 90 b)) w
 
 -- the option of the first row whose name is n, its letter case ignored
-unfoldable pub optionNamed : List OptionName → List (List ℕ) → List ℕ → Lookup
-optionNamed [] ws n = Unlisted
-optionNamed (o ∷ os) [] n = Unlisted
-optionNamed (o ∷ os) (w ∷ ws) n = if sameWord n w then Found o else optionNamed os ws n
+unfoldable pub option_named : List OptionName → List (List ℕ) → List ℕ → Lookup
+option_named [] ws n = Unlisted
+option_named (o ∷ os) [] n = Unlisted
+option_named (o ∷ os) (w ∷ ws) n = if same_word n w then Found o else option_named os ws n
 
 -- what the definition makes of an option that was looked up, after its name
-abbrev pub parsedAs : Lookup → List ℕ → ℕ → NamedOption
-parsedAs (Found o) s at = listed (readAt (form_of o) s at)
-parsedAs Unlisted s at = unlisted
+abbrev pub parsed_as : Lookup → List ℕ → ℕ → NamedOption
+parsed_as (Found o) s at = listed (read_at (form_of o) s at)
+parsed_as Unlisted s at = unlisted

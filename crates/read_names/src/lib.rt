@@ -1,8 +1,8 @@
 // Option names: where a name ends, and the option of document 01's table that has it.
 ghost use Rattle.std.specs.Prelude.{◌≡◌, true, ◌+◌, ◌-◌, ◌≤◌, ◌<◌, [], length, get_or, take, drop};
-ghost use Rattle.forms.specs.Bytes.{sameWord, run};
-ghost use Rattle.definitions.specs.Options.{inName};
-ghost use Rattle.read_names.specs.Names.{optionCount, optionNames, noCapitals, optionOrder, optionNamed};
+ghost use Rattle.forms.specs.Bytes.{same_word, run};
+ghost use Rattle.definitions.specs.Options.{in_name};
+ghost use Rattle.read_names.specs.Names.{option_count, option_names, no_capitals, option_order, option_named};
 
 use crate::options::{Lookup, OptionName};
 use definitions::limits::OPTIONS;
@@ -47,15 +47,15 @@ const ROWS: [OptionName; OPTIONS] = [
 // The place after the longest run of a name's bytes.
 pub fn name_end(s: &[u8], at: usize) -> usize
     requires { at ≤ length s.now }
-    ensures { result ≡ at + run inName (drop at s.now) }
+    ensures { result ≡ at + run in_name (drop at s.now) }
 {
     run_of(s, at, Class::NameByte)
 }
 
 // Whether the bytes are the word, which is written in small letters; the letter case of the bytes is ignored.
 fn same_word(x: &[u8], w: &[u8]) -> bool
-    requires { noCapitals w.now ≡ true }
-    ensures { result ≡ sameWord x.now w.now }
+    requires { no_capitals w.now ≡ true }
+    ensures { result ≡ same_word x.now w.now }
 {
     if x.len() != w.len() {
         return false;
@@ -72,16 +72,16 @@ fn same_word(x: &[u8], w: &[u8]) -> bool
 
 // The option at row k of the table.
 fn row_option(k: usize) -> OptionName
-    requires { k < optionCount }
-    ensures { result ≡ get_or optionOrder k OptionName.Name }
+    requires { k < option_count }
+    ensures { result ≡ get_or option_order k OptionName.Name }
 {
     ROWS[k]
 }
 
 // Whether the bytes are the name of row k of the table; the names stand one after the other.
 fn row_named(x: &[u8], k: usize) -> bool
-    requires { k < optionCount }
-    ensures { result ≡ sameWord x.now (get_or optionNames k []) }
+    requires { k < option_count }
+    ensures { result ≡ same_word x.now (get_or option_names k []) }
 {
     let names: &[u8] = b"nameprotocolflowsrc_addrdst_addrsame_ipip_idsrc_portdst_port\
         ip_tosip_ttlip.total_lengthip.idip.checksumip.ttl\
@@ -95,7 +95,7 @@ fn row_named(x: &[u8], k: usize) -> bool
 // The option of the first row of the table whose name stands between two places.
 pub fn option_named(s: &[u8], from: usize, to: usize) -> Lookup
     requires { (from ≤ to) × (to ≤ length s.now) }
-    ensures { result ≡ optionNamed optionOrder optionNames (take (to - from) (drop from s.now)) }
+    ensures { result ≡ option_named option_order option_names (take (to - from) (drop from s.now)) }
 {
     let x = &s[from..to];
     let mut k = 0;

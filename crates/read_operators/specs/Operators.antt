@@ -1,15 +1,15 @@
 -- The operators of tests and the mask, as they stand in definitions' forms.
 use Rattle.std.specs.Prelude.{ℕ}
 use Rattle.forms.specs.Form.{Form}
-use Rattle.forms.specs.Pieces.{preceded, terminated, or, opt, literal, literalAs}
+use Rattle.forms.specs.Pieces.{preceded, terminated, or, opt, literal, literal_as}
 use Rattle.definitions.specs.Numbers.{numeral}
-use Rattle.definitions.specs.Forms.{spaces, lessOrGreater}
+use Rattle.definitions.specs.Forms.{spaces, less_or_greater}
 use Rattle.definitions.specs.declared.table.Order.{Order}
 use Rattle.definitions.specs.declared.table.Order.TheVariants as order
 
 -- optional `<`, `>` or `=`
-abbrev pub sizeOrder : Form Order
-sizeOrder = opt order.Equal (or lessOrGreater (literalAs 61 order.Equal))
+abbrev pub size_order : Form Order
+size_order = opt order.Equal (or less_or_greater (literal_as 61 order.Equal))
 
 -- optional `&` and a mask; the limit is the full mask
 abbrev pub masked : ℕ → Form ℕ

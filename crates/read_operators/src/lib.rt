@@ -1,11 +1,11 @@
 // The operators of tests, and the mask, from a cursor on.
 ghost use Rattle.std.specs.Prelude.{◌≤◌, ◌<◌};
-ghost use Rattle.forms.specs.Pieces.{opt, literalAs};
-ghost use Rattle.definitions.specs.Forms.{lessOrGreater, comparison};
+ghost use Rattle.forms.specs.Pieces.{opt, literal_as};
+ghost use Rattle.definitions.specs.Forms.{less_or_greater, comparison};
 ghost use Rattle.definitions.specs.declared.table.Order.TheVariants.{Equal};
-ghost use Rattle.scan_bytes.specs.Capped.{numberCap};
+ghost use Rattle.scan_bytes.specs.Capped.{number_cap};
 ghost use Rattle.scan_cursors.specs.Reads.{Inside, Reads};
-ghost use Rattle.read_operators.specs.Operators.{sizeOrder, masked};
+ghost use Rattle.read_operators.specs.Operators.{size_order, masked};
 
 use definitions::table::{Operator, Order};
 use scan_cursors::Cursor;
@@ -30,7 +30,7 @@ pub struct OperatorAt {
 // Optional `<` or `>`.
 pub fn then_order(s: &[u8], c: Cursor) -> OrderAt
     requires { Inside s.now c }
-    ensures { Reads (opt Equal lessOrGreater) s.now c result.order result.cursor }
+    ensures { Reads (opt Equal less_or_greater) s.now c result.order result.cursor }
 {
     if next_is(s, c, b'<') {
         return OrderAt {
@@ -53,7 +53,7 @@ pub fn then_order(s: &[u8], c: Cursor) -> OrderAt
 // Optional `<`, `>` or `=`.
 pub fn then_size_order(s: &[u8], c: Cursor) -> OrderAt
     requires { Inside s.now c }
-    ensures { Reads sizeOrder s.now c result.order result.cursor }
+    ensures { Reads size_order s.now c result.order result.cursor }
 {
     if next_is(s, c, b'<') {
         return OrderAt {
@@ -82,7 +82,7 @@ pub fn then_size_order(s: &[u8], c: Cursor) -> OrderAt
 // One operator, or the other with `=`.
 fn then_or_equal(s: &[u8], c: Cursor, alone: Operator, equal: Operator) -> OperatorAt
     requires { Inside s.now c }
-    ensures { Reads (opt alone (literalAs 61 equal)) s.now c result.operator result.cursor }
+    ensures { Reads (opt alone (literal_as 61 equal)) s.now c result.operator result.cursor }
 {
     if next_is(s, c, b'=') {
         return OperatorAt {
@@ -124,7 +124,7 @@ pub fn then_comparison(s: &[u8], c: Cursor) -> OperatorAt
 
 // Optional `&` and a mask up to a limit, which is the full mask.
 pub fn then_mask(s: &[u8], c: Cursor, limit: u64) -> Numeric
-    requires { Inside s.now c × (limit < numberCap) }
+    requires { Inside s.now c × (limit < number_cap) }
     ensures { Reads (masked limit) s.now c result.value result.cursor × (result.value ≤ limit) }
 {
     if next_is(s, c, b'&') {

@@ -9,34 +9,34 @@ use borrow.Author.Tests.{lt-ltb}
 use mir.Syntax.{w32}
 use mir.Val.{SFits, to_z, of_z}
 use mir.ValLaws.{to_z-of_z, to_z_pos}
-use Rattle.definitions.specs.Limits.{maxWord}
+use Rattle.definitions.specs.Limits.{max_word}
 use Rattle.definitions.specs.Forms.{signed}
 
 minus_is : (n : ℕ) → pos 0 -ℤ pos n ≡ neg_ℤ (pos n)
 minus_is zero = refl
 minus_is (suc m) = let e : suc m - 1 ≡ m = omega arith in rw (lt-ltb 0 (suc m) (omega arith)) (ap negsuc e)
 
-mag-minus : (n : ℕ) → mag (neg_ℤ (pos n)) ≤ n
-mag-minus zero = omega arith
-mag-minus (suc m) = omega arith
+mag_minus : (n : ℕ) → mag (neg_ℤ (pos n)) ≤ n
+mag_minus zero = omega arith
+mag_minus (suc m) = omega arith
 
-module _ (n : ℕ) (h : n ≤ maxWord) where
-  pub plain-is : to_z w32 n ≡ pos n
-  plain-is = to_z_pos w32 n (omega arith)
+module _ (n : ℕ) (h : n ≤ max_word) where
+  pub plain_is : to_z w32 n ≡ pos n
+  plain_is = to_z_pos w32 n (omega arith)
 
   turned : pos 0 -ℤ to_z w32 n ≡ neg_ℤ (pos n)
-  turned = rw plain-is (minus_is n)
+  turned = rw plain_is (minus_is n)
 
   small : SFits w32 (neg_ℤ (pos n))
-  small = record { sfits = omega (arith, mag-minus n) }
+  small = record { sfits = omega (arith, mag_minus n) }
 
-  pub minus-fits : SFits w32 (pos 0 -ℤ to_z w32 n)
-  minus-fits = rw turned small
+  pub minus_fits : SFits w32 (pos 0 -ℤ to_z w32 n)
+  minus_fits = rw turned small
 
-  pub minus-reads : to_z w32 (of_z w32 (pos 0 -ℤ to_z w32 n)) ≡ neg_ℤ (pos n)
-  minus-reads = rw turned (to_z-of_z w32 (neg_ℤ (pos n)) small)
+  pub minus_reads : to_z w32 (of_z w32 (pos 0 -ℤ to_z w32 n)) ≡ neg_ℤ (pos n)
+  minus_reads = rw turned (to_z-of_z w32 (neg_ℤ (pos n)) small)
 
   -- as a field of 32 bits it stays what it is
-  pub signed-kept : (minus : Bool) → to_z w32 (of_z w32 (signed minus n)) ≡ signed minus n
-  signed-kept true = to_z-of_z w32 (neg_ℤ (pos n)) small
-  signed-kept false = plain-is
+  pub signed_kept : (minus : Bool) → to_z w32 (of_z w32 (signed minus n)) ≡ signed minus n
+  signed_kept true = to_z-of_z w32 (neg_ℤ (pos n)) small
+  signed_kept false = plain_is

@@ -1,7 +1,7 @@
 // protocol and flow.
 ghost use Rattle.std.specs.Prelude.{[], ◌≤◌, length};
-ghost use Rattle.definitions.specs.Forms.{protocolForm, flowForm};
-ghost use Rattle.read_value.specs.Values.{optionValueOf, Plain};
+ghost use Rattle.definitions.specs.Forms.{protocol_form, flow_form};
+ghost use Rattle.read_value.specs.Values.{option_value_of, Plain};
 ghost use Rattle.scan_cursors.specs.Reads.{Reads};
 ghost use Rattle.scan_cursors.specs.declared.Cursor.TheVariants.{Parsed};
 
@@ -13,7 +13,7 @@ use scan_steps::literals::then_closing;
 // The option protocol.
 pub fn protocol_option(s: &[u8], at: usize) -> Valued
     requires { at ≤ length s.now }
-    ensures { Reads protocolForm s.now (Parsed at) (optionValueOf s.now result.value [] []) result.cursor × Plain result.value }
+    ensures { Reads protocol_form s.now (Parsed at) (option_value_of s.now result.value [] []) result.cursor × Plain result.value }
 {
     let c = gap_at(s, at);
     let n = then_protocol(s, c);
@@ -28,7 +28,7 @@ pub fn protocol_option(s: &[u8], at: usize) -> Valued
 // The option flow.
 pub fn flow_option(s: &[u8], at: usize) -> Valued
     requires { at ≤ length s.now }
-    ensures { Reads flowForm s.now (Parsed at) (optionValueOf s.now result.value [] []) result.cursor × Plain result.value }
+    ensures { Reads flow_form s.now (Parsed at) (option_value_of s.now result.value [] []) result.cursor × Plain result.value }
 {
     let c = gap_at(s, at);
     let f = then_flow(s, c);

@@ -1,8 +1,8 @@
 // context, no_case, distance and within.
 ghost use Rattle.std.specs.Prelude.{◌≡◌, [], ◌≤◌, length};
-ghost use Rattle.definitions.specs.Limits.{maxWord};
-ghost use Rattle.definitions.specs.Forms.{contextForm, noCaseForm, signed, distanceForm, withinForm};
-ghost use Rattle.read_value.specs.Values.{optionValueOf, Plain};
+ghost use Rattle.definitions.specs.Limits.{max_word};
+ghost use Rattle.definitions.specs.Forms.{context_form, no_case_form, signed, distance_form, within_form};
+ghost use Rattle.read_value.specs.Values.{option_value_of, Plain};
 ghost use Rattle.scan_cursors.specs.Reads.{Reads};
 ghost use Rattle.scan_cursors.specs.declared.Cursor.TheVariants.{Parsed};
 
@@ -18,7 +18,7 @@ use scan_steps::numbers::then_number;
 // The option context.
 pub fn context_option(s: &[u8], at: usize) -> Valued
     requires { at ≤ length s.now }
-    ensures { Reads contextForm s.now (Parsed at) (optionValueOf s.now result.value [] []) result.cursor × Plain result.value }
+    ensures { Reads context_form s.now (Parsed at) (option_value_of s.now result.value [] []) result.cursor × Plain result.value }
 {
     let c = gap_at(s, at);
     let w = then_context(s, c);
@@ -34,7 +34,7 @@ pub fn context_option(s: &[u8], at: usize) -> Valued
 // The option no_case.
 pub fn no_case_option(s: &[u8], at: usize) -> Valued
     requires { at ≤ length s.now }
-    ensures { Reads noCaseForm s.now (Parsed at) (optionValueOf s.now result.value [] []) result.cursor × Plain result.value }
+    ensures { Reads no_case_form s.now (Parsed at) (option_value_of s.now result.value [] []) result.cursor × Plain result.value }
 {
     Valued {
         value: Value::NoCase,
@@ -44,7 +44,7 @@ pub fn no_case_option(s: &[u8], at: usize) -> Valued
 
 // `-` and a number of at most 16 bits.
 fn signed_of(minus: bool, n: u64) -> i32
-    requires { n ≤ maxWord }
+    requires { n ≤ max_word }
     ensures { result ≡ signed minus n }
 {
     let v = n as i32;
@@ -54,7 +54,7 @@ fn signed_of(minus: bool, n: u64) -> i32
 // The option distance.
 pub fn distance_option(s: &[u8], at: usize) -> Valued
     requires { at ≤ length s.now }
-    ensures { Reads distanceForm s.now (Parsed at) (optionValueOf s.now result.value [] []) result.cursor × Plain result.value }
+    ensures { Reads distance_form s.now (Parsed at) (option_value_of s.now result.value [] []) result.cursor × Plain result.value }
 {
     let c = gap_at(s, at);
     let minus = then_optional_literal(s, c, b'-');
@@ -79,7 +79,7 @@ pub fn distance_option(s: &[u8], at: usize) -> Valued
 // The option within.
 pub fn within_option(s: &[u8], at: usize) -> Valued
     requires { at ≤ length s.now }
-    ensures { Reads withinForm s.now (Parsed at) (optionValueOf s.now result.value [] []) result.cursor × Plain result.value }
+    ensures { Reads within_form s.now (Parsed at) (option_value_of s.now result.value [] []) result.cursor × Plain result.value }
 {
     let c = gap_at(s, at);
     let n = then_number(s, c, MAX_WORD);

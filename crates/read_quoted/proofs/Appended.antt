@@ -7,71 +7,71 @@ use native.Mathlib.Omega.{arith}
 use lib.ListN.{length, drop, set, length-append}
 use lib.Seq.{sets, length-sets}
 use Rattle.forms.specs.Form.{Form}
-use Rattle.forms.specs.Scan.{nullable, firstSet, begins, isLL1}
+use Rattle.forms.specs.Scan.{nullable, first_set, begins, is_ll1}
 use Rattle.forms.specs.Pieces.{preceded, terminated, some}
 use Rattle.forms.proofs.Sound.{never}
 use Rattle.read_value.specs.Values.{PatternBytes, appended}
 use Rattle.scan_cursors.specs.declared.Cursor.{Cursor}
 use Rattle.scan_cursors.specs.declared.Cursor.TheVariants.{Parsed, Failed}
 use Rattle.scan_cursors.specs.Reads.{place_of, Inside, joined, Reads}
-use Rattle.scan_cursors.proofs.Readings.{preceded-reads, terminated-reads, step-reads, failed-any}
-use Rattle.scan_cursors.proofs.Onward.{came-parsed, parsed-place, onward}
+use Rattle.scan_cursors.proofs.Readings.{preceded_reads, terminated_reads, step_reads, failed_any}
+use Rattle.scan_cursors.proofs.Onward.{came_parsed, parsed_place, onward}
 use Rattle.read_quoted.specs.Storing.{Ready, Stored, Stores}
-use Rattle.scan_cursors.proofs.Repeated.{Some, some-start, some-on, some-last, some-stop}
+use Rattle.scan_cursors.proofs.Repeated.{Some, some_start, some_on, some_last, some_stop}
 
 -- ---- bytes after bytes
 
-sets-append : (l : List ℕ) (i : ℕ) (a b : List ℕ) → sets (sets l i a) (i + length a) b ≡ sets l i (a ++ b)
-sets-append l i [] b = let e : i + 0 ≡ i = omega arith in rw e
-sets-append l i (x ∷ a) b = let e : i + suc (length a) ≡ suc i + length a = omega arith in rw e (sets-append (set l i x) (suc i) a b)
+sets_append : (l : List ℕ) (i : ℕ) (a b : List ℕ) → sets (sets l i a) (i + length a) b ≡ sets l i (a ++ b)
+sets_append l i [] b = let e : i + 0 ≡ i = omega arith in rw e
+sets_append l i (x ∷ a) b = let e : i + suc (length a) ≡ suc i + length a = omega arith in rw e (sets_append (set l i x) (suc i) a b)
 
-pub appended-none : (room : PatternBytes) → room ≡ appended room []
-appended-none room = let e : room.used ≡ room.used + 0 = omega arith in ap (λ (n : ℕ). record { bytes = room.bytes; used = n }) e
+pub appended_none : (room : PatternBytes) → room ≡ appended room []
+appended_none room = let e : room.used ≡ room.used + 0 = omega arith in ap (λ (n : ℕ). record { bytes = room.bytes; used = n }) e
 
-appended-twice : (room : PatternBytes) (a b : List ℕ) → appended (appended room a) b ≡ appended room (a ++ b)
-appended-twice room a b =
+appended_twice : (room : PatternBytes) (a b : List ℕ) → appended (appended room a) b ≡ appended room (a ++ b)
+appended_twice room a b =
     let e : room.used + length a + length b ≡ room.used + length (a ++ b) = omega (arith, length-append a b) in
-    rw (e, sets-append room.bytes room.used a b)
+    rw (e, sets_append room.bytes room.used a b)
 
 -- bytes take the place of others
-appended-same : (room : PatternBytes) {to : PatternBytes} (b : List ℕ) → to ≡ appended room b → length to.bytes ≡ length room.bytes
-appended-same room b e = ap (λ (r : PatternBytes). length r.bytes) e ∙ length-sets room.bytes room.used b
+appended_same : (room : PatternBytes) {to : PatternBytes} (b : List ℕ) → to ≡ appended room b → length to.bytes ≡ length room.bytes
+appended_same room b e = ap (λ (r : PatternBytes). length r.bytes) e ∙ length-sets room.bytes room.used b
 
 pub stores_same : {f : Form (List ℕ)} {s : List ℕ} {c d : Cursor} {room to : PatternBytes} → Stores f s c room to d
     → length to.bytes ≡ length room.bytes
-stores_same {room = room} r = appended-same room r.0 r.1.kept
+stores_same {room = room} r = appended_same room r.0 r.1.kept
 
 -- ---- what stands around stored bytes stores nothing
 
-pub ready_on : {A : Type 0} {f : Form A} {s : List ℕ} {c d : Cursor} {room : PatternBytes} {v : A} → isLL1 f ≡ true → Ready s c room → Reads f s c v d
+pub ready_on : {A : Type 0} {f : Form A} {s : List ℕ} {c d : Cursor} {room : PatternBytes} {v : A} → is_ll1 f ≡ true → Ready s c room → Reads f s c v d
     → Ready s d room
 ready_on w u r = record { inside = r.inside; short = u.short; after = omega (arith, u.after, onward w u.inside r); full = u.full }
 
-module _ {A : Type 0} {f : Form A} {F : Form (List ℕ)} {s : List ℕ} {room to : PatternBytes} {b : List ℕ} {c d e : Cursor} {v : A} (w : isLL1 f ≡ true) where
-  pub stored-after : Inside s c → Reads f s c v d → Stored F s d room b to e → Stored (preceded f F) s c room b to e
-  stored-after i r u =
-      record { read = preceded-reads i r u.read; kept = u.kept; grown = λ n g. omega (arith, u.grown n g, onward w i r) }
+module _ {A : Type 0} {f : Form A} {F : Form (List ℕ)} {s : List ℕ} {room to : PatternBytes} {b : List ℕ} {c d e : Cursor} {v : A} (w : is_ll1 f ≡ true) where
+  pub stored_after : Inside s c → Reads f s c v d → Stored F s d room b to e → Stored (preceded f F) s c room b to e
+  stored_after i r u =
+      record { read = preceded_reads i r u.read; kept = u.kept; grown = λ n g. omega (arith, u.grown n g, onward w i r) }
 
-  pub stored-before : Inside s c → Stored F s c room b to d → Reads f s d v e → Stored (terminated F f) s c room b to e
-  stored-before i u r =
+  pub stored_before : Inside s c → Stored F s c room b to d → Reads f s d v e → Stored (terminated F f) s c room b to e
+  stored_before i u r =
       record {
-        read = terminated-reads i u.read r;
+        read = terminated_reads i u.read r;
         kept = u.kept;
         grown = λ n g.
-            let m = came-parsed r g in
-            omega (arith, u.grown m.0 m.1, onward w u.read.inside r, parsed-place d m.1, parsed-place e g);
+            let m = came_parsed r g in
+            omega (arith, u.grown m.0 m.1, onward w u.read.inside r, parsed_place d m.1, parsed_place e g);
       }
 
 -- a scanner that stores from a place on makes one from any cursor on
-pub stored-step : {F : Form (List ℕ)} {s : List ℕ} {room to : PatternBytes} {b : List ℕ} {c d e : Cursor} {at : ℕ} → Inside s c → at ≡ place_of c
+pub stored_step : {F : Form (List ℕ)} {s : List ℕ} {room to : PatternBytes} {b : List ℕ} {c d e : Cursor} {at : ℕ} → Inside s c → at ≡ place_of c
     → e ≡ joined c d → Stored F s (Parsed at) room b to d → Stored F s c room b to e
-stored-step {F} {s} {room} {to} {b} {c} {d} {e} {at} i p j u =
-    let r = step-reads i p j u.read in
+stored_step {F} {s} {room} {to} {b} {c} {d} {e} {at} i p j u =
+    let r = step_reads i p j u.read in
     record {
       read = r;
       kept = u.kept;
       grown = λ n g.
-          let m = came-parsed r g in
+          let m = came_parsed r g in
           let q : c ≡ Parsed m.0 = m.1 in
           let z : d ≡ Parsed n = rw q at (sym j ∙ g) in
           omega (arith, u.grown n z, p);
@@ -101,52 +101,52 @@ module _ {A : Type 0} {f : Form A} {F : Form (List ℕ)} (W : Writing f F) (s : 
   writes_start =
       record {
         values = [];
-        turns = some-start f W.full s at ready.inside;
-        kept = rw W.none (appended-none room);
+        turns = some_start f W.full s at ready.inside;
+        kept = rw W.none (appended_none room);
         grown = rw W.none (omega arith);
       }
 
   module _ {here : ℕ} {to : PatternBytes} (u : Writes W s at room here to) where
-    pub writes-ready : Ready s (Parsed here) to
-    writes-ready =
+    pub writes_ready : Ready s (Parsed here) to
+    writes_ready =
         let e : to.used ≡ room.used + length (W.bytes u.values) = ap (λ (r : PatternBytes). r.used) u.kept in
         record {
           inside = u.turns.inside;
           short = ready.short;
           after = omega (arith, e, u.grown, ready.after);
-          full = appended-same room (W.bytes u.values) u.kept ∙ ready.full;
+          full = appended_same room (W.bytes u.values) u.kept ∙ ready.full;
         }
 
     module _ (v : A) {n : ℕ} {to' : PatternBytes} (r : Reads f s (Parsed here) v (Parsed n)) (e : to' ≡ appended to (W.one v))
         (g : here + length (W.one v) ≤ n) where
-      all-kept : to' ≡ appended room (W.bytes (u.values ++ (v ∷ [])))
-      all-kept =
-          e ∙ ap (λ (x : PatternBytes). appended x (W.one v)) u.kept ∙ appended-twice room (W.bytes u.values) (W.one v)
+      all_kept_lem : to' ≡ appended room (W.bytes (u.values ++ (v ∷ [])))
+      all_kept_lem =
+          e ∙ ap (λ (x : PatternBytes). appended x (W.one v)) u.kept ∙ appended_twice room (W.bytes u.values) (W.one v)
           ∙ ap (appended room) (sym (W.snoc u.values v))
 
       all_grown : at + length (W.bytes (u.values ++ (v ∷ []))) ≤ n
       all_grown = rw (W.snoc u.values v) (omega (arith, g, u.grown, length-append (W.bytes u.values) (W.one v)))
 
-      pub writes-on : begins (firstSet f) (drop n s) ≡ true → Writes W s at room n to'
-      writes-on t = record { values = u.values ++ (v ∷ []); turns = some-on f W.full s u.turns r t; kept = all-kept; grown = all_grown }
+      pub writes-on : begins (first_set f) (drop n s) ≡ true → Writes W s at room n to'
+      writes-on t = record { values = u.values ++ (v ∷ []); turns = some_on f W.full s u.turns r t; kept = all_kept_lem; grown = all_grown }
 
-      pub writes-last : begins (firstSet f) (drop n s) ≡ false → Stores F s (Parsed at) room to' (Parsed n)
+      pub writes-last : begins (first_set f) (drop n s) ≡ false → Stores F s (Parsed at) room to' (Parsed n)
       writes-last t = (
         W.bytes (u.values ++ (v ∷ [])),
         record {
-          read = W.read s at (u.values ++ (v ∷ [])) (Parsed n) (some-last f W.full s u.turns r t);
-          kept = all-kept;
+          read = W.read s at (u.values ++ (v ∷ [])) (Parsed n) (some_last f W.full s u.turns r t);
+          kept = all_kept_lem;
           grown = λ m q. let z : n ≡ m = cc in omega (arith, all_grown, z);
         },
       )
 
-    pub writes-stop : (v : A) {p : ℕ} (b : List ℕ) {to' : PatternBytes} → Reads f s (Parsed here) v (Failed p) → to' ≡ appended to b
+    pub writes_stop : (v : A) {p : ℕ} (b : List ℕ) {to' : PatternBytes} → Reads f s (Parsed here) v (Failed p) → to' ≡ appended to b
         → Stores F s (Parsed at) room to' (Failed p)
-    writes-stop v {p} b r e = (
+    writes_stop v {p} b r e = (
       W.bytes u.values ++ b,
       record {
-        read = failed-any (W.read s at (u.values ++ (v ∷ [])) (Failed p) (some-stop f W.full s u.turns r [])) (W.bytes u.values ++ b);
-        kept = e ∙ ap (λ (x : PatternBytes). appended x b) u.kept ∙ appended-twice room (W.bytes u.values) b;
+        read = failed_any (W.read s at (u.values ++ (v ∷ [])) (Failed p) (some_stop f W.full s u.turns r [])) (W.bytes u.values ++ b);
+        kept = e ∙ ap (λ (x : PatternBytes). appended x b) u.kept ∙ appended_twice room (W.bytes u.values) b;
         grown = λ m q. never (cc);
       },
     )

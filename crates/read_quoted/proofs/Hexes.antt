@@ -13,18 +13,18 @@ use Rattle.forms.specs.Form.{has, byte}
 use Rattle.forms.specs.Scan.{begins}
 use Rattle.forms.proofs.Bools.{by_cases}
 use Rattle.forms.proofs.Sound.{never}
-use Rattle.definitions.specs.Numbers.{hexDigits, digitValue, value_of}
-use Rattle.definitions.specs.Forms.{hexPair}
+use Rattle.definitions.specs.Numbers.{hex_digits, digit_value, value_of}
+use Rattle.definitions.specs.Forms.{hex_pair}
 use Rattle.scan_cursors.specs.declared.Cursor.TheVariants.{Parsed, Failed}
-use Rattle.definitions.specs.Limits.{maxByte}
-use Rattle.scan_bytes.specs.Capped.{numberCap, capped}
+use Rattle.definitions.specs.Limits.{max_byte}
+use Rattle.scan_bytes.specs.Capped.{number_cap, capped}
 use Rattle.scan_cursors.specs.Reads.{Reads}
-use Rattle.scan_cursors.proofs.Readings.{fmap-reads, pair_reads, failed-reads, failed-any}
-use Rattle.scan_pieces.proofs.AtPlace.{begins-at, begins-in, begun-in, byte-begun, byte-none}
+use Rattle.scan_cursors.proofs.Readings.{fmap_reads, pair_reads, failed_reads, failed_any}
+use Rattle.scan_pieces.proofs.AtPlace.{begins_at, begins_in, begun_in, byte_begun, byte_none}
 
-digit-small : (b : ℕ) → has hexDigits b ≡ true → digitValue b ≤ 15
-unfolding has digitValue
-digit-small b t =
+digit_small : (b : ℕ) → has hex_digits b ≡ true → digit_value b ≤ 15
+unfolding has digit_value
+digit_small b t =
     by_cases (leb b 57)
     (λ x. rw x (omega (arith, leb-true b 57 x)))
     (λ x.
@@ -39,27 +39,27 @@ digit-small b t =
     never (cc))))))
 
 abbrev byte_of : ℕ × ℕ → ℕ
-byte_of p = digitValue p.0 * 16 + digitValue p.1
+byte_of p = digit_value p.0 * 16 + digit_value p.1
 
 module _ (s : List ℕ) (at : ℕ) where
-  pub pair-none : at ≤ length s → begins hexDigits (drop at s) ≡ false → Reads hexPair s (Parsed at) 0 (Failed at)
-  pair-none h t =
-      failed-any (fmap-reads byte_of (pair_reads h (byte-none hexDigits s at h t 0) (failed-reads (byte hexDigits) s at 0 h))) 0
+  pub pair_none : at ≤ length s → begins hex_digits (drop at s) ≡ false → Reads hex_pair s (Parsed at) 0 (Failed at)
+  pair_none h t =
+      failed_any (fmap_reads byte_of (pair_reads h (byte_none hex_digits s at h t 0) (failed_reads (byte hex_digits) s at 0 h))) 0
 
-  module _ (t : begins hexDigits (drop at s) ≡ true) where
+  module _ (t : begins hex_digits (drop at s) ≡ true) where
     half_in : at + 1 ≤ length s
-    half_in = begun-in hexDigits s at t
+    half_in = begun_in hex_digits s at t
 
-    pub pair-half : begins hexDigits (drop (at + 1) s) ≡ false → Reads hexPair s (Parsed at) 0 (Failed (at + 1))
-    pair-half u =
-        failed-any (fmap-reads byte_of (pair_reads (omega (arith, half_in)) (byte-begun hexDigits s at t) (byte-none hexDigits s (at + 1) half_in u 0))) 0
+    pub pair_half : begins hex_digits (drop (at + 1) s) ≡ false → Reads hex_pair s (Parsed at) 0 (Failed (at + 1))
+    pair_half u =
+        failed_any (fmap_reads byte_of (pair_reads (omega (arith, half_in)) (byte_begun hex_digits s at t) (byte_none hex_digits s (at + 1) half_in u 0))) 0
 
-    module _ (u : begins hexDigits (drop (at + 1) s) ≡ true) where
+    module _ (u : begins hex_digits (drop (at + 1) s) ≡ true) where
       pub pair-in : at + 2 ≤ length s
-      pair-in = omega (arith, begins-in hexDigits s (at + 1) u)
+      pair-in = omega (arith, begins_in hex_digits s (at + 1) u)
 
-      digit : (i : ℕ) → begins hexDigits (drop i s) ≡ true → digitValue (get_or s i 0) ≤ 15
-      digit i b = digit-small (get_or s i 0) (sym (begins-at hexDigits s i (begins-in hexDigits s i b)) ∙ b)
+      digit : (i : ℕ) → begins hex_digits (drop i s) ≡ true → digit_value (get_or s i 0) ≤ 15
+      digit i b = digit_small (get_or s i 0) (sym (begins_at hex_digits s i (begins_in hex_digits s i b)) ∙ b)
 
       two : take (at + 2 - at) (drop at s) ≡ get_or s at 0 ∷ get_or s (at + 1) 0 ∷ []
       two =
@@ -67,19 +67,19 @@ module _ (s : List ℕ) (at : ℕ) where
           let h = pair-in in
           rw (e, add-one, drop-cons s at 0 (omega arith), drop-cons s (suc at) 0 (omega arith))
 
-      written : (v : ℕ) → v ≡ capped (value_of 16 0 (take (at + 2 - at) (drop at s))) → v ≡ digitValue (get_or s at 0) * 16 + digitValue (get_or s (at + 1) 0)
+      written : (v : ℕ) → v ≡ capped (value_of 16 0 (take (at + 2 - at) (drop at s))) → v ≡ digit_value (get_or s at 0) * 16 + digit_value (get_or s (at + 1) 0)
       unfolding value_of
       written v e =
           let a = digit at t in
           let b = digit (at + 1) u in
-          let q : v ≡ capped ((0 * 16 + digitValue (get_or s at 0)) * 16 + digitValue (get_or s (at + 1) 0)) = rw two at e in
-          q ∙ rw (lt-ltb ((0 * 16 + digitValue (get_or s at 0)) * 16 + digitValue (get_or s (at + 1) 0)) numberCap (omega arith)) (omega arith)
+          let q : v ≡ capped ((0 * 16 + digit_value (get_or s at 0)) * 16 + digit_value (get_or s (at + 1) 0)) = rw two at e in
+          q ∙ rw (lt-ltb ((0 * 16 + digit_value (get_or s at 0)) * 16 + digit_value (get_or s (at + 1) 0)) number_cap (omega arith)) (omega arith)
 
-      pub pair_fits : (v : ℕ) → v ≡ capped (value_of 16 0 (take (at + 2 - at) (drop at s))) → v ≤ maxByte
+      pub pair_fits : (v : ℕ) → v ≡ capped (value_of 16 0 (take (at + 2 - at) (drop at s))) → v ≤ max_byte
       pair_fits v e = omega (arith, written v e, digit at t, digit (at + 1) u)
 
-      pub pair-whole : (v : ℕ) → v ≡ capped (value_of 16 0 (take (at + 2 - at) (drop at s))) → Reads hexPair s (Parsed at) v (Parsed (at + 2))
+      pub pair-whole : (v : ℕ) → v ≡ capped (value_of 16 0 (take (at + 2 - at) (drop at s))) → Reads hex_pair s (Parsed at) v (Parsed (at + 2))
       pair-whole v e =
           let q : at + 1 + 1 ≡ at + 2 = omega arith in
           rw (written v e, ← q)
-          (fmap-reads byte_of (pair_reads (omega (arith, half_in)) (byte-begun hexDigits s at t) (byte-begun hexDigits s (at + 1) u)))
+          (fmap_reads byte_of (pair_reads (omega (arith, half_in)) (byte_begun hex_digits s at t) (byte_begun hex_digits s (at + 1) u)))

@@ -1,12 +1,12 @@
 // Pattern bytes in hex, stored as they are read in a lent buffer, after those in use.
 ghost use Rattle.std.specs.Prelude.{◌≡◌, ◌∷◌, [], ◌≤◌, ◌<◌, length, drop};
 ghost use Rattle.forms.specs.Scan.{begins};
-ghost use Rattle.definitions.specs.Numbers.{hexDigits};
-ghost use Rattle.definitions.specs.Forms.{hexPair, block};
-ghost use Rattle.read_value.specs.Values.{patternBytesOf, appended};
+ghost use Rattle.definitions.specs.Numbers.{hex_digits};
+ghost use Rattle.definitions.specs.Forms.{hex_pair, block};
+ghost use Rattle.read_value.specs.Values.{pattern_bytes_of, appended};
 ghost use Rattle.scan_cursors.specs.Reads.{Reads};
 ghost use Rattle.scan_cursors.specs.declared.Cursor.TheVariants.{Parsed};
-ghost use Rattle.read_quoted.specs.Storing.{hexPairs, Ready, Stores};
+ghost use Rattle.read_quoted.specs.Storing.{hex_pairs, Ready, Stores};
 
 use scan_bytes::bytes::{Class, in_class};
 use scan_bytes::numbers::value_of;
@@ -24,7 +24,7 @@ pub struct BytesAt {
 // The byte after those in use; the answer counts it with them.
 pub fn put(bytes: &mut [u8], used: usize, b: u8) -> usize
     requires { used < length bytes.old }
-    ensures { patternBytesOf bytes.new result ≡ appended (patternBytesOf bytes.old used) (b ∷ []) }
+    ensures { pattern_bytes_of bytes.new result ≡ appended (pattern_bytes_of bytes.old used) (b ∷ []) }
 {
     bytes[used] = b;
     used + 1
@@ -32,7 +32,7 @@ pub fn put(bytes: &mut [u8], used: usize, b: u8) -> usize
 
 // Whether a hex digit stands at the place.
 fn is_hex_at(s: &[u8], at: usize) -> bool
-    ensures { result ≡ begins hexDigits (drop at s.now) }
+    ensures { result ≡ begins hex_digits (drop at s.now) }
 {
     if at < s.len() {
         let b = s[at];
@@ -52,7 +52,7 @@ pub struct PairAt {
 // Two hex digits.
 fn pair_at(s: &[u8], at: usize) -> PairAt
     requires { at ≤ length s.now }
-    ensures { Reads hexPair s.now (Parsed at) result.byte result.cursor }
+    ensures { Reads hex_pair s.now (Parsed at) result.byte result.cursor }
 {
     if !is_hex_at(s, at) {
         return PairAt {
@@ -75,8 +75,8 @@ fn pair_at(s: &[u8], at: usize) -> PairAt
 
 // One or more pairs, spaces after each. The loop goes from place to place: a cursor for each pair would be tested at each.
 fn pairs_at(s: &[u8], at: usize, bytes: &mut [u8], used: usize) -> BytesAt
-    requires { Ready s.now (Parsed at) (patternBytesOf bytes.old used) }
-    ensures { Stores hexPairs s.now (Parsed at) (patternBytesOf bytes.old used) (patternBytesOf bytes.new result.used) result.cursor }
+    requires { Ready s.now (Parsed at) (pattern_bytes_of bytes.old used) }
+    ensures { Stores hex_pairs s.now (Parsed at) (pattern_bytes_of bytes.old used) (pattern_bytes_of bytes.new result.used) result.cursor }
 {
     let mut here = at;
     let mut to = used;
@@ -102,8 +102,8 @@ fn pairs_at(s: &[u8], at: usize, bytes: &mut [u8], used: usize) -> BytesAt
 
 // The pairs from any cursor on.
 fn then_pairs(s: &[u8], c: Cursor, bytes: &mut [u8], used: usize) -> BytesAt
-    requires { Ready s.now c (patternBytesOf bytes.old used) }
-    ensures { Stores hexPairs s.now c (patternBytesOf bytes.old used) (patternBytesOf bytes.new result.used) result.cursor }
+    requires { Ready s.now c (pattern_bytes_of bytes.old used) }
+    ensures { Stores hex_pairs s.now c (pattern_bytes_of bytes.old used) (pattern_bytes_of bytes.new result.used) result.cursor }
 {
     let at = place(c);
     let p = pairs_at(s, at, bytes, used);
@@ -116,8 +116,8 @@ fn then_pairs(s: &[u8], c: Cursor, bytes: &mut [u8], used: usize) -> BytesAt
 
 // A block between two bars.
 pub fn then_block(s: &[u8], c: Cursor, bytes: &mut [u8], used: usize) -> BytesAt
-    requires { Ready s.now c (patternBytesOf bytes.old used) }
-    ensures { Stores block s.now c (patternBytesOf bytes.old used) (patternBytesOf bytes.new result.used) result.cursor }
+    requires { Ready s.now c (pattern_bytes_of bytes.old used) }
+    ensures { Stores block s.now c (pattern_bytes_of bytes.old used) (pattern_bytes_of bytes.new result.used) result.cursor }
 {
     let bar = then_literal(s, c, b'|');
     let from = then_spaces(s, bar);

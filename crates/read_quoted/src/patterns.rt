@@ -1,8 +1,8 @@
 // The bytes of a pattern, stored as they are read: one pass over the text.
 ghost use Rattle.std.specs.Prelude.{◌≡◌, drop};
-ghost use Rattle.forms.specs.Scan.{firstSet, begins};
-ghost use Rattle.definitions.specs.Forms.{plainBytes, patternBytes};
-ghost use Rattle.read_value.specs.Values.{patternBytesOf};
+ghost use Rattle.forms.specs.Scan.{first_set, begins};
+ghost use Rattle.definitions.specs.Forms.{plain_bytes, pattern_bytes};
+ghost use Rattle.read_value.specs.Values.{pattern_bytes_of};
 ghost use Rattle.scan_cursors.specs.declared.Cursor.TheVariants.{Parsed};
 ghost use Rattle.read_quoted.specs.Storing.{element, Ready, Stores, PatternReads};
 
@@ -14,7 +14,7 @@ use scan_steps::literals::then_literal;
 
 // Whether a byte that stands for itself stands at the place.
 fn is_plain_at(s: &[u8], at: usize) -> bool
-    ensures { result ≡ begins plainBytes (drop at s.now) }
+    ensures { result ≡ begins plain_bytes (drop at s.now) }
 {
     if at < s.len() {
         let b = s[at];
@@ -26,7 +26,7 @@ fn is_plain_at(s: &[u8], at: usize) -> bool
 
 // Whether pattern bytes go on at the place.
 fn goes_on(s: &[u8], at: usize) -> bool
-    ensures { result ≡ begins (firstSet element) (drop at s.now) }
+    ensures { result ≡ begins (first_set element) (drop at s.now) }
 {
     if is_plain_at(s, at) {
         return true;
@@ -36,8 +36,8 @@ fn goes_on(s: &[u8], at: usize) -> bool
 
 // A plain byte or a block.
 fn element_at(s: &[u8], at: usize, bytes: &mut [u8], used: usize) -> BytesAt
-    requires { Ready s.now (Parsed at) (patternBytesOf bytes.old used) }
-    ensures { Stores element s.now (Parsed at) (patternBytesOf bytes.old used) (patternBytesOf bytes.new result.used) result.cursor }
+    requires { Ready s.now (Parsed at) (pattern_bytes_of bytes.old used) }
+    ensures { Stores element s.now (Parsed at) (pattern_bytes_of bytes.old used) (pattern_bytes_of bytes.new result.used) result.cursor }
 {
     if is_plain_at(s, at) {
         let b = s[at];
@@ -53,8 +53,8 @@ fn element_at(s: &[u8], at: usize, bytes: &mut [u8], used: usize) -> BytesAt
 
 // One or more elements. The loop goes from place to place: a cursor for each byte would be tested at each.
 fn bytes_at(s: &[u8], at: usize, bytes: &mut [u8], used: usize) -> BytesAt
-    requires { Ready s.now (Parsed at) (patternBytesOf bytes.old used) }
-    ensures { Stores patternBytes s.now (Parsed at) (patternBytesOf bytes.old used) (patternBytesOf bytes.new result.used) result.cursor }
+    requires { Ready s.now (Parsed at) (pattern_bytes_of bytes.old used) }
+    ensures { Stores pattern_bytes s.now (Parsed at) (pattern_bytes_of bytes.old used) (pattern_bytes_of bytes.new result.used) result.cursor }
 {
     let mut here = at;
     let mut to = used;
@@ -80,8 +80,8 @@ fn bytes_at(s: &[u8], at: usize, bytes: &mut [u8], used: usize) -> BytesAt
 
 // The elements from any cursor on.
 fn then_bytes(s: &[u8], c: Cursor, bytes: &mut [u8], used: usize) -> BytesAt
-    requires { Ready s.now c (patternBytesOf bytes.old used) }
-    ensures { Stores patternBytes s.now c (patternBytesOf bytes.old used) (patternBytesOf bytes.new result.used) result.cursor }
+    requires { Ready s.now c (pattern_bytes_of bytes.old used) }
+    ensures { Stores pattern_bytes s.now c (pattern_bytes_of bytes.old used) (pattern_bytes_of bytes.new result.used) result.cursor }
 {
     let at = place(c);
     let p = bytes_at(s, at, bytes, used);
@@ -102,8 +102,8 @@ pub struct PatternAt {
 
 // A pattern in quotes.
 pub fn then_pattern(s: &[u8], c: Cursor, bytes: &mut [u8], used: usize) -> PatternAt
-    requires { Ready s.now c (patternBytesOf bytes.old used) }
-    ensures { PatternReads s.now c (patternBytesOf bytes.old used) (patternBytesOf bytes.new result.used) result.len result.cursor }
+    requires { Ready s.now c (pattern_bytes_of bytes.old used) }
+    ensures { PatternReads s.now c (pattern_bytes_of bytes.old used) (pattern_bytes_of bytes.new result.used) result.len result.cursor }
 {
     let open = then_literal(s, c, b'"');
     let p = then_bytes(s, open, bytes, used);

@@ -1,10 +1,10 @@
 // How many patterns among a table's items, from the first on, have usable references: what refusal 10 goes by.
 ghost use Rattle.std.specs.Prelude.{◌≡◌, ◌<◌, ◌≤◌, take};
 ghost use Rattle.definitions.specs.declared.packets.LastMatch.TheVariants.{None};
-ghost use Rattle.definitions.specs.Limits.{maxItems};
-ghost use Rattle.definitions.specs.Items.{kind_of, patternsOf};
-ghost use Rattle.definitions.specs.References.{usableRun};
-ghost use Rattle.read_references.specs.Counting.{usableFrom, past};
+ghost use Rattle.definitions.specs.Limits.{max_items};
+ghost use Rattle.definitions.specs.Items.{kind_of, patterns_of};
+ghost use Rattle.definitions.specs.References.{usable_run};
+ghost use Rattle.read_references.specs.Counting.{usable_from, past};
 
 use definitions::limits::ITEMS;
 use definitions::packets::LastMatch;
@@ -20,8 +20,8 @@ pub struct Run {
 }
 
 fn past_pattern(run: Run, p: Pattern) -> Run
-    requires { run.count < maxItems }
-    ensures { result ≡ usableFrom run p }
+    requires { run.count < max_items }
+    ensures { result ≡ usable_from run p }
 {
     let last = run.last;
     if is_usable(last, p) {
@@ -41,7 +41,7 @@ fn past_pattern(run: Run, p: Pattern) -> Run
 
 // One item more.
 fn past_slot(run: Run, slot: Slot) -> Run
-    requires { run.count < maxItems }
+    requires { run.count < max_items }
     ensures { result ≡ past (kind_of slot.item) run }
 {
     if run.ended {
@@ -56,8 +56,8 @@ fn past_slot(run: Run, slot: Slot) -> Run
 
 // How many patterns among the items in use, from the first on, have usable references.
 pub fn usable_count(items: [Slot; ITEMS], count: usize) -> usize
-    requires { count ≤ maxItems }
-    ensures { result ≡ usableRun None (patternsOf (take count items)) }
+    requires { count ≤ max_items }
+    ensures { result ≡ usable_run None (patterns_of (take count items)) }
 {
     let mut run = Run {
         count: 0,

@@ -7,15 +7,15 @@ use Rattle.definitions.specs.declared.table.Address.{Address}
 use Rattle.definitions.specs.declared.table.Flow.TheVariants.{Any}
 use Rattle.definitions.specs.declared.table.Item.TheVariants as item
 use Rattle.definitions.specs.declared.table.Slot.{Slot}
-use Rattle.definitions.specs.Limits.{documentLimits, maxName, maxPatterns, maxTests, maxItems, maxAddresses}
+use Rattle.definitions.specs.Limits.{document_limits, max_name, max_patterns, max_tests, max_items, max_addresses}
 use Rattle.definitions.specs.Lists.{any?, keep, count, padded}
 use Rattle.definitions.specs.OptionValues.{Modifier, OptionValue, Name, Protocol, Flow, Test, Pattern, Modified}
-use Rattle.definitions.specs.Tables.{nameIn, protocolIn, flowIn, bytesIn, slotsIn, no_slot, noAddress}
-use Rattle.definitions.specs.Occurrences.{sameKind, isTest, isPattern, modifierNumber, latest, occurrenceCheck}
-use Rattle.definitions.specs.Reading.{Located, optionValuesOf}
+use Rattle.definitions.specs.Tables.{name_in, protocol_in, flow_in, bytes_in, slots_in, no_slot, no_address}
+use Rattle.definitions.specs.Occurrences.{same_kind, is_test, is_pattern, modifier_number, latest, occurrence_check}
+use Rattle.definitions.specs.Reading.{Located, option_values_of}
 use Rattle.read_value.specs.declared.Value.{Value}
 use Rattle.read_value.specs.declared.Value.TheVariants as value
-use Rattle.read_value.specs.Values.{optionValueOf}
+use Rattle.read_value.specs.Values.{option_value_of}
 use Rattle.read_state.specs.declared.Given.{Given}
 use Rattle.read_state.specs.declared.State.{State}
 use Rattle.read_state.specs.declared.Inserted.{Inserted}
@@ -23,81 +23,81 @@ use Rattle.read_state.specs.declared.Inserted.{Inserted}
 -- ---- the state of the options said
 
 -- the first dash of each pattern
-abbrev pub dashesOf : List Located → List ℕ
-dashesOf located = map (λ (d : Located). d.dash) (keep (λ (d : Located). isPattern d.value) located)
+abbrev pub dashes_of : List Located → List ℕ
+dashes_of located = map (λ (d : Located). d.dash) (keep (λ (d : Located). is_pattern d.value) located)
 
 -- a place among the items after one item more, if a pattern stands there
-abbrev pub onePast : Bool → ℕ → ℕ
-onePast more k = if more then suc k else 0
+abbrev pub one_past : Bool → ℕ → ℕ
+one_past more k = if more then suc k else 0
 
 -- the last pattern's place among the items; 0 if there is none
-unfoldable pub lastPlace : List OptionValue → ℕ
-lastPlace [] = 0
-lastPlace (Name n ∷ es) = lastPlace es
-lastPlace (Protocol p ∷ es) = lastPlace es
-lastPlace (Flow f ∷ es) = lastPlace es
-lastPlace (Test it al ∷ es) = onePast (any? isPattern es) (lastPlace es)
-lastPlace (Pattern n b ∷ es) = onePast (any? isPattern es) (lastPlace es)
-lastPlace (Modified m ∷ es) = lastPlace es
+unfoldable pub last_place : List OptionValue → ℕ
+last_place [] = 0
+last_place (Name n ∷ es) = last_place es
+last_place (Protocol p ∷ es) = last_place es
+last_place (Flow f ∷ es) = last_place es
+last_place (Test it al ∷ es) = one_past (any? is_pattern es) (last_place es)
+last_place (Pattern n b ∷ es) = one_past (any? is_pattern es) (last_place es)
+last_place (Modified m ∷ es) = last_place es
 
 -- a modifier of this number stands among some, and after the last pattern
-abbrev pub modifierAmong : ℕ → List Modifier → Bool
-modifierAmong k ms = any? (λ (m : Modifier). eqb k (modifierNumber m)) ms
+abbrev pub modifier_among : ℕ → List Modifier → Bool
+modifier_among k ms = any? (λ (m : Modifier). eqb k (modifier_number m)) ms
 
-abbrev pub modifierGiven : ℕ → List OptionValue → Bool
-modifierGiven k es = modifierAmong k (latest [] es)
+abbrev pub modifier_given : ℕ → List OptionValue → Bool
+modifier_given k es = modifier_among k (latest [] es)
 
-abbrev pub givenIn : List OptionValue → Given
-givenIn es =
+abbrev pub given_in : List OptionValue → Given
+given_in es =
     record {
-      name = any? (sameKind (Name [])) es;
-      protocol = any? (sameKind (Protocol 0)) es;
-      flow = any? (sameKind (Flow Any)) es;
-      context = modifierGiven 0 es;
-      nocase = modifierGiven 1 es;
-      distance = modifierGiven 2 es;
-      within = modifierGiven 3 es;
+      name = any? (same_kind (Name [])) es;
+      protocol = any? (same_kind (Protocol 0)) es;
+      flow = any? (same_kind (Flow Any)) es;
+      context = modifier_given 0 es;
+      nocase = modifier_given 1 es;
+      distance = modifier_given 2 es;
+      within = modifier_given 3 es;
     }
 
 -- the state of the options es, whose patterns have these first dashes and whose name begins at a place
-unfoldable pub stateFrom : ℕ → List OptionValue → List ℕ → State
-stateFrom from es dashes =
+unfoldable pub state_from : ℕ → List OptionValue → List ℕ → State
+state_from from es dashes =
     record {
       from = from;
-      len = length (nameIn es);
-      protocol = protocolIn es;
-      flow = flowIn es;
-      used = length (bytesIn es);
-      count = length (slotsIn es);
-      given = givenIn es;
-      patterns = count isPattern es;
-      tests = count isTest es;
-      last = lastPlace es;
-      dashes = padded maxPatterns 0 dashes;
+      len = length (name_in es);
+      protocol = protocol_in es;
+      flow = flow_in es;
+      used = length (bytes_in es);
+      count = length (slots_in es);
+      given = given_in es;
+      patterns = count is_pattern es;
+      tests = count is_test es;
+      last = last_place es;
+      dashes = padded max_patterns 0 dashes;
     }
 
 -- THE STATE of the options said, whose name begins at a place
 abbrev pub state_of : ℕ → List Located → State
-state_of from located = stateFrom from (optionValuesOf located) (dashesOf located)
+state_of from located = state_from from (option_values_of located) (dashes_of located)
 
 -- a name that a table has room for stands at a place of the text s
 pub record NameAt (s : List ℕ) (from len : ℕ) (name : List ℕ) : Type 0 where
   pub is : take len (drop from s) ≡ name
   pub inside : from + len ≤ length s
-  pub short : len ≤ maxName
+  pub short : len ≤ max_name
 
 -- the options said in the text s make the state, with the pattern bytes and the items beside it, and no more was counted than a table holds
 pub record Holds (s : List ℕ) (located : List Located) (st : State) (bytes : List ℕ) (items : List Slot) : Type 0 where
   pub is : st ≡ state_of st.from located
-  pub named : NameAt s st.from st.len (nameIn (optionValuesOf located))
-  pub stored : bytes ≡ padded documentLimits.room 0 (bytesIn (optionValuesOf located))
-  pub slots : items ≡ padded maxItems no_slot (slotsIn (optionValuesOf located))
-  pub patterns : count isPattern (optionValuesOf located) ≤ maxPatterns
-  pub tests : count isTest (optionValuesOf located) ≤ maxTests
+  pub named : NameAt s st.from st.len (name_in (option_values_of located))
+  pub stored : bytes ≡ padded document_limits.room 0 (bytes_in (option_values_of located))
+  pub slots : items ≡ padded max_items no_slot (slots_in (option_values_of located))
+  pub patterns : count is_pattern (option_values_of located) ≤ max_patterns
+  pub tests : count is_test (option_values_of located) ≤ max_tests
 
 -- the slot of the last pattern; what is named for past the end is what the logic takes there
-abbrev pub lastSlot : List Slot → State → Slot
-lastSlot items st = get_or items st.last (record { item = item.Unused; addresses = [] })
+abbrev pub last_slot : List Slot → State → Slot
+last_slot items st = get_or items st.last (record { item = item.Unused; addresses = [] })
 
 -- ---- what stands beside a value
 
@@ -107,7 +107,7 @@ Alone al b = (al ≡ []) × (b ≡ [])
 
 -- the addresses al and the pattern bytes b are those of a value of the text s
 abbrev pub Apart : List ℕ → Value → List Address → List ℕ → Type 0
-Apart s (value.Name from n) al b = (1 ≤ n) × (n ≤ maxName) × (from + n ≤ length s) × (al ≡ []) × (b ≡ [])
+Apart s (value.Name from n) al b = (1 ≤ n) × (n ≤ max_name) × (from + n ≤ length s) × (al ≡ []) × (b ≡ [])
 Apart s (value.Protocol p) al b = Alone al b
 Apart s (value.Flow f) al b = Alone al b
 Apart s (value.Test it) al b = Alone al b
@@ -120,9 +120,9 @@ Apart s (value.Within w) al b = Alone al b
 
 -- of the addresses the first eight are kept; the pattern bytes are counted after those of the state
 pub record Beside (s : List ℕ) (st : State) (v : Value) (list : List Address) (used : ℕ) (al : List Address) (b : List ℕ) : Type 0 where
-  pub addresses : list ≡ padded maxAddresses noAddress (take maxAddresses al)
+  pub addresses : list ≡ padded max_addresses no_address (take max_addresses al)
   pub counted : used ≡ st.used + length b
-  pub fits : st.used + length b ≤ documentLimits.room
+  pub fits : st.used + length b ≤ document_limits.room
   pub apart : Apart s v al b
 
 -- ---- the contracts of inserting
@@ -137,20 +137,20 @@ pub record After (st : State) (last : Slot) (v : Value) (list : List Address) (u
   pub al : List Address
   pub b : List ℕ
   pub holds : Holds text located st bytes items
-  pub latest : last ≡ lastSlot items st
+  pub latest : last ≡ last_slot items st
   pub beside : Beside text st v list used al b
 
 -- the option that the value stands for
-abbrev pub optionIn : {st : State} {last : Slot} {v : Value} {list : List Address} {used : ℕ} → After st last v list used → OptionValue
-optionIn {v = v} k = optionValueOf k.text v k.al k.b
+abbrev pub option_in : {st : State} {last : Slot} {v : Value} {list : List Address} {used : ℕ} → After st last v list used → OptionValue
+option_in {v = v} k = option_value_of k.text v k.al k.b
 
 -- the options said and one more
-abbrev pub locatedAlso : List Located → ℕ → OptionValue → List Located
-locatedAlso located dash e = located ++ (record { dash = dash; value = e } ∷ [])
+abbrev pub located_also : List Located → ℕ → OptionValue → List Located
+located_also located dash e = located ++ (record { dash = dash; value = e } ∷ [])
 
 -- whichever these are: what is due for the value is what the definition says, and if nothing is, the state holds one option more, with the value's bytes
 -- stored and the slot put at its place
 pub record InsertedRight (st : State) (last : Slot) (dash : ℕ) (v : Value) (list : List Address) (used : ℕ) (r : Inserted) : Type 0 where
-  pub check : (k : After st last v list used) → r.check ≡ occurrenceCheck (optionValuesOf k.located) (optionIn k)
+  pub check : (k : After st last v list used) → r.check ≡ occurrence_check (option_values_of k.located) (option_in k)
   pub holds : (k : After st last v list used) → r.check ≡ Pass
-      → Holds k.text (locatedAlso k.located dash (optionIn k)) r.state (sets k.bytes st.used k.b) (set k.items r.place r.slot)
+      → Holds k.text (located_also k.located dash (option_in k)) r.state (sets k.bytes st.used k.b) (set k.items r.place r.slot)

@@ -1,9 +1,9 @@
 // What was read of a text so far: the table's numbers as far as they go, with what the options to come are judged by. The table's items and its pattern bytes
 // stand beside the state, where the loop over the options has them, so that an option hands on what it changes and no more.
 ghost use Rattle.std.specs.Prelude.{◌≡◌, []};
-ghost use Rattle.definitions.specs.Refusals.{refuseIf};
-ghost use Rattle.definitions.specs.Tables.{bare, no_slot as emptySlot};
-ghost use Rattle.read_state.specs.Sound.{withoutItem};
+ghost use Rattle.definitions.specs.Refusals.{refuse_if};
+ghost use Rattle.definitions.specs.Tables.{bare, no_slot as empty_slot};
+ghost use Rattle.read_state.specs.Sound.{without_item};
 ghost use Rattle.read_state.specs.State.{state_of};
 
 use definitions::answers::{Check, Refusal};
@@ -52,7 +52,7 @@ pub struct Inserted {
 
 // A slot that is not in use.
 pub fn no_slot() -> Slot
-    ensures { result ≡ emptySlot }
+    ensures { result ≡ empty_slot }
 {
     let addresses = no_addresses();
     Slot {
@@ -63,7 +63,7 @@ pub fn no_slot() -> Slot
 
 // An option that makes no item and changes none.
 pub fn no_item(check: Check, state: State) -> Inserted
-    ensures { result ≡ withoutItem check state }
+    ensures { result ≡ without_item check state }
 {
     let slot = no_slot();
     Inserted {
@@ -104,7 +104,7 @@ pub fn fresh() -> State
 
 // 8, if it was given already.
 pub fn check_again(again: bool) -> Check
-    ensures { result ≡ refuseIf again Refusal.Repeated Check.Pass }
+    ensures { result ≡ refuse_if again Refusal.Repeated Check.Pass }
 {
     if again {
         return Check::Refuse(Refusal::Repeated);

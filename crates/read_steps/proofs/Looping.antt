@@ -11,26 +11,26 @@ use borrow.Author.Tests.{ne_eqb, eqb-true, eqb-false}
 use Rattle.forms.proofs.Bools.{by_cases}
 use Rattle.definitions.specs.declared.answers.Refusal.TheVariants as refusal
 use Rattle.definitions.specs.declared.table.Slot.{Slot}
-use Rattle.definitions.specs.Options.{optionAt}
-use Rattle.definitions.specs.Reading.{Located, optionValuesOf, refused, atLetter, optionStep, dashes, options}
+use Rattle.definitions.specs.Options.{option_at}
+use Rattle.definitions.specs.Reading.{Located, option_values_of, refused, at_letter, option_step, dashes, options}
 use Rattle.syntax.proofs.Loop.{passed_over}
 use Rattle.read_frame.proofs.Dashes.{head}
 use Rattle.read_state.specs.declared.State.{State}
-use Rattle.read_state.specs.State.{Holds, lastSlot, locatedAlso}
+use Rattle.read_state.specs.State.{Holds, last_slot, located_also}
 use Rattle.read_steps.specs.declared.Step.{Step}
 use Rattle.read_steps.specs.declared.Step.TheVariants.{Next, Done, Refused}
 use Rattle.read_steps.specs.declared.Stepped.{Stepped}
-use Rattle.read_steps.specs.Stepping.{closingStep, StepsTo, GoesTo, Goes}
+use Rattle.read_steps.specs.Stepping.{closing_step, StepsTo, GoesTo, Goes}
 
 -- ---- what the definition's loop does at a byte
 
 module _ (s : List ℕ) (at : ℕ) (h : at < length s) (located : List Located) (st : State) (bytes : List ℕ) where
-  pub goes-space : {items : List Slot} → Holds s located st bytes items → st.used ≤ at → get_or s at 0 ≡ 32
+  pub goes_space : {items : List Slot} → Holds s located st bytes items → st.used ≤ at → get_or s at 0 ≡ 32
       → GoesTo s located at bytes (Next (at + 1)) st bytes items
   unfolding options
-  goes-space held after e = (located, rw (head s at h, e), held, omega arith, omega arith, omega arith)
+  goes_space held after e = (located, rw (head s at h, e), held, omega arith, omega arith, omega arith)
 
-  pub goes_close : (items : List Slot) → get_or s at 0 ≡ 41 → GoesTo s located at bytes (closingStep (at + 1) (length s)) st bytes items
+  pub goes_close : (items : List Slot) → get_or s at 0 ≡ 41 → GoesTo s located at bytes (closing_step (at + 1) (length s)) st bytes items
   unfolding options
   goes_close items e =
       by_cases (eqb (at + 1) (length s))
@@ -38,23 +38,23 @@ module _ (s : List ℕ) (at : ℕ) (h : at < length s) (located : List Located) 
       (λ t. let n = eqb-false (at + 1) (length s) t in rw t (rw (head s at h, e, head s (at + 1) (omega arith))))
 
   module _ (space : get_or s at 0 ≡ 32 → ⊥) (close : get_or s at 0 ≡ 41 → ⊥) where
-    pub goes-nowhere : (items : List Slot) → dashes (drop at s) ≡ false → GoesTo s located at bytes (Refused refusal.NeitherOptionNorEnd at) st bytes items
+    pub goes_nowhere : (items : List Slot) → dashes (drop at s) ≡ false → GoesTo s located at bytes (Refused refusal.NeitherOptionNorEnd at) st bytes items
     unfolding options
-    goes-nowhere items e =
+    goes_nowhere items e =
         let d : dashes (get_or s at 0 ∷ drop (at + 1) s) ≡ false = rw (head s at h) at e in
         rw (head s at h, ne_eqb (get_or s at 0) 32 space, ne_eqb (get_or s at 0) 41 close, d)
 
-    to-option : dashes (drop at s) ≡ true
-        → options atLetter s (drop at s) 0 at located
-        ≡ optionStep atLetter (optionAt s at) (optionValuesOf located) at
-        (λ e next. options atLetter s (drop (at + 1) s) (next - (at + 1)) (at + 1) (locatedAlso located at e))
+    to_option : dashes (drop at s) ≡ true
+        → options at_letter s (drop at s) 0 at located
+        ≡ option_step at_letter (option_at s at) (option_values_of located) at
+        (λ e next. options at_letter s (drop (at + 1) s) (next - (at + 1)) (at + 1) (located_also located at e))
     unfolding options
-    to-option e =
+    to_option e =
         let d : dashes (get_or s at 0 ∷ drop (at + 1) s) ≡ true = rw (head s at h) at e in
         rw (head s at h, ne_eqb (get_or s at 0) 32 space, ne_eqb (get_or s at 0) 41 close, d)
 
     passes : (n : ℕ) (more : List Located) → at + 2 ≤ n → n ≤ length s
-        → options atLetter s (drop (at + 1) s) (n - (at + 1)) (at + 1) more ≡ options atLetter s (drop n s) 0 n more
+        → options at_letter s (drop (at + 1) s) (n - (at + 1)) (at + 1) more ≡ options at_letter s (drop n s) 0 n more
     passes n more a b =
         let k = n - (at + 1) in
         let x = take k (drop (at + 1) s) in
@@ -63,33 +63,33 @@ module _ (s : List ℕ) (at : ℕ) (h : at < length s) (located : List Located) 
         let d : drop (at + 1) s ≡ x ++ drop n s =
         sym (take-append-drop k (drop (at + 1) s)) ∙ ap (λ (r : List ℕ). x ++ r) (drop-drop k (at + 1) s ∙ ap (λ (m : ℕ). drop m s) q) in
         let z : at + 1 + length x ≡ n = omega (arith, l) in
-        subst (λ (m : ℕ). options atLetter s (drop (at + 1) s) m (at + 1) more ≡ options atLetter s (drop n s) 0 n more) l
-        (ap (λ (r : List ℕ). options atLetter s r (length x) (at + 1) more) d
+        subst (λ (m : ℕ). options at_letter s (drop (at + 1) s) m (at + 1) more ≡ options at_letter s (drop n s) 0 n more) l
+        (ap (λ (r : List ℕ). options at_letter s r (length x) (at + 1) more) d
         ∙ passed_over s x (drop n s) (at + 1) more
-        ∙ ap (λ (m : ℕ). options atLetter s (drop n s) 0 m more) z)
+        ∙ ap (λ (m : ℕ). options at_letter s (drop n s) 0 m more) z)
 
-    pub goes-option : (after : List ℕ) (items : List Slot) → dashes (drop at s) ≡ true → (t : Step) (u : State) → StepsTo s located at t u after items
+    pub goes_option : (after : List ℕ) (items : List Slot) → dashes (drop at s) ≡ true → (t : Step) (u : State) → StepsTo s located at t u after items
         → GoesTo s located at bytes t u after items
-    goes-option after items e (Next n) u w = (
-      locatedAlso located at w.0,
-      to-option e ∙ w.1 _ ∙ passes n (locatedAlso located at w.0) w.4 w.5,
+    goes_option after items e (Next n) u w = (
+      located_also located at w.0,
+      to_option e ∙ w.1 _ ∙ passes n (located_also located at w.0) w.4 w.5,
       w.2,
       w.3,
       (let a = w.4 in omega arith),
       w.5,
     )
-    goes-option after items e Done u w = absurd w
-    goes-option after items e (Refused q p) u w = to-option e ∙ w _
+    goes_option after items e Done u w = absurd w
+    goes_option after items e (Refused q p) u w = to_option e ∙ w _
 
 -- what a step promises, at the step that it is
-pub goes-told : (s bytes : List ℕ) (st : State) (last : Slot) (at : ℕ) (after : List ℕ) (r : Stepped) → Goes s bytes st last at after r
-    → (t : Step) → r.step ≡ t → (located : List Located) (items : List Slot) → Holds s located st bytes items → last ≡ lastSlot items st → st.used ≤ at
+pub goes_told : (s bytes : List ℕ) (st : State) (last : Slot) (at : ℕ) (after : List ℕ) (r : Stepped) → Goes s bytes st last at after r
+    → (t : Step) → r.step ≡ t → (located : List Located) (items : List Slot) → Holds s located st bytes items → last ≡ last_slot items st → st.used ≤ at
     → GoesTo s located at bytes t r.state after (set items r.place r.slot)
-goes-told s bytes st last at after r g t e located items h l u =
+goes_told s bytes st last at after r g t e located items h l u =
     subst (λ (w : Step). GoesTo s located at bytes w r.state after (set items r.place r.slot)) e (g located items h l u)
 
 -- the text ends where an option or `)` is due
-pub loop-out : (s : List ℕ) (at : ℕ) (located : List Located) → length s ≤ at
-    → options atLetter s (drop at s) 0 at located ≡ refused refusal.NeitherOptionNorEnd at
+pub loop_out : (s : List ℕ) (at : ℕ) (located : List Located) → length s ≤ at
+    → options at_letter s (drop at s) 0 at located ≡ refused refusal.NeitherOptionNorEnd at
 unfolding options
-loop-out s at located h = rw (drop_of_length-le s {i = at} h)
+loop_out s at located h = rw (drop_of_length-le s {i = at} h)

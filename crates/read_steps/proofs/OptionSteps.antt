@@ -7,85 +7,85 @@ use lib.ListN.{length, length-append, replicate}
 use Rattle.forms.specs.Form.{Form}
 use Rattle.forms.specs.Place.{Parsed}
 use Rattle.definitions.specs.declared.table.Slot.{Slot}
-use Rattle.definitions.specs.Limits.{documentLimits, maxItems}
+use Rattle.definitions.specs.Limits.{document_limits, max_items}
 use Rattle.definitions.specs.declared.answers.Check.{Check}
 use Rattle.definitions.specs.declared.answers.Check.TheVariants.{Pass, Refuse as Not}
 use Rattle.definitions.specs.declared.answers.Refusal.{Refusal}
 use Rattle.definitions.specs.declared.answers.Refusal.TheVariants as refusal
 use Rattle.definitions.specs.declared.table.Address.{Address}
 use Rattle.definitions.specs.OptionValues.{OptionValue}
-use Rattle.definitions.specs.Options.{unlisted, listed, optionAt}
-use Rattle.definitions.specs.Occurrences.{occurrenceCheck}
+use Rattle.definitions.specs.Options.{unlisted, listed, option_at}
+use Rattle.definitions.specs.Occurrences.{occurrence_check}
 use Rattle.definitions.specs.Lists.{keep}
-use Rattle.definitions.specs.Tables.{nameIn, bytesIn, slotsIn, no_slot}
-use Rattle.definitions.specs.Reading.{Located, optionValuesOf, Options, refused, atLetter, optionStep}
+use Rattle.definitions.specs.Tables.{name_in, bytes_in, slots_in, no_slot}
+use Rattle.definitions.specs.Reading.{Located, option_values_of, Options, refused, at_letter, option_step}
 use Rattle.read_value.specs.declared.Value.{Value}
 use Rattle.read_value.specs.declared.Value.TheVariants as value
-use Rattle.read_value.specs.Values.{PatternBytes, patternBytesOf, optionValueOf}
+use Rattle.read_value.specs.Values.{PatternBytes, pattern_bytes_of, option_value_of}
 use Rattle.scan_cursors.specs.declared.Cursor.{Cursor}
 use Rattle.scan_cursors.specs.declared.Cursor.TheVariants as cursor
 use Rattle.scan_cursors.specs.Reads.{read_by, place_of}
 use Rattle.read_frame.specs.declared.Ended.TheVariants as ended
-use Rattle.read_frame.specs.Framing.{endedBy}
+use Rattle.read_frame.specs.Framing.{ended_by}
 use Rattle.read_state.specs.declared.State.{State}
-use Rattle.read_state.specs.State.{Holds, lastSlot, Apart, After, locatedAlso, stateFrom, state_of}
+use Rattle.read_state.specs.State.{Holds, last_slot, Apart, After, located_also, state_from, state_of}
 use Rattle.read_by_name.specs.declared.parsed.ParsedOption.{ParsedOption}
 use Rattle.read_by_name.specs.Parsing.{Parses}
-use Rattle.read_insert.proofs.OptionEffects.{bytes-append}
-use Rattle.read_insert.proofs.OneMore.{options-also, used-is}
-use Rattle.read_steps.specs.Stepping.{stepBy, StepsTo}
+use Rattle.read_insert.proofs.OptionEffects.{bytes_append}
+use Rattle.read_insert.proofs.OneMore.{options_also, used_is}
+use Rattle.read_steps.specs.Stepping.{step_by, StepsTo}
 
 module _ (s : List ℕ) (at : ℕ) (es : List OptionValue) (K : OptionValue → ℕ → Options) where
-  pub taken-unlisted : optionAt s at ≡ unlisted → optionStep atLetter (optionAt s at) es at K ≡ refused refusal.NotListed at
-  taken-unlisted e = rw e
+  pub taken_unlisted : option_at s at ≡ unlisted → option_step at_letter (option_at s at) es at K ≡ refused refusal.NotListed at
+  taken_unlisted e = rw e
 
-  pub taken_refused : (v : OptionValue) (d : Cursor) {q : Refusal} {place : ℕ} → optionAt s at ≡ listed (read_by v d) → endedBy d ≡ ended.Refused q place
-      → optionStep atLetter (optionAt s at) es at K ≡ refused q place
+  pub taken_refused : (v : OptionValue) (d : Cursor) {q : Refusal} {place : ℕ} → option_at s at ≡ listed (read_by v d) → ended_by d ≡ ended.Refused q place
+      → option_step at_letter (option_at s at) es at K ≡ refused q place
   taken_refused v d e f = rw e (go d f)
     where
-      go : (d : Cursor) {q : Refusal} {place : ℕ} → endedBy d ≡ ended.Refused q place → optionStep atLetter (listed (read_by v d)) es at K ≡ refused q place
+      go : (d : Cursor) {q : Refusal} {place : ℕ} → ended_by d ≡ ended.Refused q place → option_step at_letter (listed (read_by v d)) es at K ≡ refused q place
       go (cursor.Parsed n) g = absurd (let z : ◌≡◌ {A = ℕ} 0 1 = cc in omega arith)
       go (cursor.OutOfRange p n) g = cc
       go (cursor.Failed p) g = cc
 
 -- an option that ends at a place went on to it
-pub ended-parsed : (d : Cursor) {n : ℕ} → endedBy d ≡ ended.Next n → d ≡ cursor.Parsed n
-ended-parsed (cursor.Parsed m) e = cc
-ended-parsed (cursor.OutOfRange p m) e = absurd (let z : ◌≡◌ {A = ℕ} 0 1 = cc in omega arith)
-ended-parsed (cursor.Failed p) e = absurd (let z : ◌≡◌ {A = ℕ} 0 1 = cc in omega arith)
+pub ended_parsed : (d : Cursor) {n : ℕ} → ended_by d ≡ ended.Next n → d ≡ cursor.Parsed n
+ended_parsed (cursor.Parsed m) e = cc
+ended_parsed (cursor.OutOfRange p m) e = absurd (let z : ◌≡◌ {A = ℕ} 0 1 = cc in omega arith)
+ended_parsed (cursor.Failed p) e = absurd (let z : ◌≡◌ {A = ℕ} 0 1 = cc in omega arith)
 
 -- how many pattern bytes one option more brings
-bytes-located : (s : List ℕ) (v : Value) (al : List Address) (b : List ℕ) → Apart s v al b → bytesIn (optionValueOf s v al b ∷ []) ≡ b
-unfolding bytesIn optionValueOf
-bytes-located s (value.Name from n) al b a = sym a.4
-bytes-located s (value.Protocol p) al b a = sym a.1
-bytes-located s (value.Flow f) al b a = sym a.1
-bytes-located s (value.Test it) al b a = sym a.1
-bytes-located s (value.Addresses t) al b a = sym a.1
-bytes-located s (value.Pattern negated n) al b a = append-nil b
-bytes-located s (value.Context c) al b a = sym a.1
-bytes-located s value.NoCase al b a = sym a.1
-bytes-located s (value.Distance d) al b a = sym a.1
-bytes-located s (value.Within w) al b a = sym a.1
+bytes_located : (s : List ℕ) (v : Value) (al : List Address) (b : List ℕ) → Apart s v al b → bytes_in (option_value_of s v al b ∷ []) ≡ b
+unfolding bytes_in option_value_of
+bytes_located s (value.Name from n) al b a = sym a.4
+bytes_located s (value.Protocol p) al b a = sym a.1
+bytes_located s (value.Flow f) al b a = sym a.1
+bytes_located s (value.Test it) al b a = sym a.1
+bytes_located s (value.Addresses t) al b a = sym a.1
+bytes_located s (value.Pattern negated n) al b a = append-nil b
+bytes_located s (value.Context c) al b a = sym a.1
+bytes_located s value.NoCase al b a = sym a.1
+bytes_located s (value.Distance d) al b a = sym a.1
+bytes_located s (value.Within w) al b a = sym a.1
 
-used-also : {s : List ℕ} {located : List Located} {st u : State} {bytes after : List ℕ} {items put : List Slot} (dash : ℕ) (v : Value)
+used_also : {s : List ℕ} {located : List Located} {st u : State} {bytes after : List ℕ} {items put : List Slot} (dash : ℕ) (v : Value)
     (al : List Address) (b : List ℕ) → Apart s v al b → Holds s located st bytes items
-    → Holds s (locatedAlso located dash (optionValueOf s v al b)) u after put → u.used ≡ st.used + length b
-used-also {s} {located} dash v al b a h g =
-    used-is g
-    ∙ ap (λ (l : List OptionValue). length (bytesIn l)) (options-also located dash (optionValueOf s v al b))
-    ∙ ap length (bytes-append (optionValuesOf located) (optionValueOf s v al b ∷ [])
-    ∙ ap (λ (l : List ℕ). bytesIn (optionValuesOf located) ++ l) (bytes-located s v al b a))
-    ∙ length-append (bytesIn (optionValuesOf located)) b
-    ∙ ap (λ (n : ℕ). n + length b) (sym (used-is h))
+    → Holds s (located_also located dash (option_value_of s v al b)) u after put → u.used ≡ st.used + length b
+used_also {s} {located} dash v al b a h g =
+    used_is g
+    ∙ ap (λ (l : List OptionValue). length (bytes_in l)) (options_also located dash (option_value_of s v al b))
+    ∙ ap length (bytes_append (option_values_of located) (option_value_of s v al b ∷ [])
+    ∙ ap (λ (l : List ℕ). bytes_in (option_values_of located) ++ l) (bytes_located s v al b a))
+    ∙ length-append (bytes_in (option_values_of located)) b
+    ∙ ap (λ (n : ℕ). n + length b) (sym (used_is h))
 
 -- the option is read: what its value stands after and brings
-unfoldable pub read-after : {f : Form OptionValue} {s : List ℕ} {to : ℕ} {bytes after : List ℕ} {st : State} {items : List Slot} {last : Slot}
+unfoldable pub read_after : {f : Form OptionValue} {s : List ℕ} {to : ℕ} {bytes after : List ℕ} {st : State} {items : List Slot} {last : Slot}
     (located : List Located) (r : ParsedOption)
-    → Parses f s to (patternBytesOf bytes st.used) (patternBytesOf after r.used) r → Holds s located st bytes items → last ≡ lastSlot items st
-    → (n : ℕ) → r.cursor ≡ cursor.Parsed n → st.used ≤ to → n ≤ length s → length s ≤ documentLimits.text
+    → Parses f s to (pattern_bytes_of bytes st.used) (pattern_bytes_of after r.used) r → Holds s located st bytes items → last ≡ last_slot items st
+    → (n : ℕ) → r.cursor ≡ cursor.Parsed n → st.used ≤ to → n ≤ length s → length s ≤ document_limits.text
     → After st last r.value r.list r.used
-read-after {s = s} {bytes = bytes} {items = items} located r p h l n q after inside short =
+read_after {s = s} {bytes = bytes} {items = items} located r p h l n q after inside short =
     record {
       text = s;
       located = located;
@@ -107,24 +107,24 @@ read-after {s = s} {bytes = bytes} {items = items} located r p h l n q after ins
 module _ (s : List ℕ) (located : List Located) (st u : State) (bytes after : List ℕ) (items put : List Slot) (at n : ℕ) (v : Value)
     (al : List Address) (b : List ℕ)
     (apart : Apart s v al b) (held : Holds s located st bytes items)
-    (is : optionAt s at ≡ listed (Parsed (optionValueOf s v al b) n)) (inside : n ≤ length s) (onward : at + 2 ≤ n) (grown : st.used + length b ≤ n) where
-  pub stepped : (check : Check) → check ≡ occurrenceCheck (optionValuesOf located) (optionValueOf s v al b)
-      → (check ≡ Pass → Holds s (locatedAlso located at (optionValueOf s v al b)) u after put)
-      → StepsTo s located at (stepBy check at n) u after put
+    (is : option_at s at ≡ listed (Parsed (option_value_of s v al b) n)) (inside : n ≤ length s) (onward : at + 2 ≤ n) (grown : st.used + length b ≤ n) where
+  pub stepped : (check : Check) → check ≡ occurrence_check (option_values_of located) (option_value_of s v al b)
+      → (check ≡ Pass → Holds s (located_also located at (option_value_of s v al b)) u after put)
+      → StepsTo s located at (step_by check at n) u after put
   stepped Pass e h =
       let g = h refl in
-      (optionValueOf s v al b, (λ K. rw (is, sym e)), g, (let q = used-also at v al b apart held g in omega (arith, q, grown)), onward, inside)
+      (option_value_of s v al b, (λ K. rw (is, sym e)), g, (let q = used_also at v al b apart held g in omega (arith, q, grown)), onward, inside)
   stepped (Not r) e h = λ K. rw (is, sym e)
 
 -- the place after a cursor that goes on
-pub parsed-inside : (s : List ℕ) (d : Cursor) (n : ℕ) → place_of d ≤ length s → d ≡ cursor.Parsed n → n ≤ length s
-parsed-inside s d n h e = subst (λ (x : Cursor). place_of x ≤ length s) e h
+pub parsed_inside : (s : List ℕ) (d : Cursor) (n : ℕ) → place_of d ≤ length s → d ≡ cursor.Parsed n → n ≤ length s
+parsed_inside s d n h e = subst (λ (x : Cursor). place_of x ≤ length s) e h
 
 -- before the first option
-pub fresh_holds : (s : List ℕ) (st : State) (bytes : List ℕ) (items : List Slot) → st ≡ state_of 0 [] → bytes ≡ replicate documentLimits.room 0
-    → items ≡ replicate maxItems no_slot
+pub fresh_holds : (s : List ℕ) (st : State) (bytes : List ℕ) (items : List Slot) → st ≡ state_of 0 [] → bytes ≡ replicate document_limits.room 0
+    → items ≡ replicate max_items no_slot
     → Holds s [] st bytes items × (st.used ≤ 0)
-unfolding stateFrom nameIn bytesIn slotsIn keep
+unfolding state_from name_in bytes_in slots_in keep
 fresh_holds s st bytes items e b i =
     let from : st.from ≡ 0 = ap (λ (x : State). x.from) e in
     let len : st.len ≡ 0 = ap (λ (x : State). x.len) e in

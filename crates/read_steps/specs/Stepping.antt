@@ -5,82 +5,82 @@ use Rattle.definitions.specs.declared.answers.Check.{Check}
 use Rattle.definitions.specs.declared.answers.Check.TheVariants.{Pass, Refuse}
 use Rattle.definitions.specs.declared.answers.Refusal.TheVariants as refusal
 use Rattle.definitions.specs.declared.table.Slot.{Slot}
-use Rattle.definitions.specs.Limits.{documentLimits, maxItems}
+use Rattle.definitions.specs.Limits.{document_limits, max_items}
 use Rattle.definitions.specs.Tables.{no_slot}
 use Rattle.definitions.specs.OptionValues.{OptionValue}
-use Rattle.definitions.specs.Options.{optionAt}
-use Rattle.definitions.specs.Reading.{Located, optionValuesOf, Options, ended, refused, atLetter, optionStep, options}
+use Rattle.definitions.specs.Options.{option_at}
+use Rattle.definitions.specs.Reading.{Located, option_values_of, Options, ended, refused, at_letter, option_step, options}
 use Rattle.read_state.specs.declared.State.{State}
 use Rattle.read_state.specs.declared.Inserted.{Inserted}
-use Rattle.read_state.specs.State.{Holds, lastSlot, locatedAlso, InsertedRight}
+use Rattle.read_state.specs.State.{Holds, last_slot, located_also, InsertedRight}
 use Rattle.read_by_name.specs.declared.parsed.ParsedOption.{ParsedOption}
 use Rattle.read_steps.specs.declared.Step.{Step}
 use Rattle.read_steps.specs.declared.Step.TheVariants.{Next, Done, Refused}
 use Rattle.read_steps.specs.declared.Stepped.{Stepped}
 
-abbrev pub stepBy : Check → ℕ → ℕ → Step
-stepBy Pass at next = Next next
-stepBy (Refuse r) at next = Refused r at
+abbrev pub step_by : Check → ℕ → ℕ → Step
+step_by Pass at next = Next next
+step_by (Refuse r) at next = Refused r at
 
 -- a step that inserts nothing
-abbrev pub stepOnly : Step → State → Stepped
-stepOnly t st = record { step = t; state = st; place = maxItems; slot = no_slot }
+abbrev pub step_only : Step → State → Stepped
+step_only t st = record { step = t; state = st; place = max_items; slot = no_slot }
 
 -- the option that was read is inserted as `insert` does it, and the text goes on at a place unless something is due
 abbrev pub InsertsOption : State → Slot → ℕ → ParsedOption → ℕ → Stepped → Type 0
 InsertsOption st last at p next r =
     (e : Inserted) × InsertedRight st last at p.value p.list p.used e
-    × (r ≡ record { step = stepBy e.check at next; state = e.state; place = e.place; slot = e.slot })
+    × (r ≡ record { step = step_by e.check at next; state = e.state; place = e.place; slot = e.slot })
 
 -- where an option begins: some options make the state, no more pattern bytes are in use than stand before, and two bytes stand there
 pub record Steppable (s bytes : List ℕ) (st : State) (last : Slot) (at : ℕ) : Type 0 where
   pub located : List Located
   pub items : List Slot
   pub holds : Holds s located st bytes items
-  pub latest : last ≡ lastSlot items st
+  pub latest : last ≡ last_slot items st
   pub after : st.used ≤ at
   pub inside : at + 2 ≤ length s
-  pub short : length s ≤ documentLimits.text
+  pub short : length s ≤ document_limits.text
 
 -- a refusal is the definition's, and so is the way on: to an option and a place after it, with its bytes stored and its slot put
 abbrev pub StepsTo : List ℕ → List Located → ℕ → Step → State → List ℕ → List Slot → Type 0
 StepsTo s located at (Refused q p) u bytes items =
-    (K : OptionValue → ℕ → Options) → optionStep atLetter (optionAt s at) (optionValuesOf located) at K ≡ refused q p
+    (K : OptionValue → ℕ → Options) → option_step at_letter (option_at s at) (option_values_of located) at K ≡ refused q p
 StepsTo s located at Done u bytes items = ⊥
 StepsTo s located at (Next n) u bytes items =
-    (e : OptionValue) × ((K : OptionValue → ℕ → Options) → optionStep atLetter (optionAt s at) (optionValuesOf located) at K ≡ K e n)
-    × Holds s (locatedAlso located at e) u bytes items × (u.used ≤ n) × (at + 2 ≤ n) × (n ≤ length s)
+    (e : OptionValue) × ((K : OptionValue → ℕ → Options) → option_step at_letter (option_at s at) (option_values_of located) at K ≡ K e n)
+    × Holds s (located_also located at e) u bytes items × (u.used ≤ n) × (at + 2 ≤ n) × (n ≤ length s)
 
 abbrev pub Steps : List ℕ → List ℕ → State → Slot → ℕ → List ℕ → Stepped → Type 0
 Steps s bytes st last at after r =
-    (located : List Located) (items : List Slot) → Holds s located st bytes items → last ≡ lastSlot items st
+    (located : List Located) (items : List Slot) → Holds s located st bytes items → last ≡ last_slot items st
     → StepsTo s located at r.step r.state after (set items r.place r.slot)
 
 -- ---- a step of the loop over a text
 
-abbrev pub closingStep : ℕ → ℕ → Step
-closingStep after len = if eqb after len then Done else Refused refusal.NeitherOptionNorEnd after
+abbrev pub closing_step : ℕ → ℕ → Step
+closing_step after len = if eqb after len then Done else Refused refusal.NeitherOptionNorEnd after
 
 -- where the loop stands, at no space: some options make the state, and no more pattern bytes are in use than stand before
 pub record Placed (s bytes : List ℕ) (st : State) (last : Slot) (at : ℕ) : Type 0 where
   pub located : List Located
   pub items : List Slot
   pub holds : Holds s located st bytes items
-  pub latest : last ≡ lastSlot items st
+  pub latest : last ≡ last_slot items st
   pub after : st.used ≤ at
   pub inside : at < length s
   pub solid : get_or s at 0 ≡ 32 → ⊥
-  pub short : length s ≤ documentLimits.text
+  pub short : length s ≤ document_limits.text
 
 -- what the definition's loop does from the place on; at the end all stays as it was
 abbrev pub GoesTo : List ℕ → List Located → ℕ → List ℕ → Step → State → List ℕ → List Slot → Type 0
-GoesTo s located at bytes (Refused q p) u after items = options atLetter s (drop at s) 0 at located ≡ refused q p
-GoesTo s located at bytes Done u after items = (options atLetter s (drop at s) 0 at located ≡ ended located) × (after ≡ bytes)
+GoesTo s located at bytes (Refused q p) u after items = options at_letter s (drop at s) 0 at located ≡ refused q p
+GoesTo s located at bytes Done u after items = (options at_letter s (drop at s) 0 at located ≡ ended located) × (after ≡ bytes)
 GoesTo s located at bytes (Next n) u after items =
-    (more : List Located) × (options atLetter s (drop at s) 0 at located ≡ options atLetter s (drop n s) 0 n more)
+    (more : List Located) × (options at_letter s (drop at s) 0 at located ≡ options at_letter s (drop n s) 0 n more)
     × Holds s more u after items × (u.used ≤ n) × (at < n) × (n ≤ length s)
 
 abbrev pub Goes : List ℕ → List ℕ → State → Slot → ℕ → List ℕ → Stepped → Type 0
 Goes s bytes st last at after r =
-    (located : List Located) (items : List Slot) → Holds s located st bytes items → last ≡ lastSlot items st → st.used ≤ at
+    (located : List Located) (items : List Slot) → Holds s located st bytes items → last ≡ last_slot items st → st.used ≤ at
     → GoesTo s located at bytes r.step r.state after (set items r.place r.slot)

@@ -1,7 +1,7 @@
 // One step of reading: an option of a text by its name and form, and what it does to the state; the last `)`; or neither where one is due.
 ghost use Rattle.std.specs.Prelude.{◌≡◌};
 ghost use Rattle.read_state.specs.State.{After};
-ghost use Rattle.read_steps.specs.Stepping.{Steppable, Steps, stepBy, stepOnly, InsertsOption, closingStep, Placed, Goes};
+ghost use Rattle.read_steps.specs.Stepping.{Steppable, Steps, step_by, step_only, InsertsOption, closing_step, Placed, Goes};
 
 use definitions::answers::{Check, Refusal};
 use definitions::limits::ITEMS;
@@ -33,7 +33,7 @@ pub struct Stepped {
 
 // A step that inserts nothing.
 fn step_only(step: Step, state: State) -> Stepped
-    ensures { result ≡ stepOnly step state }
+    ensures { result ≡ step_only step state }
 {
     let slot = no_slot();
     Stepped {
@@ -85,7 +85,7 @@ fn option_step(s: &[u8], bytes: &mut [u8], st: State, last: Slot, at: usize) -> 
 
 // On, unless something is due.
 fn step_by(check: Check, at: usize, next: usize) -> Step
-    ensures { result ≡ stepBy check at next }
+    ensures { result ≡ step_by check at next }
 {
     match check {
         Check::Pass => Step::Next(next),
@@ -110,7 +110,7 @@ pub fn step_at(s: &[u8], bytes: &mut [u8], st: State, last: Slot, at: usize) -> 
 
 // After a `)`: the end, or a byte too many.
 fn closing_step(after: usize, len: usize) -> Step
-    ensures { result ≡ closingStep after len }
+    ensures { result ≡ closing_step after len }
 {
     if after == len {
         Step::Done

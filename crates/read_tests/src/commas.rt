@@ -1,6 +1,6 @@
 // What may follow the number of data_size, after a comma.
 ghost use Rattle.scan_cursors.specs.Reads.{Inside, Reads};
-ghost use Rattle.read_tests.specs.Parts.{sizeField};
+ghost use Rattle.read_tests.specs.Parts.{size_field};
 
 use definitions::table::SizeField;
 use read_words::{SizeFieldAt, then_size_word};
@@ -10,7 +10,7 @@ use scan_steps::literals::{next_is, then_literal};
 // Optional `,` and the field of data_size.
 pub fn then_size_field(s: &[u8], c: Cursor) -> SizeFieldAt
     requires { Inside s.now c }
-    ensures { Reads sizeField s.now c result.field result.cursor }
+    ensures { Reads size_field s.now c result.field result.cursor }
 {
     if next_is(s, c, b',') {
         let comma = then_literal(s, c, b',');

@@ -1,9 +1,9 @@
 // The tests without addresses.
 ghost use Rattle.std.specs.Prelude.{[], ◌≤◌, length};
-ghost use Rattle.definitions.specs.Limits.{maxWord};
-ghost use Rattle.definitions.specs.Forms.{sameIpForm, ttlForm, sizeForm, atForm};
-ghost use Rattle.read_tests.specs.Parts.{numberWithin, fieldWithin};
-ghost use Rattle.read_value.specs.Values.{optionValueOf, Plain};
+ghost use Rattle.definitions.specs.Limits.{max_word};
+ghost use Rattle.definitions.specs.Forms.{same_ip_form, ttl_form, size_form, at_form};
+ghost use Rattle.read_tests.specs.Parts.{number_within, field_within};
+ghost use Rattle.read_value.specs.Values.{option_value_of, Plain};
 ghost use Rattle.scan_cursors.specs.Reads.{Reads};
 ghost use Rattle.scan_cursors.specs.declared.Cursor.TheVariants.{Parsed};
 
@@ -22,7 +22,7 @@ use scan_steps::words::then_comma_word;
 // The option same_ip.
 pub fn same_ip_option(s: &[u8], at: usize) -> Valued
     requires { at ≤ length s.now }
-    ensures { Reads sameIpForm s.now (Parsed at) (optionValueOf s.now result.value [] []) result.cursor × Plain result.value }
+    ensures { Reads same_ip_form s.now (Parsed at) (option_value_of s.now result.value [] []) result.cursor × Plain result.value }
 {
     Valued {
         value: Value::Test(Item::SameIp),
@@ -32,8 +32,8 @@ pub fn same_ip_option(s: &[u8], at: usize) -> Valued
 
 // ip_id, src_port, dst_port and ip_tos, whose limit the caller names.
 pub fn number_option(s: &[u8], at: usize, field: NumberField, limit: u64) -> Valued
-    requires { (at ≤ length s.now) × (limit ≤ maxWord) }
-    ensures { Reads (numberWithin field limit) s.now (Parsed at) (optionValueOf s.now result.value [] []) result.cursor × Plain result.value }
+    requires { (at ≤ length s.now) × (limit ≤ max_word) }
+    ensures { Reads (number_within field limit) s.now (Parsed at) (option_value_of s.now result.value [] []) result.cursor × Plain result.value }
 {
     let c = gap_at(s, at);
     let n = then_number(s, c, limit);
@@ -49,7 +49,7 @@ pub fn number_option(s: &[u8], at: usize, field: NumberField, limit: u64) -> Val
 // The option ip_ttl.
 pub fn ttl_option(s: &[u8], at: usize) -> Valued
     requires { at ≤ length s.now }
-    ensures { Reads ttlForm s.now (Parsed at) (optionValueOf s.now result.value [] []) result.cursor × Plain result.value }
+    ensures { Reads ttl_form s.now (Parsed at) (option_value_of s.now result.value [] []) result.cursor × Plain result.value }
 {
     let c = gap_at(s, at);
     let o = then_order(s, c);
@@ -67,8 +67,8 @@ pub fn ttl_option(s: &[u8], at: usize) -> Valued
 
 // ip.total_length, ip.id, ip.checksum and ip.ttl, whose limit the caller names.
 pub fn field_option(s: &[u8], at: usize, field: HeaderField, limit: u64) -> Valued
-    requires { (at ≤ length s.now) × (limit ≤ maxWord) }
-    ensures { Reads (fieldWithin field limit) s.now (Parsed at) (optionValueOf s.now result.value [] []) result.cursor × Plain result.value }
+    requires { (at ≤ length s.now) × (limit ≤ max_word) }
+    ensures { Reads (field_within field limit) s.now (Parsed at) (option_value_of s.now result.value [] []) result.cursor × Plain result.value }
 {
     let c = gap_at(s, at);
     let m = then_mask(s, c, limit);
@@ -96,7 +96,7 @@ pub fn field_option(s: &[u8], at: usize, field: HeaderField, limit: u64) -> Valu
 // The option data_size.
 pub fn size_option(s: &[u8], at: usize) -> Valued
     requires { at ≤ length s.now }
-    ensures { Reads sizeForm s.now (Parsed at) (optionValueOf s.now result.value [] []) result.cursor × Plain result.value }
+    ensures { Reads size_form s.now (Parsed at) (option_value_of s.now result.value [] []) result.cursor × Plain result.value }
 {
     let c = gap_at(s, at);
     let o = then_size_order(s, c);
@@ -122,7 +122,7 @@ pub fn size_option(s: &[u8], at: usize) -> Valued
 // The option data_at.
 pub fn at_option(s: &[u8], at: usize) -> Valued
     requires { at ≤ length s.now }
-    ensures { Reads atForm s.now (Parsed at) (optionValueOf s.now result.value [] []) result.cursor × Plain result.value }
+    ensures { Reads at_form s.now (Parsed at) (option_value_of s.now result.value [] []) result.cursor × Plain result.value }
 {
     let c = gap_at(s, at);
     let n = then_number(s, c, MAX_WORD);

@@ -8,25 +8,25 @@ use Rattle.read_value.specs.declared.Value.{Value}
 use Rattle.read_value.specs.declared.Value.TheVariants as value
 
 -- a value of the text s, with the addresses al and the pattern bytes b beside it
-unfoldable pub optionValueOf : List ℕ → Value → List Address → List ℕ → OptionValue
-optionValueOf s (value.Name from n) al b = Name (take n (drop from s))
-optionValueOf s (value.Protocol p) al b = Protocol p
-optionValueOf s (value.Flow f) al b = Flow f
-optionValueOf s (value.Test it) al b = Test it []
-optionValueOf s (value.Addresses a) al b = Test (item.Address a) al
-optionValueOf s (value.Pattern negated n) al b = Pattern negated b
-optionValueOf s (value.Context c) al b = Modified (Context c)
-optionValueOf s value.NoCase al b = Modified NoCase
-optionValueOf s (value.Distance d) al b = Modified (Distance d)
-optionValueOf s (value.Within w) al b = Modified (Within w)
+unfoldable pub option_value_of : List ℕ → Value → List Address → List ℕ → OptionValue
+option_value_of s (value.Name from n) al b = Name (take n (drop from s))
+option_value_of s (value.Protocol p) al b = Protocol p
+option_value_of s (value.Flow f) al b = Flow f
+option_value_of s (value.Test it) al b = Test it []
+option_value_of s (value.Addresses a) al b = Test (item.Address a) al
+option_value_of s (value.Pattern negated n) al b = Pattern negated b
+option_value_of s (value.Context c) al b = Modified (Context c)
+option_value_of s value.NoCase al b = Modified NoCase
+option_value_of s (value.Distance d) al b = Modified (Distance d)
+option_value_of s (value.Within w) al b = Modified (Within w)
 
 -- the pattern bytes so far: the bytes of a buffer, and how many of them are in use
 pub record PatternBytes : Type 0 where
   pub bytes : List ℕ
   pub used : ℕ
 
-abbrev pub patternBytesOf : List ℕ → ℕ → PatternBytes
-patternBytesOf bytes used = record { bytes = bytes; used = used }
+abbrev pub pattern_bytes_of : List ℕ → ℕ → PatternBytes
+pattern_bytes_of bytes used = record { bytes = bytes; used = used }
 
 -- the bytes b after those in use; past the end nothing is kept
 abbrev pub appended : PatternBytes → List ℕ → PatternBytes

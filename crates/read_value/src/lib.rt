@@ -1,9 +1,9 @@
 // What the reader's scanning hands to its inserting, by value: an option's value, and the addresses beside it.
 ghost use Rattle.std.specs.Prelude.{◌≡◌, replicate};
-ghost use Rattle.definitions.specs.Limits.{maxAddresses};
-ghost use Rattle.definitions.specs.Tables.{noAddress};
-ghost use Rattle.definitions.specs.Forms.{fieldEquals};
-ghost use Rattle.definitions.specs.IpId.{renewedItem};
+ghost use Rattle.definitions.specs.Limits.{max_addresses};
+ghost use Rattle.definitions.specs.Tables.{no_address};
+ghost use Rattle.definitions.specs.Forms.{field_equals};
+ghost use Rattle.definitions.specs.IpId.{renewed_item};
 ghost use Rattle.definitions.specs.declared.table.HeaderField.TheVariants.{Id};
 
 use definitions::limits::{ADDRESSES, MAX_WORD};
@@ -41,7 +41,7 @@ const FULL_MASK: u16 = MAX_WORD as u16;
 
 // The test `ip.id = N`.
 fn id_equals(number: u16) -> Item
-    ensures { result ≡ Item.Field (fieldEquals Id number) }
+    ensures { result ≡ Item.Field (field_equals Id number) }
 {
     let test = FieldTest {
         field: HeaderField::Id,
@@ -54,7 +54,7 @@ fn id_equals(number: u16) -> Item
 
 // What the option ip_id, src_port, dst_port or ip_tos is read as: the number test, but ip_id as `ip.id = N`.
 pub fn number_item(a: NumberTest) -> Item
-    ensures { result ≡ renewedItem (Item.Number a) }
+    ensures { result ≡ renewed_item (Item.Number a) }
 {
     let field = a.field;
     match field {
@@ -65,7 +65,7 @@ pub fn number_item(a: NumberTest) -> Item
 
 // The addresses beside a value that has none.
 pub fn no_addresses() -> [Address; ADDRESSES]
-    ensures { result ≡ replicate maxAddresses noAddress }
+    ensures { result ≡ replicate max_addresses no_address }
 {
     let none = Address {
         number: 0,

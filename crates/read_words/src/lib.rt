@@ -2,9 +2,9 @@
 // letter after does.
 ghost use Rattle.std.specs.Prelude.{◌≤◌};
 ghost use Rattle.scan_cursors.specs.Reads.{Inside, Reads};
-ghost use Rattle.definitions.specs.Limits.{maxByte};
-ghost use Rattle.definitions.specs.Forms.{referenceWord};
-ghost use Rattle.read_words.specs.Words.{protocolValue, flowWord, contextWord, hWord, bWord, sizeWord};
+ghost use Rattle.definitions.specs.Limits.{max_byte};
+ghost use Rattle.definitions.specs.Forms.{reference_word};
+ghost use Rattle.read_words.specs.Words.{protocol_value, flow_word, context_word, h_word, b_word, size_word};
 
 use definitions::limits::MAX_BYTE;
 use definitions::table::{Context, Flow, Reference, SizeField};
@@ -45,7 +45,7 @@ pub struct ReferenceAt {
 // `tcp`, `udp`, `icmp` or a number.
 pub fn then_protocol(s: &[u8], c: Cursor) -> Numeric
     requires { Inside s.now c }
-    ensures { Reads protocolValue s.now c result.value result.cursor × (result.value ≤ maxByte) }
+    ensures { Reads protocol_value s.now c result.value result.cursor × (result.value ≤ max_byte) }
 {
     if next_is_letter(s, c, b't') {
         return Numeric {
@@ -71,7 +71,7 @@ pub fn then_protocol(s: &[u8], c: Cursor) -> Numeric
 // `from_client` or `from_server`.
 pub fn then_flow(s: &[u8], c: Cursor) -> FlowAt
     requires { Inside s.now c }
-    ensures { Reads flowWord s.now c result.flow result.cursor }
+    ensures { Reads flow_word s.now c result.flow result.cursor }
 {
     let from = then_word(s, c, b"from_");
     let side = then_either_word(s, from, b"client", b"server");
@@ -91,7 +91,7 @@ pub fn then_flow(s: &[u8], c: Cursor) -> FlowAt
 // `match`, `packet` or `context`.
 pub fn then_reference(s: &[u8], c: Cursor) -> ReferenceAt
     requires { Inside s.now c }
-    ensures { Reads referenceWord s.now c result.reference result.cursor }
+    ensures { Reads reference_word s.now c result.reference result.cursor }
 {
     if next_is_letter(s, c, b'm') {
         return ReferenceAt {
@@ -116,7 +116,7 @@ pub fn then_reference(s: &[u8], c: Cursor) -> ReferenceAt
 // `payload`, `uri`, `header` or `body`.
 pub fn then_size_word(s: &[u8], c: Cursor) -> SizeFieldAt
     requires { Inside s.now c }
-    ensures { Reads sizeWord s.now c result.field result.cursor }
+    ensures { Reads size_word s.now c result.field result.cursor }
 {
     if next_is_letter(s, c, b'p') {
         return SizeFieldAt {
@@ -147,7 +147,7 @@ pub fn then_size_word(s: &[u8], c: Cursor) -> SizeFieldAt
 // `header` or `host`.
 fn then_h_word(s: &[u8], c: Cursor) -> ContextAt
     requires { Inside s.now c }
-    ensures { Reads hWord s.now c result.context result.cursor }
+    ensures { Reads h_word s.now c result.context result.cursor }
 {
     let h = then_word(s, c, b"h");
     let w = then_either_word(s, h, b"eader", b"ost");
@@ -167,7 +167,7 @@ fn then_h_word(s: &[u8], c: Cursor) -> ContextAt
 // `body` or `banner`.
 fn then_b_word(s: &[u8], c: Cursor) -> ContextAt
     requires { Inside s.now c }
-    ensures { Reads bWord s.now c result.context result.cursor }
+    ensures { Reads b_word s.now c result.context result.cursor }
 {
     let b = then_word(s, c, b"b");
     let w = then_either_word(s, b, b"ody", b"anner");
@@ -187,7 +187,7 @@ fn then_b_word(s: &[u8], c: Cursor) -> ContextAt
 // `packet`, `uri`, `header`, `body`, `banner`, `host` or `file`.
 pub fn then_context(s: &[u8], c: Cursor) -> ContextAt
     requires { Inside s.now c }
-    ensures { Reads contextWord s.now c result.context result.cursor }
+    ensures { Reads context_word s.now c result.context result.cursor }
 {
     if next_is_letter(s, c, b'p') {
         return ContextAt {

@@ -1,8 +1,8 @@
 // Reading a text into its table.
 ghost use Rattle.std.specs.Prelude.{◌≡◌};
-ghost use Rattle.definitions.specs.Limits.{documentLimits};
+ghost use Rattle.definitions.specs.Limits.{document_limits};
 ghost use Rattle.definitions.specs.Reading.{read as readText};
-ghost use Rattle.definitions.specs.AnswerNumbers.{readNumbers, readInNumbers};
+ghost use Rattle.definitions.specs.AnswerNumbers.{read_numbers, read_in_numbers};
 
 use definitions::answers::{ReadOutcome, Reading, Refusal};
 use definitions::limits::{ITEMS, PATTERN_BYTES};
@@ -15,8 +15,8 @@ use read_steps::{Step, step_at};
 
 // THE READER: any bytes in, the table or a refusal with its place out.
 pub fn read(s: &[u8]) -> Reading
-    ensures answer { result ≡ readText documentLimits s.now }
-    ensures numbers { readNumbers result.outcome ≡ readInNumbers documentLimits s.now }
+    ensures answer { result ≡ readText document_limits s.now }
+    ensures numbers { read_numbers result.outcome ≡ read_in_numbers document_limits s.now }
 {
     let front = front_of(s);
     if let Front::Refused(r, p) = front {

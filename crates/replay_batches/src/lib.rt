@@ -1,8 +1,8 @@
 // What is said of a trace's next lines, decided together: each rule's text is read once for all of them.
 ghost use Rattle.std.specs.Prelude.{◌≡◌, ◌∷◌, [], ◌≤◌, ◌<◌, length, take};
-ghost use Rattle.definitions.specs.Limits.{documentLimits};
-ghost use Rattle.definitions.specs.LoadedBooks.{rulesIn};
-ghost use Rattle.line_stream.specs.Ended.{endedLines};
+ghost use Rattle.definitions.specs.Limits.{document_limits};
+ghost use Rattle.definitions.specs.LoadedBooks.{rules_in};
+ghost use Rattle.line_stream.specs.Ended.{ended_lines};
 ghost use Rattle.replay_batches.specs.Numbers.{numbered};
 ghost use Rattle.replay_batches.specs.Batches.{Gathers, Adds, Decides};
 
@@ -53,7 +53,7 @@ fn gather(
     block: &mut [u8; RECORDS],
     marks: &mut [u32; LINES],
 ) -> Gathered
-    ensures { Gathers (first.now ∷ endedLines [] rest.now) block.new marks.new result }
+    ensures { Gathers (first.now ∷ ended_lines [] rest.now) block.new marks.new result }
 {
     let none = Gathered { lines: 0, bytes: 0 };
     let mut g = add_line(block, marks, none, first);
@@ -98,7 +98,7 @@ pub fn decide_lines(
     numbers: &mut [u32; LINES],
     answers: &mut [u32; LINES],
 ) -> usize
-    ensures { Decides documentLimits (rulesIn book.now rules) (first.now ∷ endedLines [] rest.now) answers.new result }
+    ensures { Decides document_limits (rules_in book.now rules) (first.now ∷ ended_lines [] rest.now) answers.new result }
 {
     let g = gather(first, rest, block, answers);
     let bytes = g.bytes;

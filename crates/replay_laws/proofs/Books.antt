@@ -8,29 +8,29 @@ use Rattle.definitions.specs.declared.answers.Refusal.{Refusal}
 use Rattle.definitions.specs.declared.books.Judgement.{Judgement}
 use Rattle.definitions.specs.declared.books.Judgement.TheVariants.{Accepted, Refused}
 use Rattle.definitions.specs.Limits.{Limits}
-use Rattle.definitions.specs.Books.{rulesOf, judge}
-use Rattle.definitions.specs.Decisions.{decidedIf, decision}
-use Rattle.replay_laws.specs.Traces.{isTraceLine, traceRecord}
-use Rattle.replay_laws.specs.Replays.{bad, outcomeBy, outcome, traceOutput, refusedOutput, outputIf, replayOutput}
+use Rattle.definitions.specs.Books.{rules_of, judge}
+use Rattle.definitions.specs.Decisions.{decided_if, decision}
+use Rattle.replay_laws.specs.Traces.{is_trace_line, trace_record}
+use Rattle.replay_laws.specs.Replays.{bad, outcome_by, outcome, trace_output, refused_output, output_if, replay_output}
 
 module _ (lim : Limits) (book : List ℕ) where
-  pub refused-alone : (r : Refusal) (line : ℕ) → judge lim book ≡ Refused r line → (input : List ℕ) → replayOutput lim book input ≡ refusedOutput r line
-  unfolding replayOutput
-  refused-alone r line e input = ap (λ (j : Judgement). outputIf j lim (rulesOf book) input) e
+  pub refused_alone : (r : Refusal) (line : ℕ) → judge lim book ≡ Refused r line → (input : List ℕ) → replay_output lim book input ≡ refused_output r line
+  unfolding replay_output
+  refused_alone r line e input = ap (λ (j : Judgement). output_if j lim (rules_of book) input) e
 
   module _ (n : ℕ) (e : judge lim book ≡ Accepted n) where
-    pub accepted-whole : (input : List ℕ) → replayOutput lim book input ≡ traceOutput lim (rulesOf book) input
-    unfolding replayOutput
-    accepted-whole input = ap (λ (j : Judgement). outputIf j lim (rulesOf book) input) e
+    pub accepted_whole : (input : List ℕ) → replay_output lim book input ≡ trace_output lim (rules_of book) input
+    unfolding replay_output
+    accepted_whole input = ap (λ (j : Judgement). output_if j lim (rules_of book) input) e
 
-    pub line-decided : (l : List ℕ) → isTraceLine l ≡ true → outcome lim (rulesOf book) l
-        ≡ outcomeBy (decision lim (traceRecord l).packet (traceRecord l).decoded (traceRecord l).direction (traceRecord l).fields book)
+    pub line_decided : (l : List ℕ) → is_trace_line l ≡ true → outcome lim (rules_of book) l
+        ≡ outcome_by (decision lim (trace_record l).packet (trace_record l).decoded (trace_record l).direction (trace_record l).fields book)
     unfolding outcome decision
-    line-decided l t =
-        let k = traceRecord l in
+    line_decided l t =
+        let k = trace_record l in
         rw t
-        (sym (ap (λ (j : Judgement). outcomeBy (decidedIf lim k.packet k.decoded k.direction k.fields j (rulesOf book))) e))
+        (sym (ap (λ (j : Judgement). outcome_by (decided_if lim k.packet k.decoded k.direction k.fields j (rules_of book))) e))
 
-  pub bad-line : (l : List ℕ) → isTraceLine l ≡ false → outcome lim (rulesOf book) l ≡ bad
+  pub bad_line : (l : List ℕ) → is_trace_line l ≡ false → outcome lim (rules_of book) l ≡ bad
   unfolding outcome
-  bad-line l f = rw f
+  bad_line l f = rw f

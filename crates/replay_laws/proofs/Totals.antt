@@ -6,21 +6,21 @@ use native.Mathlib.Omega.{arith}
 use lib.ListN.{length, length-map}
 use Rattle.definitions.specs.Limits.{Limits}
 use Rattle.definitions.specs.Lists.{keep, count}
-use Rattle.definitions.specs.Lines.{lineTexts}
+use Rattle.definitions.specs.Lines.{line_texts}
 use Rattle.definitions.specs.Books.{Rule}
-use Rattle.replay_laws.specs.Replays.{Outcome, pass, hold, bad, isPass, isHold, isBad, outcome}
+use Rattle.replay_laws.specs.Replays.{Outcome, pass, hold, bad, is_pass, is_hold, is_bad, outcome}
 
-kinds-all : (os : List Outcome) → count isPass os + count isHold os + count isBad os ≡ length os
+kinds_all : (os : List Outcome) → count is_pass os + count is_hold os + count is_bad os ≡ length os
 unfolding keep
-kinds-all [] = omega arith
-kinds-all (pass n ∷ os) = omega (arith, kinds-all os)
-kinds-all (hold n ∷ os) = omega (arith, kinds-all os)
-kinds-all (bad ∷ os) = omega (arith, kinds-all os)
+kinds_all [] = omega arith
+kinds_all (pass n ∷ os) = omega (arith, kinds_all os)
+kinds_all (hold n ∷ os) = omega (arith, kinds_all os)
+kinds_all (bad ∷ os) = omega (arith, kinds_all os)
 
-pub totals-all : (lim : Limits) (rs : List Rule) (input : List ℕ)
-    → count isPass (map (outcome lim rs) (lineTexts [] input)) + count isHold (map (outcome lim rs) (lineTexts [] input))
-    + count isBad (map (outcome lim rs) (lineTexts [] input))
-    ≡ length (lineTexts [] input)
-totals-all lim rs input =
-    let ls = lineTexts [] input in
-    kinds-all (map (outcome lim rs) ls) ∙ length-map ls (outcome lim rs)
+pub totals_all : (lim : Limits) (rs : List Rule) (input : List ℕ)
+    → count is_pass (map (outcome lim rs) (line_texts [] input)) + count is_hold (map (outcome lim rs) (line_texts [] input))
+    + count is_bad (map (outcome lim rs) (line_texts [] input))
+    ≡ length (line_texts [] input)
+totals_all lim rs input =
+    let ls = line_texts [] input in
+    kinds_all (map (outcome lim rs) ls) ∙ length-map ls (outcome lim rs)

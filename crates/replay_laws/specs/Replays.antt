@@ -10,10 +10,10 @@ use Rattle.definitions.specs.declared.books.Decision.TheVariants as decision
 use Rattle.definitions.specs.Limits.{Limits}
 use Rattle.definitions.specs.Lists.{count}
 use Rattle.definitions.specs.Canonical.{decimal}
-use Rattle.definitions.specs.Lines.{refusedLine, lineTexts, outputOver}
-use Rattle.definitions.specs.Books.{Rule, rulesOf, judge}
+use Rattle.definitions.specs.Lines.{refused_line, line_texts, output_over}
+use Rattle.definitions.specs.Books.{Rule, rules_of, judge}
 use Rattle.definitions.specs.Decisions.{decided}
-use Rattle.replay_laws.specs.Traces.{isTraceLine, traceRecord}
+use Rattle.replay_laws.specs.Traces.{is_trace_line, trace_record}
 
 -- ---- what is said of a line
 
@@ -24,69 +24,69 @@ pub data Outcome : Type 0 where
   bad : Outcome
 
 -- by what the rules decide, which is never a refusal: the book was judged before
-abbrev pub outcomeBy : Decision → Outcome
-outcomeBy (decision.Decided action.Pass n) = pass n
-outcomeBy (decision.Decided action.Hold n) = hold n
-outcomeBy (decision.Refused r line) = bad
+abbrev pub outcome_by : Decision → Outcome
+outcome_by (decision.Decided action.Pass n) = pass n
+outcome_by (decision.Decided action.Hold n) = hold n
+outcome_by (decision.Refused r line) = bad
 
 -- word, tab, deciding rule
-abbrev pub outcomeText : Outcome → List ℕ
-outcomeText (pass n) = text "pass\t" ++ decimal n
-outcomeText (hold n) = text "hold\t" ++ decimal n
-outcomeText bad = text "bad\t0"
+abbrev pub outcome_text : Outcome → List ℕ
+outcome_text (pass n) = text "pass\t" ++ decimal n
+outcome_text (hold n) = text "hold\t" ++ decimal n
+outcome_text bad = text "bad\t0"
 
-abbrev pub isPass : Outcome → Bool
-isPass (pass n) = true
-isPass (hold n) = false
-isPass bad = false
+abbrev pub is_pass : Outcome → Bool
+is_pass (pass n) = true
+is_pass (hold n) = false
+is_pass bad = false
 
-abbrev pub isHold : Outcome → Bool
-isHold (pass n) = false
-isHold (hold n) = true
-isHold bad = false
+abbrev pub is_hold : Outcome → Bool
+is_hold (pass n) = false
+is_hold (hold n) = true
+is_hold bad = false
 
-abbrev pub isBad : Outcome → Bool
-isBad (pass n) = false
-isBad (hold n) = false
-isBad bad = true
+abbrev pub is_bad : Outcome → Bool
+is_bad (pass n) = false
+is_bad (hold n) = false
+is_bad bad = true
 
 -- ---- the end: `total`, tab, passes, tab, holds, tab, bad
 
-abbrev pub totalLine : ℕ → ℕ → ℕ → List ℕ
-totalLine passes holds bads =
+abbrev pub total_line : ℕ → ℕ → ℕ → List ℕ
+total_line passes holds bads =
     text "total\t" ++ (decimal passes ++ (text "\t" ++ (decimal holds ++ (text "\t" ++ (decimal bads ++ text "\n")))))
 
 -- the counts among some outcomes
 unfoldable pub total_of : List Outcome → List ℕ
-total_of os = totalLine (count isPass os) (count isHold os) (count isBad os)
+total_of os = total_line (count is_pass os) (count is_hold os) (count is_bad os)
 
 -- ---- the trace, by some rules
 
 module _ (lim : Limits) (rs : List Rule) where
   unfoldable pub outcome : List ℕ → Outcome
   outcome l =
-      if isTraceLine l
-      then outcomeBy (decided lim (traceRecord l).packet (traceRecord l).decoded (traceRecord l).direction (traceRecord l).fields rs)
+      if is_trace_line l
+      then outcome_by (decided lim (trace_record l).packet (trace_record l).decoded (trace_record l).direction (trace_record l).fields rs)
       else bad
 
   -- what is written for a line, without its number and the LF
-  unfoldable pub replayAnswer : List ℕ → List ℕ
-  replayAnswer l = outcomeText (outcome l)
+  unfoldable pub replay_answer : List ℕ → List ℕ
+  replay_answer l = outcome_text (outcome l)
 
   -- line number, tab, answer, LF for each line, then the total
-  unfoldable pub traceOutput : List ℕ → List ℕ
-  traceOutput input = outputOver replayAnswer input ++ total_of (map outcome (lineTexts [] input))
+  unfoldable pub trace_output : List ℕ → List ℕ
+  trace_output input = output_over replay_answer input ++ total_of (map outcome (line_texts [] input))
 
 -- ---- the whole
 
 -- `book`, tab, refusal, tab, line
-unfoldable pub refusedOutput : Refusal → ℕ → List ℕ
-refusedOutput r line = text "book\t" ++ (refusedLine r line ++ text "\n")
+unfoldable pub refused_output : Refusal → ℕ → List ℕ
+refused_output r line = text "book\t" ++ (refused_line r line ++ text "\n")
 
-abbrev pub outputIf : Judgement → Limits → List Rule → List ℕ → List ℕ
-outputIf (judgement.Accepted n) lim rs input = traceOutput lim rs input
-outputIf (judgement.Refused r line) lim rs input = refusedOutput r line
+abbrev pub output_if : Judgement → Limits → List Rule → List ℕ → List ℕ
+output_if (judgement.Accepted n) lim rs input = trace_output lim rs input
+output_if (judgement.Refused r line) lim rs input = refused_output r line
 
 -- ALL THAT IS WRITTEN: the book is judged before the trace is looked at
-unfoldable pub replayOutput : Limits → List ℕ → List ℕ → List ℕ
-replayOutput lim book input = outputIf (judge lim book) lim (rulesOf book) input
+unfoldable pub replay_output : Limits → List ℕ → List ℕ → List ℕ
+replay_output lim book input = output_if (judge lim book) lim (rules_of book) input

@@ -5,19 +5,19 @@ use Prim.Native.Nat.{ℕ, ◌<◌}
 use lib.ListN.{length, take}
 use Rattle.definitions.specs.Limits.{Limits}
 use Rattle.definitions.specs.Books.{Rule}
-use Rattle.line_stream.proofs.Keeping.{kept-beyond}
-use Rattle.replay_laws.specs.Traces.{maxTraceLine}
-use Rattle.replay_laws.specs.Replays.{bad, outcomeText, outcome, replayAnswer}
-use Rattle.replay_records.proofs.Lines.{long-line}
+use Rattle.line_stream.proofs.Keeping.{kept_beyond}
+use Rattle.replay_laws.specs.Traces.{max_trace_line}
+use Rattle.replay_laws.specs.Replays.{bad, outcome_text, outcome, replay_answer}
+use Rattle.replay_records.proofs.Lines.{long_line}
 
 module _ (lim : Limits) (rs : List Rule) where
-  long-bad : (s : List ℕ) → maxTraceLine < length s → outcome lim rs s ≡ bad
+  long_bad : (s : List ℕ) → max_trace_line < length s → outcome lim rs s ≡ bad
   unfolding outcome
-  long-bad s h = rw (long-line s h)
+  long_bad s h = rw (long_line s h)
 
-  pub kept-outcome : (m : ℕ) (s : List ℕ) → maxTraceLine < m → outcome lim rs (take m s) ≡ outcome lim rs s
-  kept-outcome = kept-beyond (outcome lim rs) maxTraceLine bad long-bad
+  pub kept_outcome : (m : ℕ) (s : List ℕ) → max_trace_line < m → outcome lim rs (take m s) ≡ outcome lim rs s
+  kept_outcome = kept_beyond (outcome lim rs) max_trace_line bad long_bad
 
-  pub kept-answer : (m : ℕ) (s : List ℕ) → maxTraceLine < m → replayAnswer lim rs (take m s) ≡ replayAnswer lim rs s
-  unfolding replayAnswer
-  kept-answer m s h = ap outcomeText (kept-outcome m s h)
+  pub kept_answer : (m : ℕ) (s : List ℕ) → max_trace_line < m → replay_answer lim rs (take m s) ≡ replay_answer lim rs s
+  unfolding replay_answer
+  kept_answer m s h = ap outcome_text (kept_outcome m s h)

@@ -6,41 +6,41 @@ use Rattle.definitions.specs.Limits.{Limits}
 use Rattle.definitions.specs.Books.{Rule}
 use Rattle.write_bytes.specs.Puts.{Puts}
 use Rattle.line_stream.specs.declared.Begun.{Begun}
-use Rattle.line_stream.specs.Stream.{lastLine}
+use Rattle.line_stream.specs.Stream.{last_line}
 use Rattle.line_stream.specs.Whole.{StandsFor}
-use Rattle.line_stream.specs.Ended.{endedLines, lastLines}
-use Rattle.replay_laws.specs.Replays.{outcome, replayAnswer, refusedOutput}
-use Rattle.replay_totals.specs.OutcomeNumbers.{lineNumber}
+use Rattle.line_stream.specs.Ended.{ended_lines, last_lines}
+use Rattle.replay_laws.specs.Replays.{outcome, replay_answer, refused_output}
+use Rattle.replay_totals.specs.OutcomeNumbers.{line_number}
 use Rattle.replay_lines.specs.declared.Ahead.{Ahead}
 use Rattle.replay_totals.specs.declared.Totals.{Totals}
-use Rattle.replay_totals.specs.Totals.{countedAll, totalText}
+use Rattle.replay_totals.specs.Totals.{counted_all, total_text}
 
 -- ---- a book is opened
 
-abbrev pub isAccepted : Judgement → Bool
-isAccepted (Accepted n) = true
-isAccepted (Refused r line) = false
+abbrev pub is_accepted : Judgement → Bool
+is_accepted (Accepted n) = true
+is_accepted (Refused r line) = false
 
 -- what is put then
-abbrev pub openedText : Judgement → List ℕ
-openedText (Accepted n) = []
-openedText (Refused r line) = refusedOutput r line
+abbrev pub opened_text : Judgement → List ℕ
+opened_text (Accepted n) = []
+opened_text (Refused r line) = refused_output r line
 
 module _ (lim : Limits) (rs : List Rule) where
   -- the numbers from one place to another are those of the next lines
   pub record Ready (ls : List (List ℕ)) (answers : List ℕ) (a : Ahead) : Type 0 where
     pub order : a.next ≤ a.count
     pub room : a.count ≤ length answers
-    pub numbers : take (a.count - a.next) (drop a.next answers) ≡ map (lineNumber lim rs) (take (a.count - a.next) ls)
+    pub numbers : take (a.count - a.next) (drop a.next answers) ≡ map (line_number lim rs) (take (a.count - a.next) ls)
 
   -- FEEDING: whatever line the buffer stands for, the totals have counted the whole lines of it and of what was taken
   pub record Counts (input line : List ℕ) (b : Begun) (t : Totals) (taken : ℕ) (r : Totals) : Type 0 where
-    pub whole : (s : List ℕ) → StandsFor line b.len s → r ≡ countedAll t (map (outcome lim rs) (endedLines s (take taken input)))
+    pub whole : (s : List ℕ) → StandsFor line b.len s → r ≡ counted_all t (map (outcome lim rs) (ended_lines s (take taken input)))
 
   -- after the last byte: the answer to a line s that lacks its LF, if it has a byte, and the totals with it
-  unfoldable pub lastOutput : ℕ → List ℕ → Totals → List ℕ
-  lastOutput n s t = lastLine (replayAnswer lim rs) n s ++ totalText (countedAll t (map (outcome lim rs) (lastLines s)))
+  unfoldable pub last_output : ℕ → List ℕ → Totals → List ℕ
+  last_output n s t = last_line (replay_answer lim rs) n s ++ total_text (counted_all t (map (outcome lim rs) (last_lines s)))
 
   -- THE LAST LINE: whatever line the buffer stands for, what is put is the answer to all of it, and the totals
   pub record LastWhole (line out : List ℕ) (b : Begun) (t : Totals) (out' : List ℕ) (r : ℕ) : Type 0 where
-    pub whole : (s : List ℕ) → StandsFor line b.len s → Puts out 0 (lastOutput b.number s t) out' r
+    pub whole : (s : List ℕ) → StandsFor line b.len s → Puts out 0 (last_output b.number s t) out' r

@@ -1,17 +1,17 @@
 // The replay's work on slices: a book is opened, a trace comes in parts of any length, answers go out, and the totals after the last line.
 ghost use Rattle.std.specs.Prelude.{◌≡◌, [], ◌∷◌, ◌<◌, length, get_or, take};
 ghost use Rattle.forms.specs.Bytes.{if◌then◌else◌};
-ghost use Rattle.definitions.specs.Limits.{documentLimits};
+ghost use Rattle.definitions.specs.Limits.{document_limits};
 ghost use Rattle.definitions.specs.Books.{judge};
-ghost use Rattle.definitions.specs.LoadedBooks.{rulesIn, loaded};
+ghost use Rattle.definitions.specs.LoadedBooks.{rules_in, loaded};
 ghost use Rattle.write_bytes.specs.Puts.{Puts};
 ghost use Rattle.line_stream.specs.Stream.{Feeds};
 ghost use Rattle.line_stream.specs.Whole.{WholeLines};
-ghost use Rattle.line_stream.specs.Ended.{endedLines};
-ghost use Rattle.replay_laws.specs.Replays.{replayAnswer};
-ghost use Rattle.replay_totals.specs.OutcomeNumbers.{outcomeOf};
+ghost use Rattle.line_stream.specs.Ended.{ended_lines};
+ghost use Rattle.replay_laws.specs.Replays.{replay_answer};
+ghost use Rattle.replay_totals.specs.OutcomeNumbers.{outcome_of};
 ghost use Rattle.replay_totals.specs.Totals.{counted};
-ghost use Rattle.replay_lines.specs.Feeding.{isAccepted, openedText, Ready, Counts, lastOutput, LastWhole};
+ghost use Rattle.replay_lines.specs.Feeding.{is_accepted, opened_text, Ready, Counts, last_output, LastWhole};
 
 use definitions::answers::Refusal;
 use definitions::books::{Judgement, Rules};
@@ -49,9 +49,9 @@ pub struct Ahead {
 
 // OPENING A BOOK: it is judged and loaded; if it is refused, all that a replay writes is put.
 pub fn open(book: &[u8], out: &mut [u8]) -> Opened
-    ensures rules { result.rules ≡ (loaded documentLimits book.now).rules }
-    ensures accepted { result.accepted ≡ isAccepted (judge documentLimits book.now) }
-    ensures put { Puts out.old 0 (openedText (judge documentLimits book.now)) out.new result.put }
+    ensures rules { result.rules ≡ (loaded document_limits book.now).rules }
+    ensures accepted { result.accepted ≡ is_accepted (judge document_limits book.now) }
+    ensures put { Puts out.old 0 (opened_text (judge document_limits book.now)) out.new result.put }
 {
     let b = load(book);
     let judgement = b.judgement;
@@ -84,8 +84,8 @@ fn look_ahead(
     answers: &mut [u32; LINES],
     ahead: Ahead,
 ) -> Ahead
-    requires { Ready documentLimits (rulesIn book.now rules) (first.now ∷ endedLines [] rest.now) answers.old ahead }
-    ensures ready { Ready documentLimits (rulesIn book.now rules) (first.now ∷ endedLines [] rest.now) answers.new result }
+    requires { Ready document_limits (rules_in book.now rules) (first.now ∷ ended_lines [] rest.now) answers.old ahead }
+    ensures ready { Ready document_limits (rules_in book.now rules) (first.now ∷ ended_lines [] rest.now) answers.new result }
     ensures some { result.next < result.count }
 {
     if ahead.next < ahead.count {
@@ -114,7 +114,7 @@ fn number_at(numbers: &[u32; LINES], i: usize) -> u32
 
 // The totals with a line of this number, if it was answered.
 fn count_if(answered: bool, t: Totals, n: u32) -> Totals
-    ensures { result ≡ (if answered then counted t (outcomeOf n) else t) }
+    ensures { result ≡ (if answered then counted t (outcome_of n) else t) }
 {
     if answered {
         return count(t, n);
@@ -132,9 +132,9 @@ pub fn feed(
     begun: Begun,
     totals: Totals,
 ) -> Replayed
-    ensures fed { Feeds (replayAnswer documentLimits (rulesIn book.now rules)) input.now line.old out.old begun line.new out.new result.fed }
-    ensures whole { WholeLines (replayAnswer documentLimits (rulesIn book.now rules)) input.now line.old begun line.new out.new result.fed }
-    ensures totals { Counts documentLimits (rulesIn book.now rules) input.now line.old begun totals result.fed.taken result.totals }
+    ensures fed { Feeds (replay_answer document_limits (rules_in book.now rules)) input.now line.old out.old begun line.new out.new result.fed }
+    ensures whole { WholeLines (replay_answer document_limits (rules_in book.now rules)) input.now line.old begun line.new out.new result.fed }
+    ensures totals { Counts document_limits (rules_in book.now rules) input.now line.old begun totals result.fed.taken result.totals }
 {
     // For the records of lines and their numbers: cleared once a feed, not once a line.
     let mut block = [0u8; RECORDS];
@@ -179,8 +179,8 @@ pub fn finish(
     begun: Begun,
     totals: Totals,
 ) -> usize
-    ensures puts { Puts out.old 0 (lastOutput documentLimits (rulesIn book.now rules) begun.number (take begun.len line.now) totals) out.new result }
-    ensures whole { LastWhole documentLimits (rulesIn book.now rules) line.now out.old begun totals out.new result }
+    ensures puts { Puts out.old 0 (last_output document_limits (rules_in book.now rules) begun.number (take begun.len line.now) totals) out.new result }
+    ensures whole { LastWhole document_limits (rules_in book.now rules) line.now out.old begun totals out.new result }
 {
     let t = last_line(line, out, begun);
     if t.waits {

@@ -5,26 +5,26 @@ use Prim.Native.Nat.{ℕ, suc, ◌+◌, ◌*◌, ◌/◌, ◌≤◌}
 use native.Mathlib.Omega.{arith}
 use lib.ListN.{length, length-drop}
 use Rattle.definitions.specs.Cases.{pairs}
-use Rattle.definitions.specs.Parts.{find, partBefore, partAfter, afterParts, part}
-use Rattle.line_parts.proofs.Delimiters.{find-le, before-length, after-le}
+use Rattle.definitions.specs.Parts.{find, part_before, part_after, after_parts, part}
+use Rattle.line_parts.proofs.Delimiters.{find_le, before_length, after_le}
 
-pub pairs-half : (l : List ℕ) → length (pairs l) ≡ length l / 2
+pub pairs_half : (l : List ℕ) → length (pairs l) ≡ length l / 2
 unfolding pairs
-pairs-half [] = refl
-pairs-half (a ∷ []) = refl
-pairs-half (a ∷ (b ∷ l)) = omega (arith, pairs-half l)
+pairs_half [] = refl
+pairs_half (a ∷ []) = refl
+pairs_half (a ∷ (b ∷ l)) = omega (arith, pairs_half l)
 
 -- what stands before a delimiter and what stands after it
-parted-le : (d : ℕ) (l : List ℕ) → length (partBefore d l) + length (partAfter d l) ≤ length l
-unfolding partAfter
-parted-le d l = omega (arith, find-le d l, before-length d l, length-drop (suc (find d l)) l)
+parted_le : (d : ℕ) (l : List ℕ) → length (part_before d l) + length (part_after d l) ≤ length l
+unfolding part_after
+parted_le d l = omega (arith, find_le d l, before_length d l, length-drop (suc (find d l)) l)
 
 -- the second column and all after the third tab
-columns-le : (l : List ℕ) → length (part 9 1 l) + length (afterParts 9 3 l) ≤ length l
-unfolding afterParts
-columns-le l =
-    let rest = partAfter 9 l in
-    omega (arith, after-le 9 l, parted-le 9 rest, after-le 9 (partAfter 9 rest))
+columns_le : (l : List ℕ) → length (part 9 1 l) + length (after_parts 9 3 l) ≤ length l
+unfolding after_parts
+columns_le l =
+    let rest = part_after 9 l in
+    omega (arith, after_le 9 l, parted_le 9 rest, after_le 9 (part_after 9 rest))
 
-pub columns-pairs : (l : List ℕ) → (length (pairs (part 9 1 l)) + length (pairs (afterParts 9 3 l))) * 2 ≤ length l
-columns-pairs l = omega (arith, columns-le l, pairs-half (part 9 1 l), pairs-half (afterParts 9 3 l))
+pub columns_pairs : (l : List ℕ) → (length (pairs (part 9 1 l)) + length (pairs (after_parts 9 3 l))) * 2 ≤ length l
+columns_pairs l = omega (arith, columns_le l, pairs_half (part 9 1 l), pairs_half (after_parts 9 3 l))

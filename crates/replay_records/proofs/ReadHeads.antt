@@ -9,11 +9,11 @@ use Rattle.definitions.specs.declared.packets.Direction.TheVariants.{Client, Ser
 use Rattle.definitions.specs.declared.packets.FieldSpan.{FieldSpan}
 use Rattle.definitions.specs.declared.packets.FieldSpan.TheVariants.{Absent, At}
 use Rattle.definitions.specs.declared.packets.FieldMap.{FieldMap}
-use Rattle.definitions.specs.Packet.{bigEndian}
-use Rattle.definitions.specs.Blocks.{recordDirection, recordField, recordFields, packetLength, decodedLength}
+use Rattle.definitions.specs.Packet.{big_endian}
+use Rattle.definitions.specs.Blocks.{record_direction, record_field, record_fields, packet_length, decoded_length}
 use Rattle.guard_packets.proofs.Pairs.{pair_is}
-use Rattle.line_fields.specs.FieldMaps.{maxSpan}
-use Rattle.replay_records.specs.RecordBytes.{directionByte, fieldBit, fieldBits, spanBytes, fieldsBytes, headBytes}
+use Rattle.line_fields.specs.FieldMaps.{max_span}
+use Rattle.replay_records.specs.RecordBytes.{direction_byte, field_bit, field_bits, span_bytes, fields_bytes, head_bytes}
 use Rattle.replay_records.proofs.MapNumbers.{start_of, length_of, SpanSmall, MapSmall}
 
 -- ---- the bits
@@ -23,7 +23,7 @@ bit Absent = 0
 bit (At s) = 1
 
 pub record OneBit (f : FieldSpan) (weight : ℕ) : Type 0 where
-  pub weighs : fieldBit f weight ≡ weight * bit f
+  pub weighs : field_bit f weight ≡ weight * bit f
   pub small : bit f ≤ 1
 
 one_bit : (f : FieldSpan) (weight : ℕ) → OneBit f weight
@@ -38,8 +38,8 @@ pub record SixBits (m : FieldMap) : Type 0 where
   pub header : OneBit m.header 16
   pub host : OneBit m.host 32
 
-pub six-bits : (m : FieldMap) → SixBits m
-six-bits m =
+pub six_bits : (m : FieldMap) → SixBits m
+six_bits m =
     record {
       body = one_bit m.body 1;
       banner = one_bit m.banner 2;
@@ -51,89 +51,89 @@ six-bits m =
 
 -- each is read back by its weight
 record BitsBack (m : FieldMap) : Type 0 where
-  body : fieldBits m / 1 % 2 ≡ bit m.body
-  banner : fieldBits m / 2 % 2 ≡ bit m.banner
-  file : fieldBits m / 4 % 2 ≡ bit m.file
-  uri : fieldBits m / 8 % 2 ≡ bit m.uri
-  header : fieldBits m / 16 % 2 ≡ bit m.header
-  host : fieldBits m / 32 % 2 ≡ bit m.host
+  body : field_bits m / 1 % 2 ≡ bit m.body
+  banner : field_bits m / 2 % 2 ≡ bit m.banner
+  file : field_bits m / 4 % 2 ≡ bit m.file
+  uri : field_bits m / 8 % 2 ≡ bit m.uri
+  header : field_bits m / 16 % 2 ≡ bit m.header
+  host : field_bits m / 32 % 2 ≡ bit m.host
 
-last_bit : (m : FieldMap) → fieldBits m / 32 ≡ bit m.host
-unfolding fieldBits
-last_bit m = omega (arith, six-bits m)
+last_bit : (m : FieldMap) → field_bits m / 32 ≡ bit m.host
+unfolding field_bits
+last_bit m = omega (arith, six_bits m)
 
-last-bits : (m : FieldMap) → fieldBits m / 16 ≡ bit m.header + 2 * bit m.host
-unfolding fieldBits
-last-bits m = omega (arith, six-bits m)
+last_bits : (m : FieldMap) → field_bits m / 16 ≡ bit m.header + 2 * bit m.host
+unfolding field_bits
+last_bits m = omega (arith, six_bits m)
 
 bits_back : (m : FieldMap) → BitsBack m
-unfolding fieldBits
+unfolding field_bits
 bits_back m =
     record {
-      body = omega (arith, six-bits m);
-      banner = omega (arith, six-bits m);
-      file = omega (arith, six-bits m);
-      uri = omega (arith, six-bits m);
-      header = omega (arith, last-bits m, one_bit m.header 16);
+      body = omega (arith, six_bits m);
+      banner = omega (arith, six_bits m);
+      file = omega (arith, six_bits m);
+      uri = omega (arith, six_bits m);
+      header = omega (arith, last_bits m, one_bit m.header 16);
       host = omega (arith, last_bit m, one_bit m.host 32);
     }
 
 -- ---- two bytes
 
-number-back : (l : List ℕ) (at n : ℕ) → n ≤ maxSpan → get_or l at 0 ≡ n / 256 % 256 → get_or l (at + 1) 0 ≡ n % 256 → bigEndian 2 l at ≡ n
-number-back l at n h high low = omega (arith, pair_is l at, h, high, low)
+number_back : (l : List ℕ) (at n : ℕ) → n ≤ max_span → get_or l at 0 ≡ n / 256 % 256 → get_or l (at + 1) 0 ≡ n % 256 → big_endian 2 l at ≡ n
+number_back l at n h high low = omega (arith, pair_is l at, h, high, low)
 
 -- ---- a field
 
 module _ (l : List ℕ) (weight at : ℕ) where
   field_back : (f : FieldSpan) → SpanSmall f → get_or l 1 0 / weight % 2 ≡ bit f
       → get_or l at 0 ≡ start_of f / 256 % 256 → get_or l (at + 1) 0 ≡ start_of f % 256
-      → get_or l (at + 2) 0 ≡ length_of f / 256 % 256 → get_or l (at + 2 + 1) 0 ≡ length_of f % 256 → recordField l weight at ≡ f
-  unfolding recordField
+      → get_or l (at + 2) 0 ≡ length_of f / 256 % 256 → get_or l (at + 2 + 1) 0 ≡ length_of f % 256 → record_field l weight at ≡ f
+  unfolding record_field
   field_back Absent s b p q u v = rw b
-  field_back (At x) s b p q u v = rw (b, number-back l at x.start s.start p q, number-back l (at + 2) x.len s.len u v)
+  field_back (At x) s b p q u v = rw (b, number_back l at x.start s.start p q, number_back l (at + 2) x.len s.len u v)
 
 -- ---- the whole head, byte by byte
 
-abbrev pub spanOnto : FieldSpan → List ℕ → List ℕ
-spanOnto f l = start_of f / 256 % 256 ∷ start_of f % 256 ∷ length_of f / 256 % 256 ∷ length_of f % 256 ∷ l
+abbrev pub span_onto : FieldSpan → List ℕ → List ℕ
+span_onto f l = start_of f / 256 % 256 ∷ start_of f % 256 ∷ length_of f / 256 % 256 ∷ length_of f % 256 ∷ l
 
-abbrev pub fieldsOnto : FieldMap → List ℕ → List ℕ
-fieldsOnto m l =
-    spanOnto m.body (spanOnto m.banner (spanOnto m.file (spanOnto m.uri (spanOnto m.header (spanOnto m.host l)))))
+abbrev pub fields_onto : FieldMap → List ℕ → List ℕ
+fields_onto m l =
+    span_onto m.body (span_onto m.banner (span_onto m.file (span_onto m.uri (span_onto m.header (span_onto m.host l)))))
 
-abbrev pub headOnto : Direction → FieldMap → ℕ → ℕ → List ℕ → List ℕ
-headOnto dir m packet decoded l =
-    directionByte dir ∷ fieldBits m ∷ packet / 256 % 256 ∷ packet % 256 ∷ decoded / 256 % 256 ∷ decoded % 256 ∷ fieldsOnto m l
+abbrev pub head_onto : Direction → FieldMap → ℕ → ℕ → List ℕ → List ℕ
+head_onto dir m packet decoded l =
+    direction_byte dir ∷ field_bits m ∷ packet / 256 % 256 ∷ packet % 256 ∷ decoded / 256 % 256 ∷ decoded % 256 ∷ fields_onto m l
 
-span-onto : (f : FieldSpan) (l : List ℕ) → spanBytes f ++ l ≡ spanOnto f l
-span-onto Absent l = refl
-span-onto (At s) l = refl
+span_onto_lem : (f : FieldSpan) (l : List ℕ) → span_bytes f ++ l ≡ span_onto f l
+span_onto_lem Absent l = refl
+span_onto_lem (At s) l = refl
 
-pub head-onto : (dir : Direction) (m : FieldMap) (packet decoded : ℕ) (l : List ℕ) → headBytes dir m packet decoded ++ l ≡ headOnto dir m packet decoded l
-unfolding headBytes fieldsBytes
-head-onto dir m packet decoded l = simp span-onto
+pub head_onto_lem : (dir : Direction) (m : FieldMap) (packet decoded : ℕ) (l : List ℕ) → head_bytes dir m packet decoded ++ l ≡ head_onto dir m packet decoded l
+unfolding head_bytes fields_bytes
+head_onto_lem dir m packet decoded l = simp span_onto_lem
 
-direction-back : (dir : Direction) (l : List ℕ) → recordDirection (directionByte dir ∷ l) ≡ dir
-unfolding recordDirection
-direction-back Client l = refl
-direction-back Server l = refl
+direction_back : (dir : Direction) (l : List ℕ) → record_direction (direction_byte dir ∷ l) ≡ dir
+unfolding record_direction
+direction_back Client l = refl
+direction_back Server l = refl
 
 module _ (dir : Direction) (m : FieldMap) (packet decoded : ℕ) (l : List ℕ) where
   abbrev whole : List ℕ
-  whole = headOnto dir m packet decoded l
+  whole = head_onto dir m packet decoded l
 
-  pub from_back : recordDirection whole ≡ dir
-  from_back = direction-back dir _
+  pub from_back : record_direction whole ≡ dir
+  from_back = direction_back dir _
 
-  pub packet-back : packet ≤ maxSpan → packetLength whole ≡ packet
-  packet-back h = number-back whole 2 packet h refl refl
+  pub packet_back : packet ≤ max_span → packet_length whole ≡ packet
+  packet_back h = number_back whole 2 packet h refl refl
 
-  pub decoded-back : decoded ≤ maxSpan → decodedLength whole ≡ decoded
-  decoded-back h = number-back whole 4 decoded h refl refl
+  pub decoded_back : decoded ≤ max_span → decoded_length whole ≡ decoded
+  decoded_back h = number_back whole 4 decoded h refl refl
 
-  pub fields_back : MapSmall m → recordFields whole ≡ m
-  unfolding recordFields
+  pub fields_back : MapSmall m → record_fields whole ≡ m
+  unfolding record_fields
   fields_back s =
       let bits = bits_back m in
       rw (

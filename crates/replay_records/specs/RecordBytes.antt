@@ -7,51 +7,51 @@ use Rattle.definitions.specs.declared.packets.FieldSpan.{FieldSpan}
 use Rattle.definitions.specs.declared.packets.FieldSpan.TheVariants.{Absent, At}
 use Rattle.definitions.specs.declared.packets.FieldMap.{FieldMap}
 use Rattle.definitions.specs.Blocks.{PacketRecord}
-use Rattle.replay_laws.specs.Traces.{isTraceLine, traceRecord}
+use Rattle.replay_laws.specs.Traces.{is_trace_line, trace_record}
 
 -- a number below 65536 as two bytes, big end first
-abbrev pub numberBytes : ℕ → List ℕ
-numberBytes n = n / 256 % 256 ∷ n % 256 ∷ []
+abbrev pub number_bytes : ℕ → List ℕ
+number_bytes n = n / 256 % 256 ∷ n % 256 ∷ []
 
-abbrev pub directionByte : Direction → ℕ
-directionByte Client = 0
-directionByte Server = 1
+abbrev pub direction_byte : Direction → ℕ
+direction_byte Client = 0
+direction_byte Server = 1
 
 -- the weight of a field's bit, if it is present
-abbrev pub fieldBit : FieldSpan → ℕ → ℕ
-fieldBit Absent weight = 0
-fieldBit (At s) weight = weight
+abbrev pub field_bit : FieldSpan → ℕ → ℕ
+field_bit Absent weight = 0
+field_bit (At s) weight = weight
 
-unfoldable pub fieldBits : FieldMap → ℕ
-fieldBits m =
-    fieldBit m.body 1 + fieldBit m.banner 2 + fieldBit m.file 4 + fieldBit m.uri 8 + fieldBit m.header 16 + fieldBit m.host 32
+unfoldable pub field_bits : FieldMap → ℕ
+field_bits m =
+    field_bit m.body 1 + field_bit m.banner 2 + field_bit m.file 4 + field_bit m.uri 8 + field_bit m.header 16 + field_bit m.host 32
 
 -- start and length; zeros where it is absent
-abbrev pub spanBytes : FieldSpan → List ℕ
-spanBytes Absent = 0 ∷ 0 ∷ 0 ∷ 0 ∷ []
-spanBytes (At s) = numberBytes s.start ++ numberBytes s.len
+abbrev pub span_bytes : FieldSpan → List ℕ
+span_bytes Absent = 0 ∷ 0 ∷ 0 ∷ 0 ∷ []
+span_bytes (At s) = number_bytes s.start ++ number_bytes s.len
 
-unfoldable pub fieldsBytes : FieldMap → List ℕ
-fieldsBytes m =
-    spanBytes m.body ++ (spanBytes m.banner ++ (spanBytes m.file ++ (spanBytes m.uri ++ (spanBytes m.header ++ spanBytes m.host))))
+unfoldable pub fields_bytes : FieldMap → List ℕ
+fields_bytes m =
+    span_bytes m.body ++ (span_bytes m.banner ++ (span_bytes m.file ++ (span_bytes m.uri ++ (span_bytes m.header ++ span_bytes m.host))))
 
 -- the 30 bytes, by the lengths of packet and decoded buffer
-unfoldable pub headBytes : Direction → FieldMap → ℕ → ℕ → List ℕ
-headBytes dir m packet decoded =
-    directionByte dir ∷ fieldBits m ∷ (numberBytes packet ++ (numberBytes decoded ++ fieldsBytes m))
+unfoldable pub head_bytes : Direction → FieldMap → ℕ → ℕ → List ℕ
+head_bytes dir m packet decoded =
+    direction_byte dir ∷ field_bits m ∷ (number_bytes packet ++ (number_bytes decoded ++ fields_bytes m))
 
-unfoldable pub recordBytes : PacketRecord → List ℕ
-recordBytes k = headBytes k.direction k.fields (length k.packet) (length k.decoded) ++ (k.packet ++ k.decoded)
+unfoldable pub record_bytes : PacketRecord → List ℕ
+record_bytes k = head_bytes k.direction k.fields (length k.packet) (length k.decoded) ++ (k.packet ++ k.decoded)
 
 -- what a line of a trace adds to a block: its record, or nothing if it is bad
-unfoldable pub lineBytes : List ℕ → List ℕ
-lineBytes l = if isTraceLine l then recordBytes (traceRecord l) else []
+unfoldable pub line_bytes : List ℕ → List ℕ
+line_bytes l = if is_trace_line l then record_bytes (trace_record l) else []
 
 -- and what some lines add
-unfoldable pub linesBytes : List (List ℕ) → List ℕ
-linesBytes [] = []
-linesBytes (l ∷ ls) = lineBytes l ++ linesBytes ls
+unfoldable pub lines_bytes : List (List ℕ) → List ℕ
+lines_bytes [] = []
+lines_bytes (l ∷ ls) = line_bytes l ++ lines_bytes ls
 
 -- bytes that a line adds at most: 30, and those that its hex digits write
-abbrev pub maxRecord : ℕ
-maxRecord = 8222
+abbrev pub max_record : ℕ
+max_record = 8222

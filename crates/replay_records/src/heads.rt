@@ -1,21 +1,21 @@
 // The 30 bytes of a record before its packet: where that comes from, which fields are present, the lengths, and each field's span.
 ghost use Rattle.std.specs.Prelude.{◌≡◌};
 ghost use Rattle.write_bytes.specs.Puts.{Puts};
-ghost use Rattle.replay_records.specs.RecordBytes.{numberBytes, directionByte, fieldBit, fieldBits, spanBytes, fieldsBytes, headBytes};
+ghost use Rattle.replay_records.specs.RecordBytes.{number_bytes, direction_byte, field_bit, field_bits, span_bytes, fields_bytes, head_bytes};
 
 use definitions::packets::{Direction, FieldMap, FieldSpan};
 use write_bytes::{put, put_word};
 
 // Two bytes, big end first.
 fn put_number(out: &mut [u8], at: usize, n: usize) -> usize
-    ensures { Puts out.old at (numberBytes n) out.new result }
+    ensures { Puts out.old at (number_bytes n) out.new result }
 {
     let next = put(out, at, (n / 256 % 256) as u8);
     put(out, next, (n % 256) as u8)
 }
 
 fn direction_byte(d: Direction) -> u8
-    ensures { result ≡ directionByte d }
+    ensures { result ≡ direction_byte d }
 {
     match d {
         Direction::Client => 0,
@@ -25,7 +25,7 @@ fn direction_byte(d: Direction) -> u8
 
 // The weight of a field's bit, if it is present.
 fn field_bit(f: FieldSpan, weight: u8) -> u8
-    ensures { result ≡ fieldBit f weight }
+    ensures { result ≡ field_bit f weight }
 {
     match f {
         FieldSpan::Absent => 0,
@@ -34,7 +34,7 @@ fn field_bit(f: FieldSpan, weight: u8) -> u8
 }
 
 fn field_bits(m: FieldMap) -> u8
-    ensures { result ≡ fieldBits m }
+    ensures { result ≡ field_bits m }
 {
     let body = m.body;
     let banner = m.banner;
@@ -52,7 +52,7 @@ fn field_bits(m: FieldMap) -> u8
 
 // Start and length; zeros where the field is absent.
 fn put_span(out: &mut [u8], at: usize, f: FieldSpan) -> usize
-    ensures { Puts out.old at (spanBytes f) out.new result }
+    ensures { Puts out.old at (span_bytes f) out.new result }
 {
     match f {
         FieldSpan::Absent => put_word(out, at, &[0, 0, 0, 0]),
@@ -64,7 +64,7 @@ fn put_span(out: &mut [u8], at: usize, f: FieldSpan) -> usize
 }
 
 fn put_fields(out: &mut [u8], at: usize, m: FieldMap) -> usize
-    ensures { Puts out.old at (fieldsBytes m) out.new result }
+    ensures { Puts out.old at (fields_bytes m) out.new result }
 {
     let body = m.body;
     let banner = m.banner;
@@ -89,7 +89,7 @@ pub fn put_head(
     packet: usize,
     decoded: usize,
 ) -> usize
-    ensures { Puts out.old at (headBytes d m packet decoded) out.new result }
+    ensures { Puts out.old at (head_bytes d m packet decoded) out.new result }
 {
     let a1 = put(out, at, direction_byte(d));
     let a2 = put(out, a1, field_bits(m));

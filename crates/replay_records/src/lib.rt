@@ -4,9 +4,9 @@ pub mod heads;
 ghost use Rattle.std.specs.Prelude.{◌≡◌, true};
 ghost use Rattle.definitions.specs.Cases.{pairs};
 ghost use Rattle.write_bytes.specs.Puts.{Puts};
-ghost use Rattle.line_numbers.specs.HexPairs.{isHex};
-ghost use Rattle.replay_laws.specs.Traces.{isTraceLine};
-ghost use Rattle.replay_records.specs.RecordBytes.{recordBytes, lineBytes};
+ghost use Rattle.line_numbers.specs.HexPairs.{is_hex};
+ghost use Rattle.replay_laws.specs.Traces.{is_trace_line};
+ghost use Rattle.replay_records.specs.RecordBytes.{record_bytes, line_bytes};
 
 use crate::heads::put_head;
 use line_numbers::hex_pairs::put_pairs;
@@ -31,8 +31,8 @@ fn put_record(
     decoded: &[u8],
     located: PacketColumns,
 ) -> usize
-    requires { (isHex packet.now ≡ true) × (isHex decoded.now ≡ true) }
-    ensures { Puts out.old at (recordBytes (record { packet = pairs packet.entry.now; decoded = pairs decoded.now; direction = located.direction; fields = located.fields })) out.new result }
+    requires { (is_hex packet.now ≡ true) × (is_hex decoded.now ≡ true) }
+    ensures { Puts out.old at (record_bytes (record { packet = pairs packet.entry.now; decoded = pairs decoded.now; direction = located.direction; fields = located.fields })) out.new result }
 {
     let direction = located.direction;
     let a1 = put_head(
@@ -49,8 +49,8 @@ fn put_record(
 
 // The record of a line; nothing if the line is bad.
 pub fn put_line(out: &mut [u8], at: usize, line: &[u8]) -> Recorded
-    ensures good { result.good ≡ isTraceLine line.now }
-    ensures put { Puts out.old at (lineBytes line.now) out.new result.next }
+    ensures good { result.good ≡ is_trace_line line.now }
+    ensures put { Puts out.old at (line_bytes line.now) out.new result.next }
 {
     let bad = Recorded {
         good: false,

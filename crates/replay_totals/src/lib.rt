@@ -1,9 +1,9 @@
 // What is said of a line, as a number: its text, and how many lines of each kind there were.
 ghost use Rattle.std.specs.Prelude.{◌≡◌};
 ghost use Rattle.write_bytes.specs.Puts.{Puts};
-ghost use Rattle.replay_laws.specs.Replays.{pass, hold, bad, outcomeText};
-ghost use Rattle.replay_totals.specs.OutcomeNumbers.{outcomeOf};
-ghost use Rattle.replay_totals.specs.Totals.{noTotals, counted, totalText};
+ghost use Rattle.replay_laws.specs.Replays.{pass, hold, bad, outcome_text};
+ghost use Rattle.replay_totals.specs.OutcomeNumbers.{outcome_of};
+ghost use Rattle.replay_totals.specs.Totals.{no_totals, counted, total_text};
 
 use line_stream::next_number;
 use write_bytes::{put, put_decimal, put_word};
@@ -24,7 +24,7 @@ const PASS: u32 = 65536;
 
 // No line yet.
 pub fn no_totals() -> Totals
-    ensures { result ≡ noTotals }
+    ensures { result ≡ no_totals }
 {
     Totals {
         passes: 0,
@@ -70,7 +70,7 @@ fn with_bad(t: Totals) -> Totals
 
 // With a line of this number.
 pub fn count(t: Totals, n: u32) -> Totals
-    ensures { result ≡ counted t (outcomeOf n) }
+    ensures { result ≡ counted t (outcome_of n) }
 {
     if n == BAD {
         return with_bad(t);
@@ -83,7 +83,7 @@ pub fn count(t: Totals, n: u32) -> Totals
 
 // What is said of a line of this number: `pass`, `hold` or `bad`, tab, the deciding rule.
 pub fn put_outcome(out: &mut [u8], at: usize, n: u32) -> usize
-    ensures { Puts out.old at (outcomeText (outcomeOf n)) out.new result }
+    ensures { Puts out.old at (outcome_text (outcome_of n)) out.new result }
 {
     if n == BAD {
         return put_word(out, at, b"bad\t0");
@@ -98,7 +98,7 @@ pub fn put_outcome(out: &mut [u8], at: usize, n: u32) -> usize
 
 // `total`, tab, passes, tab, holds, tab, bad, LF.
 pub fn put_totals(out: &mut [u8], at: usize, t: Totals) -> usize
-    ensures { Puts out.old at (totalText t) out.new result }
+    ensures { Puts out.old at (total_text t) out.new result }
 {
     let a1 = put_word(out, at, b"total\t");
     let a2 = put_decimal(out, a1, t.passes);

@@ -52,9 +52,9 @@ module _ {A : Type 0} (f : A → Bool) where
   all_so g h [] t = refl
   all_so g h (x ∷ xs) t = both (h x (all_head x xs t)) (all_so g h xs (all_tail x xs t))
 
-  pub all-each : {x : A} {xs : List A} → Mem x xs → all? f xs ≡ true → f x ≡ true
-  all-each (first_one {x} {xs} e) t = subst (λ z. f z ≡ true) (sym e) (all_head x xs t)
-  all-each (later-one {x} {xs} m) t = all-each m (all_tail x xs t)
+  pub all_each : {x : A} {xs : List A} → Mem x xs → all? f xs ≡ true → f x ≡ true
+  all_each (first_one {x} {xs} e) t = subst (λ z. f z ≡ true) (sym e) (all_head x xs t)
+  all_each (later-one {x} {xs} m) t = all_each m (all_tail x xs t)
 
   pub all_of : (xs : List A) → ((x : A) → Mem x xs → f x ≡ true) → all? f xs ≡ true
   all_of [] h = all_none
@@ -81,6 +81,6 @@ all_both f g [] t u = refl
 all_both f g (x ∷ xs) t u = both (both (all_head f x xs t) (all_head g x xs u)) (all_both f g xs (all_tail f x xs t) (all_tail g x xs u))
 
 -- bytes of a class
-pub row-bytes : (c : Class) {x vs : List ℕ} → Row (λ y w. Means true (byte c) y w) x vs → all? (has c) vs ≡ true
+pub row_bytes : (c : Class) {x vs : List ℕ} → Row (λ y w. Means true (byte c) y w) x vs → all? (has c) vs ≡ true
 unfolding Means
-row-bytes c r = all_row (has c) (λ y w. Means true (byte c) y w) (λ y w m. m.1) r
+row_bytes c r = all_row (has c) (λ y w. Means true (byte c) y w) (λ y w m. m.1) r

@@ -19,15 +19,15 @@ pub record Inside (low high b : ℕ) : Type 0 where
   pub above : low ≤ b
   pub below : b ≤ high
 
-abbrev pub spansIn : ℕ → ℕ → Class → Bool
-spansIn low high [] = true
-spansIn low high (r ∷ c) = (leb low r.0 && leb r.1 high) && spansIn low high c
+abbrev pub spans_in : ℕ → ℕ → Class → Bool
+spans_in low high [] = true
+spans_in low high (r ∷ c) = (leb low r.0 && leb r.1 high) && spans_in low high c
 
-pub class-inside : (low high : ℕ) (c : Class) → spansIn low high c ≡ true → (b : ℕ) → has c b ≡ true → Inside low high b
+pub class_inside : (low high : ℕ) (c : Class) → spans_in low high c ≡ true → (b : ℕ) → has c b ≡ true → Inside low high b
 unfolding has
-class-inside low high [] s b h = never (cc)
-class-inside low high (r ∷ c) s b h =
-    let s1 = both_left (leb low r.0 && leb r.1 high) (spansIn low high c) s in
+class_inside low high [] s b h = never (cc)
+class_inside low high (r ∷ c) s b h =
+    let s1 = both_left (leb low r.0 && leb r.1 high) (spans_in low high c) s in
     let p = leb-true low r.0 (both_left (leb low r.0) (leb r.1 high) s1) in
     let q = leb-true r.1 high (both_right (leb low r.0) (leb r.1 high) s1) in
     by_cases (leb r.0 b && leb b r.1)
@@ -35,37 +35,37 @@ class-inside low high (r ∷ c) s b h =
     let g = leb-true r.0 b (both_left (leb r.0 b) (leb b r.1) t) in
     let k = leb-true b r.1 (both_right (leb r.0 b) (leb b r.1) t) in
     record { above = omega (arith, p, g); below = omega (arith, q, k) })
-    (λ t. class-inside low high c (both_right (leb low r.0 && leb r.1 high) (spansIn low high c) s) b (rw t at h))
+    (λ t. class_inside low high c (both_right (leb low r.0 && leb r.1 high) (spans_in low high c) s) b (rw t at h))
 
 -- ---- printable forms
 
-abbrev pub printedForm : {A : Type 0} → Form A → Bool
-printedForm (pure a) = true
-printedForm (byte c) = spansIn 32 126 c
-printedForm (pair f g) = printedForm f && printedForm g
-printedForm (alt f g) = printedForm f && printedForm g
-printedForm (many f) = printedForm f
-printedForm (fmap h f) = printedForm f
-printedForm (bound p j f) = printedForm f
+abbrev pub printed_form : {A : Type 0} → Form A → Bool
+printed_form (pure a) = true
+printed_form (byte c) = spans_in 32 126 c
+printed_form (pair f g) = printed_form f && printed_form g
+printed_form (alt f g) = printed_form f && printed_form g
+printed_form (many f) = printed_form f
+printed_form (fmap h f) = printed_form f
+printed_form (bound p j f) = printed_form f
 
-pub inside-printed : (b : ℕ) → Inside 32 126 b → printable b ≡ true
+pub inside_printed : (b : ℕ) → Inside 32 126 b → printable b ≡ true
 unfolding printable
-inside-printed b i = both (le-leb 32 b i.above) (le-leb b 126 i.below)
+inside_printed b i = both (le-leb 32 b i.above) (le-leb b 126 i.below)
 
-row-printed : {A : Type 0} (P : List ℕ → A → Type 0) → ((x : List ℕ) (v : A) → P x v → all? printable x ≡ true) → (x : List ℕ) (vs : List A) → Row P x vs
+row_printed : {A : Type 0} (P : List ℕ → A → Type 0) → ((x : List ℕ) (v : A) → P x v → all? printable x ≡ true) → (x : List ℕ) (vs : List A) → Row P x vs
     → all? printable x ≡ true
-row-printed P h x vs none = all_none printable
-row-printed P h x vs (Row.more {x = y} {y = z} {v} {vs = ws} p r) = all_append printable y z (h y v p) (row-printed P h z ws r)
+row_printed P h x vs none = all_none printable
+row_printed P h x vs (Row.more {x = y} {y = z} {v} {vs = ws} p r) = all_append printable y z (h y v p) (row_printed P h z ws r)
 
-pub form-printed : {A : Type 0} (k : Bool) (f : Form A) → printedForm f ≡ true → (x : List ℕ) (v : A) → Means k f x v → all? printable x ≡ true
+pub form_printed : {A : Type 0} (k : Bool) (f : Form A) → printed_form f ≡ true → (x : List ℕ) (v : A) → Means k f x v → all? printable x ≡ true
 unfolding Means
-form-printed k (pure a) t x v m = rw m.0 (all_none printable)
-form-printed k (byte c) t x v m = rw m.0 (all_more printable v [] (inside-printed v (class-inside 32 126 c t v m.1)) (all_none printable))
-form-printed k (pair f g) t x v m =
-    rw m.2 (all_append printable m.0 m.1 (form-printed k f (both_left (printedForm f) (printedForm g) t) m.0 v.0 m.3)
-    (form-printed k g (both_right (printedForm f) (printedForm g) t) m.1 v.1 m.4))
-form-printed k (alt f g) t x v (inl m) = form-printed k f (both_left (printedForm f) (printedForm g) t) x v m
-form-printed k (alt f g) t x v (inr m) = form-printed k g (both_right (printedForm f) (printedForm g) t) x v m
-form-printed k (many f) t x v m = row-printed (λ y w. Means k f y w) (λ y w n. form-printed k f t y w n) x v m
-form-printed k (fmap h f) t x v m = form-printed k f t x m.0 m.2
-form-printed k (bound p j f) t x v m = form-printed k f t x v m.0
+form_printed k (pure a) t x v m = rw m.0 (all_none printable)
+form_printed k (byte c) t x v m = rw m.0 (all_more printable v [] (inside_printed v (class_inside 32 126 c t v m.1)) (all_none printable))
+form_printed k (pair f g) t x v m =
+    rw m.2 (all_append printable m.0 m.1 (form_printed k f (both_left (printed_form f) (printed_form g) t) m.0 v.0 m.3)
+    (form_printed k g (both_right (printed_form f) (printed_form g) t) m.1 v.1 m.4))
+form_printed k (alt f g) t x v (inl m) = form_printed k f (both_left (printed_form f) (printed_form g) t) x v m
+form_printed k (alt f g) t x v (inr m) = form_printed k g (both_right (printed_form f) (printed_form g) t) x v m
+form_printed k (many f) t x v m = row_printed (λ y w. Means k f y w) (λ y w n. form_printed k f t y w n) x v m
+form_printed k (fmap h f) t x v m = form_printed k f t x m.0 m.2
+form_printed k (bound p j f) t x v m = form_printed k f t x v m.0

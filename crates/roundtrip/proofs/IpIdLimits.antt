@@ -4,9 +4,9 @@ use mathlib.Core.Path.{◌≡◌, refl}
 use mathlib.Core.Bool.{true}
 use Rattle.definitions.specs.Lists.{all?}
 use Rattle.definitions.specs.NumberCases.{agrees}
-use Rattle.definitions.specs.IpIdCases.{ipIdLimits}
+use Rattle.definitions.specs.IpIdCases.{ip_id_limits}
 use Rattle.definitions.specs.Computing.{computing}
 
-pub ip-id-limits : all? agrees ipIdLimits ≡ true
+pub ip_id_limits_lem : all? agrees ip_id_limits ≡ true
 unfolding computing
-ip-id-limits = refl
+ip_id_limits_lem = refl

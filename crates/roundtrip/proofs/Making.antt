@@ -10,7 +10,7 @@ use lib.ListN.{length}
 use borrow.Author.Tests.{le-leb}
 use Rattle.forms.specs.Bytes.{if◌then◌else◌, between}
 use Rattle.forms.specs.Form.{Class, has, Form, pure, byte, pair, alt, many, fmap, bound, Row, none, Means}
-use Rattle.forms.specs.Pieces.{preceded, terminated, some, literal, literalAs, keyword}
+use Rattle.forms.specs.Pieces.{preceded, terminated, some, literal, literal_as, keyword}
 use Rattle.forms.proofs.Bools.{by_cases}
 use Rattle.definitions.specs.Lists.{all?}
 use Rattle.definitions.specs.OptionValues.{OptionValue}
@@ -27,50 +27,50 @@ pub pure_of : {A : Type 0} {a : A} → Of (pure a) [] a
 unfolding Means
 pure_of = record { means = (refl, refl) }
 
-pub is-byte : {c : Class} {b : ℕ} → has c b ≡ true → Of (byte c) (b ∷ []) b
+pub is_byte : {c : Class} {b : ℕ} → has c b ≡ true → Of (byte c) (b ∷ []) b
 unfolding Means
-is-byte h = record { means = (refl, h) }
+is_byte h = record { means = (refl, h) }
 
 module _ {A B : Type 0} {f : Form A} {g : Form B} {x y : List ℕ} {a : A} {b : B} (p : Of f x a) (q : Of g y b) where
   pub both_of : Of (pair f g) (x ++ y) (a, b)
   unfolding Means
   both_of = record { means = (x, y, refl, p.means, q.means) }
 
-  pub preceded-of : Of (preceded f g) (x ++ y) b
+  pub preceded_of : Of (preceded f g) (x ++ y) b
   unfolding Means
-  preceded-of = record { means = ((a, b), refl, (x, y, refl, p.means, q.means)) }
+  preceded_of = record { means = ((a, b), refl, (x, y, refl, p.means, q.means)) }
 
-  pub terminated-of : Of (terminated f g) (x ++ y) a
+  pub terminated_of : Of (terminated f g) (x ++ y) a
   unfolding Means
-  terminated-of = record { means = ((a, b), refl, (x, y, refl, p.means, q.means)) }
+  terminated_of = record { means = ((a, b), refl, (x, y, refl, p.means, q.means)) }
 
 module _ {A : Type 0} {f g : Form A} {x : List ℕ} {a : A} where
-  pub alt-left : Of f x a → Of (alt f g) x a
+  pub alt_left : Of f x a → Of (alt f g) x a
   unfolding Means
-  alt-left m = record { means = inl m.means }
+  alt_left m = record { means = inl m.means }
 
-  pub alt-right : Of g x a → Of (alt f g) x a
+  pub alt_right : Of g x a → Of (alt f g) x a
   unfolding Means
-  alt-right m = record { means = inr m.means }
+  alt_right m = record { means = inr m.means }
 
-pub fmap-of : {A B : Type 0} {h : A → B} {f : Form A} {x : List ℕ} {a : A} → Of f x a → Of (fmap h f) x (h a)
+pub fmap_of : {A B : Type 0} {h : A → B} {f : Form A} {x : List ℕ} {a : A} → Of f x a → Of (fmap h f) x (h a)
 unfolding Means
-fmap-of {a} m = record { means = (a, refl, m.means) }
+fmap_of {a} m = record { means = (a, refl, m.means) }
 
 pub bound_of : {A : Type 0} {p : A → Bool} {j : A → ℕ} {f : Form A} {x : List ℕ} {a : A} → p a ≡ true → Of f x a → Of (bound p j f) x a
 unfolding Means
 bound_of t m = record { means = (m.means, λ k. t) }
 
-pub many-of : {A : Type 0} {f : Form A} {x : List ℕ} {vs : List A} → Row (λ y w. Of f y w) x vs → Of (many f) x vs
+pub many_of : {A : Type 0} {f : Form A} {x : List ℕ} {vs : List A} → Row (λ y w. Of f y w) x vs → Of (many f) x vs
 unfolding Means
-many-of {f} r = record { means = go r }
+many_of {f} r = record { means = go r }
   where
     go : {x : List ℕ} {vs : List _} → Row (λ y w. Of f y w) x vs → Row (λ y w. Means true f y w) x vs
     go none = none
     go (Row.more m r) = Row.more m.means (go r)
 
 pub somes : {A : Type 0} {f : Form A} {x y : List ℕ} {v : A} {vs : List A} → Of f x v → Row (λ y w. Of f y w) y vs → Of (some f) (x ++ y) (v ∷ vs)
-somes m r = fmap-of (both_of m (many-of r))
+somes m r = fmap_of (both_of m (many_of r))
 
 -- the text or the value, written in another way
 pub retexts : {A : Type 0} {f : Form A} {v : A} {x y : List ℕ} → x ≡ y → Of f x v → Of f y v
@@ -81,38 +81,38 @@ revalues {f} {x} e m = subst (λ z. Of f x z) e m
 
 -- ---- bytes
 
-own-span : (b : ℕ) → between b b b ≡ true
-own-span b = both (le-leb b b (le_refl b)) (le-leb b b (le_refl b))
+own_span : (b : ℕ) → between b b b ≡ true
+own_span b = both (le-leb b b (le_refl b)) (le-leb b b (le_refl b))
 
-pub literal-of : (b : ℕ) → Of (literal b) (b ∷ []) b
+pub literal_of : (b : ℕ) → Of (literal b) (b ∷ []) b
 unfolding has
-literal-of b = is-byte (rw (own-span b))
+literal_of b = is_byte (rw (own_span b))
 
-pub literalAs-of : {A : Type 0} (b : ℕ) (a : A) → Of (literalAs b a) (b ∷ []) a
-literalAs-of b a = fmap-of {h = λ (x : ℕ). a} (literal-of b)
+pub literal_as-of : {A : Type 0} (b : ℕ) (a : A) → Of (literal_as b a) (b ∷ []) a
+literal_as-of b a = fmap_of {h = λ (x : ℕ). a} (literal_of b)
 
-own-case : (b : ℕ) → has (if between 97 122 b then (b, b) ∷ (b - 32, b - 32) ∷ [] else (b, b) ∷ []) b ≡ true
+own_case : (b : ℕ) → has (if between 97 122 b then (b, b) ∷ (b - 32, b - 32) ∷ [] else (b, b) ∷ []) b ≡ true
 unfolding has
-own-case b = by_cases (between 97 122 b) (λ t. rw (t, own-span b)) (λ t. rw (t, own-span b))
+own_case b = by_cases (between 97 122 b) (λ t. rw (t, own_span b)) (λ t. rw (t, own_span b))
 
 -- a word in small letters
 pub words : {A : Type 0} (w : List ℕ) (a : A) → Of (keyword w a) w a
 words [] a = pure_of
-words (b ∷ w) a = preceded-of (is-byte (own-case b)) (words w a)
+words (b ∷ w) a = preceded_of (is_byte (own_case b)) (words w a)
 
 -- bytes of a class
-pub byte-row : (c : Class) (l : List ℕ) → all? (has c) l ≡ true → Row (λ y w. Of (byte c) y w) l l
-byte-row c [] t = none
-byte-row c (b ∷ l) t = Row.more (is-byte (all_head (has c) b l t)) (byte-row c l (all_tail (has c) b l t))
+pub byte_row : (c : Class) (l : List ℕ) → all? (has c) l ≡ true → Row (λ y w. Of (byte c) y w) l l
+byte_row c [] t = none
+byte_row c (b ∷ l) t = Row.more (is_byte (all_head (has c) b l t)) (byte_row c l (all_tail (has c) b l t))
 
 pub some_bytes : (c : Class) (l : List ℕ) → 1 ≤ length l → all? (has c) l ≡ true → Of (some (byte c)) l l
 some_bytes c [] h t = absurd (omega (arith, h))
-some_bytes c (b ∷ l) h t = somes (is-byte (all_head (has c) b l t)) (byte-row c l (all_tail (has c) b l t))
+some_bytes c (b ∷ l) h t = somes (is_byte (all_head (has c) b l t)) (byte_row c l (all_tail (has c) b l t))
 
 -- ---- an option's value, `;` after it; one space before it
 
 pub closes : {f : Form OptionValue} {x : List ℕ} {e : OptionValue} → Of f x e → Of (closed f) (x ++ (59 ∷ [])) e
-closes m = terminated-of m (preceded-of (many-of none) (literal-of 59))
+closes m = terminated_of m (preceded_of (many_of none) (literal_of 59))
 
 pub values : {f : Form OptionValue} {x : List ℕ} {e : OptionValue} → Of f x e → Of (valued f) (32 ∷ (x ++ (59 ∷ []))) e
-values m = preceded-of (somes (literal-of 32) none) (closes m)
+values m = preceded_of (somes (literal_of 32) none) (closes m)

@@ -22,56 +22,56 @@ use Rattle.definitions.specs.declared.table.Address.{Address}
 use Rattle.definitions.specs.declared.table.Slot.{Slot}
 use Rattle.definitions.specs.declared.table.Table.{Table}
 use Rattle.definitions.specs.declared.answers.Check.TheVariants.{Pass}
-use Rattle.definitions.specs.Limits.{maxPatterns, maxTests, maxAddresses}
+use Rattle.definitions.specs.Limits.{max_patterns, max_tests, max_addresses}
 use Rattle.definitions.specs.Lists.{all?, any?, keep, count}
 use Rattle.definitions.specs.OptionValues.{Modifier, Context, NoCase, Distance, Within, OptionValue, Name, Protocol, Flow, Test, Pattern, Modified}
-use Rattle.definitions.specs.Items.{Kind, unused, addressed, patterned, plainTest, kind_of, slots_of, afterItem}
-use Rattle.definitions.specs.Occurrences.{isTest, isPattern, modifierNumber, sameModifier, latest, occurrenceCheck}
-use Rattle.definitions.specs.Canonical.{flowOption, contextOption, noCaseOption, distanceOption, withinOption, itemOptions, slotOptions, canonicalOptions}
+use Rattle.definitions.specs.Items.{Kind, unused, addressed, patterned, plain_test, kind_of, slots_of, after_item}
+use Rattle.definitions.specs.Occurrences.{is_test, is_pattern, modifier_number, same_modifier, latest, occurrence_check}
+use Rattle.definitions.specs.Canonical.{flow_option, context_option, no_case_option, distance_option, within_option, item_options, slot_options, canonical_options}
 use Rattle.definitions.specs.Grammar.{Occurrences, none}
 use Rattle.roundtrip.proofs.AllTests.{all_none, all_more, all_head, all_tail, all_so, all_after}
-use Rattle.roundtrip.proofs.Counts.{count-append, fewAddresses}
-use Rattle.roundtrip.proofs.Patterned.{modifierOptions, modifiers-joined}
+use Rattle.roundtrip.proofs.Counts.{count_append, few_addresses}
+use Rattle.roundtrip.proofs.Patterned.{modifier_options, modifiers_joined}
 
 -- ---- the modifiers after the last pattern
 
-latest-pattern : (es : List OptionValue) (ms : List Modifier) (n : Bool) (b : List ℕ) → latest ms (es ++ (Pattern n b ∷ [])) ≡ []
+latest_pattern : (es : List OptionValue) (ms : List Modifier) (n : Bool) (b : List ℕ) → latest ms (es ++ (Pattern n b ∷ [])) ≡ []
 unfolding latest
-latest-pattern [] ms n b = refl
-latest-pattern (Name m ∷ es) ms n b = latest-pattern es ms n b
-latest-pattern (Protocol p ∷ es) ms n b = latest-pattern es ms n b
-latest-pattern (Flow f ∷ es) ms n b = latest-pattern es ms n b
-latest-pattern (Test it al ∷ es) ms n b = latest-pattern es ms n b
-latest-pattern (Pattern m c ∷ es) ms n b = latest-pattern es [] n b
-latest-pattern (Modified m ∷ es) ms n b = latest-pattern es (m ∷ ms) n b
+latest_pattern [] ms n b = refl
+latest_pattern (Name m ∷ es) ms n b = latest_pattern es ms n b
+latest_pattern (Protocol p ∷ es) ms n b = latest_pattern es ms n b
+latest_pattern (Flow f ∷ es) ms n b = latest_pattern es ms n b
+latest_pattern (Test it al ∷ es) ms n b = latest_pattern es ms n b
+latest_pattern (Pattern m c ∷ es) ms n b = latest_pattern es [] n b
+latest_pattern (Modified m ∷ es) ms n b = latest_pattern es (m ∷ ms) n b
 
-latest-modifier : (es : List OptionValue) (ms : List Modifier) (m : Modifier) → latest ms (es ++ (Modified m ∷ [])) ≡ m ∷ latest ms es
+latest_modifier : (es : List OptionValue) (ms : List Modifier) (m : Modifier) → latest ms (es ++ (Modified m ∷ [])) ≡ m ∷ latest ms es
 unfolding latest
-latest-modifier [] ms m = refl
-latest-modifier (Name n ∷ es) ms m = latest-modifier es ms m
-latest-modifier (Protocol p ∷ es) ms m = latest-modifier es ms m
-latest-modifier (Flow f ∷ es) ms m = latest-modifier es ms m
-latest-modifier (Test it al ∷ es) ms m = latest-modifier es ms m
-latest-modifier (Pattern n b ∷ es) ms m = latest-modifier es [] m
-latest-modifier (Modified n ∷ es) ms m = latest-modifier es (n ∷ ms) m
+latest_modifier [] ms m = refl
+latest_modifier (Name n ∷ es) ms m = latest_modifier es ms m
+latest_modifier (Protocol p ∷ es) ms m = latest_modifier es ms m
+latest_modifier (Flow f ∷ es) ms m = latest_modifier es ms m
+latest_modifier (Test it al ∷ es) ms m = latest_modifier es ms m
+latest_modifier (Pattern n b ∷ es) ms m = latest_modifier es [] m
+latest_modifier (Modified n ∷ es) ms m = latest_modifier es (n ∷ ms) m
 
 -- modifiers that stand before number k in canonical order
 abbrev below : ℕ → Modifier → Bool
-below k m = ltb (modifierNumber m) k
+below k m = ltb (modifier_number m) k
 
-none-again : (m : Modifier) (ms : List Modifier) → all? (below (modifierNumber m)) ms ≡ true → any? (sameModifier m) ms ≡ false
+none_again : (m : Modifier) (ms : List Modifier) → all? (below (modifier_number m)) ms ≡ true → any? (same_modifier m) ms ≡ false
 unfolding any?
-none-again m [] t = refl
-none-again m (n ∷ ms) t =
-    let h = ltb-true (modifierNumber n) (modifierNumber m) (all_head (below (modifierNumber m)) n ms t) in
-    rw (ne_eqb (modifierNumber m) (modifierNumber n) (λ e. omega (arith, e, h))) (none-again m ms (all_tail (below (modifierNumber m)) n ms t))
+none_again m [] t = refl
+none_again m (n ∷ ms) t =
+    let h = ltb-true (modifier_number n) (modifier_number m) (all_head (below (modifier_number m)) n ms t) in
+    rw (ne_eqb (modifier_number m) (modifier_number n) (λ e. omega (arith, e, h))) (none_again m ms (all_tail (below (modifier_number m)) n ms t))
 
 -- ---- after a pattern
 
 -- so many tests and patterns, one at least; the modifiers met stand before number k
 record After (tests patterns k : ℕ) (before : List OptionValue) : Type 0 where
-  test-count : count isTest before ≡ tests
-  pattern-count : count isPattern before ≡ patterns
+  test_count : count is_test before ≡ tests
+  pattern_count_lem : count is_pattern before ≡ patterns
   some : 1 ≤ patterns
   low : all? (below k) (latest [] before) ≡ true
 
@@ -83,146 +83,146 @@ module _ (tests patterns : ℕ) (rest : List OptionValue) where
   passed : (k : ℕ) (before : List OptionValue) → After tests patterns k before → After tests patterns (suc k) before
   passed k before i =
       record {
-        test-count = i.test-count;
-        pattern-count = i.pattern-count;
+        test_count = i.test_count;
+        pattern_count_lem = i.pattern_count_lem;
         some = i.some;
-        low = all_so (below k) (below (suc k)) (λ m t. lt-ltb (modifierNumber m) (suc k) (omega (arith, ltb-true (modifierNumber m) k t)))
+        low = all_so (below k) (below (suc k)) (λ m t. lt-ltb (modifier_number m) (suc k) (omega (arith, ltb-true (modifier_number m) k t)))
             (latest [] before) i.low;
       }
 
-  modifier-stands : (m : Modifier) (before : List OptionValue) → After tests patterns (modifierNumber m) before → Goes (suc (modifierNumber m))
+  modifier_stands : (m : Modifier) (before : List OptionValue) → After tests patterns (modifier_number m) before → Goes (suc (modifier_number m))
       → Occurrences before (Modified m ∷ rest)
-  unfolding occurrenceCheck keep
-  modifier-stands m before i k =
-      let e = i.pattern-count in
-      let l = latest-modifier before [] m in
-      let j = passed (modifierNumber m) before i in
-      let f : occurrenceCheck before (Modified m) ≡ Pass =
-      rw (ne_eqb (count isPattern before) 0 (λ z. omega (arith, z, e, i.some)), none-again m (latest [] before) i.low) in
+  unfolding occurrence_check keep
+  modifier_stands m before i k =
+      let e = i.pattern_count_lem in
+      let l = latest_modifier before [] m in
+      let j = passed (modifier_number m) before i in
+      let f : occurrence_check before (Modified m) ≡ Pass =
+      rw (ne_eqb (count is_pattern before) 0 (λ z. omega (arith, z, e, i.some)), none_again m (latest [] before) i.low) in
       Occurrences.more f
       (k (before ++ (Modified m ∷ []))
       (record {
-        test-count = count-append isTest before (Modified m ∷ []) ∙ omega (arith, i.test-count);
-        pattern-count = count-append isPattern before (Modified m ∷ []) ∙ omega (arith, e);
+        test_count = count_append is_test before (Modified m ∷ []) ∙ omega (arith, i.test_count);
+        pattern_count_lem = count_append is_pattern before (Modified m ∷ []) ∙ omega (arith, e);
         some = i.some;
-        low = rw l (all_more (below (suc (modifierNumber m))) m (latest [] before) (lt-ltb (modifierNumber m) (suc (modifierNumber m)) (omega arith)) j.low);
+        low = rw l (all_more (below (suc (modifier_number m))) m (latest [] before) (lt-ltb (modifier_number m) (suc (modifier_number m)) (omega arith)) j.low);
       }))
 
 -- ---- the four modifiers, each if it is given
 
 module _ (tests patterns : ℕ) (rest before : List OptionValue) where
-  context-stands : (c : contexts.Context) → After tests patterns 0 before → Goes tests patterns rest 1 → Occurrences before (contextOption c ++ rest)
-  context-stands context.Packet i k = k before (passed tests patterns rest 0 before i)
-  context-stands context.Uri i k = modifier-stands tests patterns rest (Context context.Uri) before i k
-  context-stands context.Header i k = modifier-stands tests patterns rest (Context context.Header) before i k
-  context-stands context.Body i k = modifier-stands tests patterns rest (Context context.Body) before i k
-  context-stands context.Banner i k = modifier-stands tests patterns rest (Context context.Banner) before i k
-  context-stands context.Host i k = modifier-stands tests patterns rest (Context context.Host) before i k
-  context-stands context.File i k = modifier-stands tests patterns rest (Context context.File) before i k
+  context_stands : (c : contexts.Context) → After tests patterns 0 before → Goes tests patterns rest 1 → Occurrences before (context_option c ++ rest)
+  context_stands context.Packet i k = k before (passed tests patterns rest 0 before i)
+  context_stands context.Uri i k = modifier_stands tests patterns rest (Context context.Uri) before i k
+  context_stands context.Header i k = modifier_stands tests patterns rest (Context context.Header) before i k
+  context_stands context.Body i k = modifier_stands tests patterns rest (Context context.Body) before i k
+  context_stands context.Banner i k = modifier_stands tests patterns rest (Context context.Banner) before i k
+  context_stands context.Host i k = modifier_stands tests patterns rest (Context context.Host) before i k
+  context_stands context.File i k = modifier_stands tests patterns rest (Context context.File) before i k
 
-  no-case-stands : (n : Bool) → After tests patterns 1 before → Goes tests patterns rest 2 → Occurrences before (noCaseOption n ++ rest)
-  no-case-stands true i k = modifier-stands tests patterns rest NoCase before i k
-  no-case-stands false i k = k before (passed tests patterns rest 1 before i)
+  no_case_stands : (n : Bool) → After tests patterns 1 before → Goes tests patterns rest 2 → Occurrences before (no_case_option n ++ rest)
+  no_case_stands true i k = modifier_stands tests patterns rest NoCase before i k
+  no_case_stands false i k = k before (passed tests patterns rest 1 before i)
 
-  distance-stands : (d : distances.Distance) → After tests patterns 2 before → Goes tests patterns rest 3 → Occurrences before (distanceOption d ++ rest)
-  distance-stands distance.Unset i k = k before (passed tests patterns rest 2 before i)
-  distance-stands (distance.Given d) i k = modifier-stands tests patterns rest (Distance d) before i k
+  distance_stands : (d : distances.Distance) → After tests patterns 2 before → Goes tests patterns rest 3 → Occurrences before (distance_option d ++ rest)
+  distance_stands distance.Unset i k = k before (passed tests patterns rest 2 before i)
+  distance_stands (distance.Given d) i k = modifier_stands tests patterns rest (Distance d) before i k
 
-  within-stands : (w : withins.Within) → After tests patterns 3 before → Goes tests patterns rest 4 → Occurrences before (withinOption w ++ rest)
-  within-stands within.Unset i k = k before (passed tests patterns rest 3 before i)
-  within-stands (within.Given w) i k = modifier-stands tests patterns rest (Within w) before i k
+  within_stands : (w : withins.Within) → After tests patterns 3 before → Goes tests patterns rest 4 → Occurrences before (within_option w ++ rest)
+  within_stands within.Unset i k = k before (passed tests patterns rest 3 before i)
+  within_stands (within.Given w) i k = modifier_stands tests patterns rest (Within w) before i k
 
-modifiers-stand : (t n : ℕ) (rest : List OptionValue) (p : patterns.Pattern) (before : List OptionValue) → After t n 0 before → Goes t n rest 4
-    → Occurrences before (modifierOptions p ++ rest)
-modifiers-stand t n rest p before i k =
-    let w = withinOption p.within ++ rest in
-    let d = distanceOption p.distance ++ w in
-    subst (Occurrences before) (sym (modifiers-joined p rest))
-    (context-stands t n (noCaseOption p.nocase ++ d) before p.context i
-    (λ a j. no-case-stands t n d a p.nocase j
-    (λ b l. distance-stands t n w b p.distance l
-    (λ c m. within-stands t n rest c p.within m k))))
+modifiers_stand : (t n : ℕ) (rest : List OptionValue) (p : patterns.Pattern) (before : List OptionValue) → After t n 0 before → Goes t n rest 4
+    → Occurrences before (modifier_options p ++ rest)
+modifiers_stand t n rest p before i k =
+    let w = within_option p.within ++ rest in
+    let d = distance_option p.distance ++ w in
+    subst (Occurrences before) (sym (modifiers_joined p rest))
+    (context_stands t n (no_case_option p.nocase ++ d) before p.context i
+    (λ a j. no_case_stands t n d a p.nocase j
+    (λ b l. distance_stands t n w b p.distance l
+    (λ c m. within_stands t n rest c p.within m k))))
 
 -- ---- slots
 
 -- what is asked of options that are to stand after others
 record PatternBytes (before es : List OptionValue) : Type 0 where
-  addresses : all? fewAddresses es ≡ true
-  tests : count isTest before + count isTest es ≤ maxTests
-  patterns : count isPattern before + count isPattern es ≤ maxPatterns
+  addresses : all? few_addresses es ≡ true
+  tests : count is_test before + count is_test es ≤ max_tests
+  patterns : count is_pattern before + count is_pattern es ≤ max_patterns
 
 module _ (rest : List OptionValue) (k : (before : List OptionValue) → PatternBytes before rest → Occurrences before rest) (before : List OptionValue) where
-  test-stands : (it : Item) (al : List Address) → PatternBytes before (Test it al ∷ rest) → Occurrences before (Test it al ∷ rest)
-  unfolding occurrenceCheck keep
-  test-stands it al r =
-      let a = leb-true (length al) maxAddresses (all_head fewAddresses (Test it al) rest r.addresses) in
-      let f : occurrenceCheck before (Test it al) ≡ Pass =
-      rw (le-ltb maxAddresses (length al) a, lt-leb maxTests (count isTest before) (omega (arith, r.tests))) in
+  test_stands : (it : Item) (al : List Address) → PatternBytes before (Test it al ∷ rest) → Occurrences before (Test it al ∷ rest)
+  unfolding occurrence_check keep
+  test_stands it al r =
+      let a = leb-true (length al) max_addresses (all_head few_addresses (Test it al) rest r.addresses) in
+      let f : occurrence_check before (Test it al) ≡ Pass =
+      rw (le-ltb max_addresses (length al) a, lt-leb max_tests (count is_test before) (omega (arith, r.tests))) in
       Occurrences.more f
       (k (before ++ (Test it al ∷ []))
       (record {
-        addresses = all_tail fewAddresses (Test it al) rest r.addresses;
-        tests = omega (arith, r.tests, count-append isTest before (Test it al ∷ []));
-        patterns = omega (arith, r.patterns, count-append isPattern before (Test it al ∷ []));
+        addresses = all_tail few_addresses (Test it al) rest r.addresses;
+        tests = omega (arith, r.tests, count_append is_test before (Test it al ∷ []));
+        patterns = omega (arith, r.patterns, count_append is_pattern before (Test it al ∷ []));
       }))
 
-  pattern-stands : (p : patterns.Pattern) (b : List ℕ) → PatternBytes before (Pattern p.negated b ∷ (modifierOptions p ++ rest))
-      → Occurrences before (Pattern p.negated b ∷ (modifierOptions p ++ rest))
-  unfolding occurrenceCheck keep
-  pattern-stands p b r =
+  pattern_stands : (p : patterns.Pattern) (b : List ℕ) → PatternBytes before (Pattern p.negated b ∷ (modifier_options p ++ rest))
+      → Occurrences before (Pattern p.negated b ∷ (modifier_options p ++ rest))
+  unfolding occurrence_check keep
+  pattern_stands p b r =
       let e = Pattern p.negated b in
-      let ms = modifierOptions p in
-      let ct = count-append isTest before (e ∷ []) in
-      let cp = count-append isPattern before (e ∷ []) in
-      let dt = count-append isTest ms rest in
-      let dp = count-append isPattern ms rest in
-      let f : occurrenceCheck before e ≡ Pass = rw (lt-leb maxPatterns (count isPattern before) (omega (arith, r.patterns))) in
-      let i : After (count isTest before) (count isPattern before + 1) 0 (before ++ (e ∷ [])) = record {
-        test-count = omega (arith, ct);
-        pattern-count = omega (arith, cp);
+      let ms = modifier_options p in
+      let ct = count_append is_test before (e ∷ []) in
+      let cp = count_append is_pattern before (e ∷ []) in
+      let dt = count_append is_test ms rest in
+      let dp = count_append is_pattern ms rest in
+      let f : occurrence_check before e ≡ Pass = rw (lt-leb max_patterns (count is_pattern before) (omega (arith, r.patterns))) in
+      let i : After (count is_test before) (count is_pattern before + 1) 0 (before ++ (e ∷ [])) = record {
+        test_count = omega (arith, ct);
+        pattern_count_lem = omega (arith, cp);
         some = omega arith;
-        low = rw (latest-pattern before [] p.negated b) (all_none (below 0));
+        low = rw (latest_pattern before [] p.negated b) (all_none (below 0));
       } in
       Occurrences.more f
-      (modifiers-stand (count isTest before) (count isPattern before + 1) rest p (before ++ (e ∷ [])) i
+      (modifiers_stand (count is_test before) (count is_pattern before + 1) rest p (before ++ (e ∷ [])) i
       (λ c j. k c (record {
-        addresses = all_after fewAddresses ms rest (all_tail fewAddresses e (ms ++ rest) r.addresses);
-        tests = omega (arith, r.tests, dt, j.test-count);
-        patterns = omega (arith, r.patterns, dp, j.pattern-count);
+        addresses = all_after few_addresses ms rest (all_tail few_addresses e (ms ++ rest) r.addresses);
+        tests = omega (arith, r.tests, dt, j.test_count);
+        patterns = omega (arith, r.patterns, dp, j.pattern_count_lem);
       })))
 
-  item-stands : (i : Kind) (sl : Slot) (b : List ℕ) → PatternBytes before (itemOptions i sl b ++ rest) → Occurrences before (itemOptions i sl b ++ rest)
-  item-stands unused sl b r = k before r
-  item-stands (addressed a) sl b r = test-stands sl.item (take a.count sl.addresses) r
-  item-stands (patterned p) sl b r = pattern-stands p (take p.len b) r
-  item-stands plainTest sl b r = test-stands sl.item [] r
+  item_stands : (i : Kind) (sl : Slot) (b : List ℕ) → PatternBytes before (item_options i sl b ++ rest) → Occurrences before (item_options i sl b ++ rest)
+  item_stands unused sl b r = k before r
+  item_stands (addressed a) sl b r = test_stands sl.item (take a.count sl.addresses) r
+  item_stands (patterned p) sl b r = pattern_stands p (take p.len b) r
+  item_stands plain_test sl b r = test_stands sl.item [] r
 
-slots-stand : (sls : List Slot) (b : List ℕ) (before : List OptionValue) → PatternBytes before (slotOptions sls b) → Occurrences before (slotOptions sls b)
-unfolding slotOptions
-slots-stand [] b before r = none
-slots-stand (sl ∷ sls) b before r =
+slots_stand : (sls : List Slot) (b : List ℕ) (before : List OptionValue) → PatternBytes before (slot_options sls b) → Occurrences before (slot_options sls b)
+unfolding slot_options
+slots_stand [] b before r = none
+slots_stand (sl ∷ sls) b before r =
     let i = kind_of sl.item in
-    item-stands (slotOptions sls (afterItem i b)) (λ c q. slots-stand sls (afterItem i b) c q) before i sl b r
+    item_stands (slot_options sls (after_item i b)) (λ c q. slots_stand sls (after_item i b) c q) before i sl b r
 
 -- ---- the whole table
 
-flow-stands : (f : flows.Flow) (rest : List OptionValue) (n : List ℕ) (p : ℕ)
-    → ((before : List OptionValue) → count isTest before ≡ 0 → count isPattern before ≡ 0 → Occurrences before rest)
-    → Occurrences (Name n ∷ Protocol p ∷ []) (flowOption f ++ rest)
-unfolding occurrenceCheck any? keep
-flow-stands flow.Any rest n p k = k (Name n ∷ Protocol p ∷ []) refl refl
-flow-stands flow.FromClient rest n p k = Occurrences.more refl (k (Name n ∷ Protocol p ∷ Flow flow.FromClient ∷ []) refl refl)
-flow-stands flow.FromServer rest n p k = Occurrences.more refl (k (Name n ∷ Protocol p ∷ Flow flow.FromServer ∷ []) refl refl)
+flow_stands : (f : flows.Flow) (rest : List OptionValue) (n : List ℕ) (p : ℕ)
+    → ((before : List OptionValue) → count is_test before ≡ 0 → count is_pattern before ≡ 0 → Occurrences before rest)
+    → Occurrences (Name n ∷ Protocol p ∷ []) (flow_option f ++ rest)
+unfolding occurrence_check any? keep
+flow_stands flow.Any rest n p k = k (Name n ∷ Protocol p ∷ []) refl refl
+flow_stands flow.FromClient rest n p k = Occurrences.more refl (k (Name n ∷ Protocol p ∷ Flow flow.FromClient ∷ []) refl refl)
+flow_stands flow.FromServer rest n p k = Occurrences.more refl (k (Name n ∷ Protocol p ∷ Flow flow.FromServer ∷ []) refl refl)
 
-pub canonical-stands : (t : Table) → all? fewAddresses (canonicalOptions t) ≡ true → count isTest (canonicalOptions t) ≤ maxTests
-    → count isPattern (canonicalOptions t) ≤ maxPatterns → Occurrences [] (canonicalOptions t)
-unfolding canonicalOptions occurrenceCheck any?
-canonical-stands t a n p =
+pub canonical_stands : (t : Table) → all? few_addresses (canonical_options t) ≡ true → count is_test (canonical_options t) ≤ max_tests
+    → count is_pattern (canonical_options t) ≤ max_patterns → Occurrences [] (canonical_options t)
+unfolding canonical_options occurrence_check any?
+canonical_stands t a n p =
     let nm = take t.len t.name in
-    let rest = slotOptions (slots_of t) t.bytes in
-    let front = Name nm ∷ Protocol t.protocol ∷ flowOption t.flow in
-    let ct = count-append isTest front rest in
-    let cp = count-append isPattern front rest in
-    Occurrences.more refl (Occurrences.more refl (flow-stands t.flow rest nm t.protocol
-    (λ before e g. slots-stand (slots_of t) t.bytes before
-    (record { addresses = all_after fewAddresses front rest a; tests = omega (arith, n, ct, e); patterns = omega (arith, p, cp, g) }))))
+    let rest = slot_options (slots_of t) t.bytes in
+    let front = Name nm ∷ Protocol t.protocol ∷ flow_option t.flow in
+    let ct = count_append is_test front rest in
+    let cp = count_append is_pattern front rest in
+    Occurrences.more refl (Occurrences.more refl (flow_stands t.flow rest nm t.protocol
+    (λ before e g. slots_stand (slots_of t) t.bytes before
+    (record { addresses = all_after few_addresses front rest a; tests = omega (arith, n, ct, e); patterns = omega (arith, p, cp, g) }))))

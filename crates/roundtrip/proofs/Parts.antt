@@ -9,33 +9,33 @@ use Rattle.forms.specs.Bytes.{between}
 use Rattle.forms.specs.Form.{has}
 use Rattle.definitions.specs.declared.table.Table.{Table}
 use Rattle.definitions.specs.declared.packets.LastMatch.TheVariants.{None}
-use Rattle.definitions.specs.Limits.{maxName, maxPatterns, maxTests, maxItems, maxByte}
+use Rattle.definitions.specs.Limits.{max_name, max_patterns, max_tests, max_items, max_byte}
 use Rattle.definitions.specs.Lists.{all?}
 use Rattle.definitions.specs.Forms.{quotable}
-use Rattle.definitions.specs.Items.{patternsOf, slots_of}
-use Rattle.definitions.specs.References.{usableRun}
-use Rattle.definitions.specs.WellFormed.{is_zero, nameFits, slotFits, slotUnused, patternCount, itemsFit, bytes_of, bytesFit, wellFormed}
+use Rattle.definitions.specs.Items.{patterns_of, slots_of}
+use Rattle.definitions.specs.References.{usable_run}
+use Rattle.definitions.specs.WellFormed.{is_zero, name_fits, slot_fits, slot_unused, pattern_count, items_fit, bytes_of, bytes_fit, well_formed}
 use Rattle.roundtrip.proofs.AllTests.{halves}
 use Rattle.roundtrip.proofs.Fits.{is_byte}
 
 pub record Formed (t : Table) : Type 0 where
-  pub name-length : between 1 maxName t.len ≡ true
-  pub name-bytes : all? (has quotable) (take t.len t.name) ≡ true
-  pub name-rest : all? is_zero (drop t.len t.name) ≡ true
-  pub protocol : leb t.protocol maxByte ≡ true
-  pub count : t.count ≤ maxItems
-  pub slots : all? slotFits (slots_of t) ≡ true
-  pub slots-rest : all? slotUnused (drop t.count t.items) ≡ true
-  pub patterns : patternCount t ≤ maxPatterns
-  pub tests : t.count - patternCount t ≤ maxTests
-  pub used : t.used ≡ bytes_of (patternsOf (slots_of t))
-  pub used-most : t.used ≤ length t.bytes
+  pub name_length_lem : between 1 max_name t.len ≡ true
+  pub name_bytes : all? (has quotable) (take t.len t.name) ≡ true
+  pub name_rest : all? is_zero (drop t.len t.name) ≡ true
+  pub protocol : leb t.protocol max_byte ≡ true
+  pub count : t.count ≤ max_items
+  pub slots : all? slot_fits (slots_of t) ≡ true
+  pub slots_rest : all? slot_unused (drop t.count t.items) ≡ true
+  pub patterns : pattern_count t ≤ max_patterns
+  pub tests : t.count - pattern_count t ≤ max_tests
+  pub used : t.used ≡ bytes_of (patterns_of (slots_of t))
+  pub used_most : t.used ≤ length t.bytes
   pub bytes : all? is_byte (take t.used t.bytes) ≡ true
   pub bytes_rest : all? is_zero (drop t.used t.bytes) ≡ true
-  pub usable : usableRun None (patternsOf (slots_of t)) ≡ patternCount t
+  pub usable : usable_run None (patterns_of (slots_of t)) ≡ pattern_count t
 
-pub formed : (t : Table) → wellFormed t ≡ true → Formed t
-unfolding wellFormed nameFits itemsFit bytesFit
+pub formed : (t : Table) → well_formed t ≡ true → Formed t
+unfolding well_formed name_fits items_fit bytes_fit
 formed t w =
     let a = halves w in
     let n = halves a.0 in
@@ -51,18 +51,18 @@ formed t w =
     let u1 = halves u.1 in
     let u2 = halves u1.1 in
     record {
-      name-length = n.0;
-      name-bytes = n1.0;
-      name-rest = n1.1;
+      name_length_lem = n.0;
+      name_bytes = n1.0;
+      name_rest = n1.1;
       protocol = b.0;
-      count = leb-true t.count maxItems i.0;
+      count = leb-true t.count max_items i.0;
       slots = i1.0;
-      slots-rest = i2.0;
-      patterns = leb-true (patternCount t) maxPatterns i3.0;
-      tests = leb-true (t.count - patternCount t) maxTests i3.1;
-      used = eqb-true t.used (bytes_of (patternsOf (slots_of t))) u.0;
-      used-most = leb-true t.used (length t.bytes) u1.0;
+      slots_rest = i2.0;
+      patterns = leb-true (pattern_count t) max_patterns i3.0;
+      tests = leb-true (t.count - pattern_count t) max_tests i3.1;
+      used = eqb-true t.used (bytes_of (patterns_of (slots_of t))) u.0;
+      used_most = leb-true t.used (length t.bytes) u1.0;
       bytes = u2.0;
       bytes_rest = u2.1;
-      usable = eqb-true (usableRun None (patternsOf (slots_of t))) (patternCount t) d.1;
+      usable = eqb-true (usable_run None (patterns_of (slots_of t))) (pattern_count t) d.1;
     }

@@ -14,75 +14,75 @@ use Rattle.definitions.specs.declared.answers.Reading.{Reading}
 use Rattle.definitions.specs.declared.table.Table.{Table}
 use Rattle.definitions.specs.Limits.{Limits}
 use Rattle.definitions.specs.Lists.{all?}
-use Rattle.definitions.specs.Tables.{nameIn, slotsIn, bytesIn, table_of}
-use Rattle.definitions.specs.Reading.{acceptedReading, readUnbounded, read}
+use Rattle.definitions.specs.Tables.{name_in, slots_in, bytes_in, table_of}
+use Rattle.definitions.specs.Reading.{accepted_reading, read_unbounded, read}
 use Rattle.definitions.specs.Options.{opening}
 use Rattle.definitions.specs.Grammar.{Derives}
-use Rattle.definitions.specs.WellFormed.{Shaped, wellFormed}
-use Rattle.laws.proofs.Refusing.{EmptyOrAccepted, unbounded-empty}
-use Rattle.syntax.proofs.UsablePatterns.{options-tests}
-use Rattle.syntax.proofs.Exact.{syntax-exactly, read-exactly}
-use Rattle.roundtrip.proofs.Counts.{few-addresses}
-use Rattle.roundtrip.proofs.Formed.{options-fit, options-bytes, Entries, options-formed, options-named, options-slotted}
-use Rattle.roundtrip.proofs.Shape.{table-shaped}
-use Rattle.list_laws.proofs.Padded.{padded-holds}
+use Rattle.definitions.specs.WellFormed.{Shaped, well_formed}
+use Rattle.laws.proofs.Refusing.{EmptyOrAccepted, unbounded_empty}
+use Rattle.syntax.proofs.UsablePatterns.{options_tests}
+use Rattle.syntax.proofs.Exact.{syntax_exactly, read_exactly}
+use Rattle.roundtrip.proofs.Counts.{few_addresses_lem}
+use Rattle.roundtrip.proofs.Formed.{options_fit, options_bytes, Entries, options_formed, options_named, options_slotted}
+use Rattle.roundtrip.proofs.Shape.{table_shaped}
+use Rattle.list_laws.proofs.Padded.{padded_holds}
 
 -- ---- texts of the grammar
 
 module _ (room : ℕ) (s : List ℕ) (t : Table) (d : Derives room s t) where
-  options-known : Entries d.values
-  options-known = record {
-    fit = options-fit d.made;
-    only = options-tests d.made;
+  options_known : Entries d.values
+  options_known = record {
+    fit = options_fit d.made;
+    only = options_tests d.made;
     occurrences = d.occurrences;
     usable = d.usable;
     complete =
         d.complete;
   }
 
-  pub derived-formed : Shaped room t → wellFormed t ≡ true
+  pub derived_formed : Shaped room t → well_formed t ≡ true
   unfolding table_of
-  derived-formed h =
+  derived_formed h =
       let e = d.table in
       let r : length (table_of room d.values).bytes ≡ room = ap (λ (u : Table). length u.bytes) (sym e) ∙ h.roomy in
-      rw e (options-formed room d.values options-known (padded-holds room 0 (bytesIn d.values) r))
+      rw e (options_formed room d.values options_known (padded_holds room 0 (bytes_in d.values) r))
 
-  pub derived-shaped : length s ≤ room → Shaped room t
-  derived-shaped h =
+  pub derived_shaped : length s ≤ room → Shaped room t
+  derived_shaped h =
       let l = ap length d.framed ∙ length-append opening d.body in
-      rw d.table (table-shaped room d.values (options-named room d.values options-known) (omega (arith, h, l, options-bytes d.made))
-      (options-slotted room d.values options-known) (few-addresses d.values d.occurrences))
+      rw d.table (table_shaped room d.values (options_named room d.values options_known) (omega (arith, h, l, options_bytes d.made))
+      (options_slotted room d.values options_known) (few_addresses_lem d.values d.occurrences))
 
 -- ---- reading
 
-pub read-formed : (room : ℕ) (s : List ℕ) (t : Table) → Shaped room t → readUnbounded room s ≡ acceptedReading t → wellFormed t ≡ true
-read-formed room s t h e = derived-formed room s t ((syntax-exactly room s t).0 e) h
+pub read_formed : (room : ℕ) (s : List ℕ) (t : Table) → Shaped room t → read_unbounded room s ≡ accepted_reading t → well_formed t ≡ true
+read_formed room s t h e = derived_formed room s t ((syntax_exactly room s t).0 e) h
 
-empty-shaped : (room : ℕ) → Shaped room (table_of room [])
-unfolding nameIn slotsIn bytesIn all?
-empty-shaped room = table-shaped room [] (omega arith) (omega arith) (omega arith) refl
+empty_shaped : (room : ℕ) → Shaped room (table_of room [])
+unfolding name_in slots_in bytes_in all?
+empty_shaped room = table_shaped room [] (omega arith) (omega arith) (omega arith) refl
 
 -- accepted, or with the table of a refusal
 abbrev pub Either : ℕ → Reading → Type 0
-Either room r = (r ≡ acceptedReading r.table) ⊎ (r.table ≡ table_of room [])
+Either room r = (r ≡ accepted_reading r.table) ⊎ (r.table ≡ table_of room [])
 
 -- each answer of the reader is one of these, since a refused one has the empty table
-pub told-either : (room : ℕ) (r : Reading) → EmptyOrAccepted room r → Either room r
-told-either room r h = go r.outcome refl
+pub told_either : (room : ℕ) (r : Reading) → EmptyOrAccepted room r → Either room r
+told_either room r h = go r.outcome refl
   where
     go : (o : ReadOutcome) → r.outcome ≡ o → Either room r
     go outcome.Accepted e = inl (ap (λ (o : ReadOutcome). record { outcome = o; table = r.table }) e)
     go (outcome.Refused c p) e = inr (h (λ a. never (cc)))
 
-pub shaped-read : (room : ℕ) (s : List ℕ) → length s ≤ room → Shaped room (readUnbounded room s).table
-shaped-read room s h =
+pub shaped_read : (room : ℕ) (s : List ℕ) → length s ≤ room → Shaped room (read_unbounded room s).table
+shaped_read room s h =
     ⊎_elim
-    (λ e. derived-shaped room s (readUnbounded room s).table ((syntax-exactly room s (readUnbounded room s).table).0 e) h)
-    (λ e. subst (Shaped room) (sym e) (empty-shaped room))
-    (told-either room (readUnbounded room s) (unbounded-empty room s))
+    (λ e. derived_shaped room s (read_unbounded room s).table ((syntax_exactly room s (read_unbounded room s).table).0 e) h)
+    (λ e. subst (Shaped room) (sym e) (empty_shaped room))
+    (told_either room (read_unbounded room s) (unbounded_empty room s))
 
-pub read-shaped : (lim : Limits) (s : List ℕ) (t : Table) → lim.text ≤ lim.room → read lim s ≡ acceptedReading t → Shaped lim.room t
-read-shaped lim s t h e = let d = (read-exactly lim s t).0 e in derived-shaped lim.room s t d.0 (omega (arith, h, d.1))
+pub read_shaped : (lim : Limits) (s : List ℕ) (t : Table) → lim.text ≤ lim.room → read lim s ≡ accepted_reading t → Shaped lim.room t
+read_shaped lim s t h e = let d = (read_exactly lim s t).0 e in derived_shaped lim.room s t d.0 (omega (arith, h, d.1))
 
-pub read-well : (lim : Limits) (s : List ℕ) (t : Table) → lim.text ≤ lim.room → read lim s ≡ acceptedReading t → wellFormed t ≡ true
-read-well lim s t h e = derived-formed lim.room s t ((read-exactly lim s t).0 e).0 (read-shaped lim s t h e)
+pub read_well : (lim : Limits) (s : List ℕ) (t : Table) → lim.text ≤ lim.room → read lim s ≡ accepted_reading t → well_formed t ≡ true
+read_well lim s t h e = derived_formed lim.room s t ((read_exactly lim s t).0 e).0 (read_shaped lim s t h e)

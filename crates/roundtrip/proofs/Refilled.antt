@@ -12,13 +12,13 @@ use Rattle.definitions.specs.declared.table.Item.{Item}
 use Rattle.definitions.specs.declared.table.Item.TheVariants as item
 use Rattle.definitions.specs.declared.table.Address.{Address}
 use Rattle.definitions.specs.declared.table.Slot.{Slot}
-use Rattle.definitions.specs.Limits.{maxAddresses}
+use Rattle.definitions.specs.Limits.{max_addresses}
 use Rattle.definitions.specs.Lists.{all?, padded}
-use Rattle.definitions.specs.Tables.{noAddress, no_slot}
+use Rattle.definitions.specs.Tables.{no_address, no_slot}
 use Rattle.definitions.specs.Items.{kind_of}
-use Rattle.definitions.specs.WellFormed.{is_zero, addressFits, addressUnused, addressesFit, isUnused, slotUnused}
+use Rattle.definitions.specs.WellFormed.{is_zero, address_fits, address_unused, addresses_fit, is_unused, slot_unused}
 use Rattle.roundtrip.proofs.AllTests.{halves, all_head, all_tail, all_drop, all_both}
-use Rattle.roundtrip.proofs.Shape.{wholeSlot}
+use Rattle.roundtrip.proofs.Shape.{whole_slot}
 
 module _ {A : Type 0} (f : A → Bool) (x : A) (only : (a : A) → f a ≡ true → a ≡ x) where
   all_same : (l : List A) → all? f l ≡ true → l ≡ replicate (length l) x
@@ -32,49 +32,49 @@ module _ {A : Type 0} (f : A → Bool) (x : A) (only : (a : A) → f a ≡ true 
 
 -- ---- bytes
 
-pub bytes-refilled : (n k : ℕ) (l : List ℕ) → length l ≡ n → all? is_zero (drop k l) ≡ true → padded n 0 (take k l) ≡ l
-bytes-refilled = refilled is_zero 0 (λ b t. eqb-true b 0 t)
+pub bytes_refilled : (n k : ℕ) (l : List ℕ) → length l ≡ n → all? is_zero (drop k l) ≡ true → padded n 0 (take k l) ≡ l
+bytes_refilled = refilled is_zero 0 (λ b t. eqb-true b 0 t)
 
 -- ---- addresses
 
-unused-address : (a : Address) → addressUnused a ≡ true → a ≡ noAddress
-unused-address a t =
+unused_address : (a : Address) → address_unused a ≡ true → a ≡ no_address
+unused_address a t =
     let h = halves t in
     let p = eqb-true a.number 0 h.0 in
     let q = eqb-true a.prefix 0 h.1 in
     λ i. record { number = p i; prefix = q i }
 
-pub addresses-refilled : (k : ℕ) (al : List Address) → length al ≡ maxAddresses → addressesFit k al ≡ true → padded maxAddresses noAddress (take k al) ≡ al
-addresses-refilled k al e t =
-    refilled addressUnused noAddress unused-address maxAddresses k al e (both_right (all? addressFits (take k al)) (all? addressUnused (drop k al)) t)
+pub addresses_refilled : (k : ℕ) (al : List Address) → length al ≡ max_addresses → addresses_fit k al ≡ true → padded max_addresses no_address (take k al) ≡ al
+addresses_refilled k al e t =
+    refilled address_unused no_address unused_address max_addresses k al e (both_right (all? address_fits (take k al)) (all? address_unused (drop k al)) t)
 
 -- ---- slots
 
-unused-item : (it : Item) → isUnused (kind_of it) ≡ true → it ≡ item.Unused
-unused-item item.Unused t = refl
-unused-item (item.Address a) t = never (cc)
-unused-item item.SameIp t = never (cc)
-unused-item (item.Number a) t = never (cc)
-unused-item (item.Ttl a) t = never (cc)
-unused-item (item.Field a) t = never (cc)
-unused-item (item.Size a) t = never (cc)
-unused-item (item.At a) t = never (cc)
-unused-item (item.Byte a) t = never (cc)
-unused-item (item.Pattern a) t = never (cc)
+unused_item : (it : Item) → is_unused (kind_of it) ≡ true → it ≡ item.Unused
+unused_item item.Unused t = refl
+unused_item (item.Address a) t = never (cc)
+unused_item item.SameIp t = never (cc)
+unused_item (item.Number a) t = never (cc)
+unused_item (item.Ttl a) t = never (cc)
+unused_item (item.Field a) t = never (cc)
+unused_item (item.Size a) t = never (cc)
+unused_item (item.At a) t = never (cc)
+unused_item (item.Byte a) t = never (cc)
+unused_item (item.Pattern a) t = never (cc)
 
 -- not in use, with all its addresses
-abbrev emptySlot : Slot → Bool
-emptySlot sl = slotUnused sl && wholeSlot sl
+abbrev empty_slot : Slot → Bool
+empty_slot sl = slot_unused sl && whole_slot sl
 
-empty-slot : (sl : Slot) → emptySlot sl ≡ true → sl ≡ no_slot
+empty_slot_lem : (sl : Slot) → empty_slot sl ≡ true → sl ≡ no_slot
 unfolding all?
-empty-slot sl t =
+empty_slot_lem sl t =
     let h = halves t in
     let g = halves h.0 in
-    let p = unused-item sl.item g.0 in
-    let q : sl.addresses ≡ padded maxAddresses noAddress [] =
-    sym (addresses-refilled 0 sl.addresses (eqb-true (length sl.addresses) maxAddresses h.1) g.1) in
+    let p = unused_item sl.item g.0 in
+    let q : sl.addresses ≡ padded max_addresses no_address [] =
+    sym (addresses_refilled 0 sl.addresses (eqb-true (length sl.addresses) max_addresses h.1) g.1) in
     λ i. record { item = p i; addresses = q i }
 
-pub slots-refilled : (n k : ℕ) (l : List Slot) → length l ≡ n → all? wholeSlot l ≡ true → all? slotUnused (drop k l) ≡ true → padded n no_slot (take k l) ≡ l
-slots-refilled n k l e w t = refilled emptySlot no_slot empty-slot n k l e (all_both slotUnused wholeSlot (drop k l) t (all_drop wholeSlot k l w))
+pub slots_refilled : (n k : ℕ) (l : List Slot) → length l ≡ n → all? whole_slot l ≡ true → all? slot_unused (drop k l) ≡ true → padded n no_slot (take k l) ≡ l
+slots_refilled n k l e w t = refilled empty_slot no_slot empty_slot_lem n k l e (all_both slot_unused whole_slot (drop k l) t (all_drop whole_slot k l w))

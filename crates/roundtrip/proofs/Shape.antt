@@ -9,47 +9,47 @@ use lib.Dec.{eqb}
 use borrow.Author.Tests.{eq-eqb, eqb-true, leb-true}
 use Rattle.definitions.specs.declared.table.Slot.{Slot}
 use Rattle.definitions.specs.declared.table.Table.{Table}
-use Rattle.definitions.specs.Limits.{maxName, maxItems, maxAddresses}
+use Rattle.definitions.specs.Limits.{max_name, max_items, max_addresses}
 use Rattle.definitions.specs.Lists.{all?, padded}
 use Rattle.definitions.specs.OptionValues.{OptionValue, Name, Protocol, Flow, Test, Pattern, Modified}
-use Rattle.definitions.specs.Tables.{nameIn, noAddress, slot_of, no_slot, slotsIn, bytesIn, table_of}
+use Rattle.definitions.specs.Tables.{name_in, no_address, slot_of, no_slot, slots_in, bytes_in, table_of}
 use Rattle.definitions.specs.WellFormed.{Shaped}
-use Rattle.list_laws.proofs.Padded.{padded-full}
-use Rattle.roundtrip.proofs.AllTests.{all_none, all_more, all_head, all_tail, all_append, all_replicate, all_of, all-each}
-use Rattle.roundtrip.proofs.Counts.{fewAddresses}
+use Rattle.list_laws.proofs.Padded.{padded_full}
+use Rattle.roundtrip.proofs.AllTests.{all_none, all_more, all_head, all_tail, all_append, all_replicate, all_of, all_each}
+use Rattle.roundtrip.proofs.Counts.{few_addresses}
 
 -- ---- each slot has its addresses
 
-abbrev pub wholeSlot : Slot → Bool
-wholeSlot sl = eqb (length sl.addresses) maxAddresses
+abbrev pub whole_slot : Slot → Bool
+whole_slot sl = eqb (length sl.addresses) max_addresses
 
-slots-whole : (es : List OptionValue) → all? fewAddresses es ≡ true → all? wholeSlot (slotsIn es) ≡ true
-unfolding slotsIn
-slots-whole [] f = all_none wholeSlot
-slots-whole (Name n ∷ es) f = slots-whole es (all_tail fewAddresses (Name n) es f)
-slots-whole (Protocol p ∷ es) f = slots-whole es (all_tail fewAddresses (Protocol p) es f)
-slots-whole (Flow g ∷ es) f = slots-whole es (all_tail fewAddresses (Flow g) es f)
-slots-whole (Test it al ∷ es) f =
-    let h = padded-full maxAddresses noAddress al (leb-true (length al) maxAddresses (all_head fewAddresses (Test it al) es f)) in
-    all_more wholeSlot (slot_of it al) (slotsIn es) (eq-eqb (length (padded maxAddresses noAddress al)) maxAddresses h)
-    (slots-whole es (all_tail fewAddresses (Test it al) es f))
-slots-whole (Pattern n b ∷ es) f = all_more wholeSlot _ (slotsIn es) refl (slots-whole es (all_tail fewAddresses (Pattern n b) es f))
-slots-whole (Modified m ∷ es) f = slots-whole es (all_tail fewAddresses (Modified m) es f)
+slots_whole : (es : List OptionValue) → all? few_addresses es ≡ true → all? whole_slot (slots_in es) ≡ true
+unfolding slots_in
+slots_whole [] f = all_none whole_slot
+slots_whole (Name n ∷ es) f = slots_whole es (all_tail few_addresses (Name n) es f)
+slots_whole (Protocol p ∷ es) f = slots_whole es (all_tail few_addresses (Protocol p) es f)
+slots_whole (Flow g ∷ es) f = slots_whole es (all_tail few_addresses (Flow g) es f)
+slots_whole (Test it al ∷ es) f =
+    let h = padded_full max_addresses no_address al (leb-true (length al) max_addresses (all_head few_addresses (Test it al) es f)) in
+    all_more whole_slot (slot_of it al) (slots_in es) (eq-eqb (length (padded max_addresses no_address al)) max_addresses h)
+    (slots_whole es (all_tail few_addresses (Test it al) es f))
+slots_whole (Pattern n b ∷ es) f = all_more whole_slot _ (slots_in es) refl (slots_whole es (all_tail few_addresses (Pattern n b) es f))
+slots_whole (Modified m ∷ es) f = slots_whole es (all_tail few_addresses (Modified m) es f)
 
-pub table-shaped : (room : ℕ) (es : List OptionValue) → length (nameIn es) ≤ maxName → length (bytesIn es) ≤ room → length (slotsIn es) ≤ maxItems
-    → all? fewAddresses es ≡ true → Shaped room (table_of room es)
+pub table_shaped : (room : ℕ) (es : List OptionValue) → length (name_in es) ≤ max_name → length (bytes_in es) ≤ room → length (slots_in es) ≤ max_items
+    → all? few_addresses es ≡ true → Shaped room (table_of room es)
 unfolding table_of
-table-shaped room es n b s f =
+table_shaped room es n b s f =
     record {
-      named = padded-full maxName 0 (nameIn es) n;
-      roomy = padded-full room 0 (bytesIn es) b;
-      slotted = padded-full maxItems no_slot (slotsIn es) s;
+      named = padded_full max_name 0 (name_in es) n;
+      roomy = padded_full room 0 (bytes_in es) b;
+      slotted = padded_full max_items no_slot (slots_in es) s;
       addressed = λ sl m.
-          eqb-true (length sl.addresses) maxAddresses
-          (all-each wholeSlot m
-          (all_append wholeSlot (slotsIn es) (replicate (maxItems - length (slotsIn es)) no_slot) (slots-whole es f)
-          (all_replicate wholeSlot (maxItems - length (slotsIn es)) no_slot refl)));
+          eqb-true (length sl.addresses) max_addresses
+          (all_each whole_slot m
+          (all_append whole_slot (slots_in es) (replicate (max_items - length (slots_in es)) no_slot) (slots_whole es f)
+          (all_replicate whole_slot (max_items - length (slots_in es)) no_slot refl)));
     }
 
-pub slots-shaped : (room : ℕ) (t : Table) → Shaped room t → all? wholeSlot t.items ≡ true
-slots-shaped room t h = all_of wholeSlot t.items (λ sl m. eq-eqb (length sl.addresses) maxAddresses (h.addressed sl m))
+pub slots_shaped : (room : ℕ) (t : Table) → Shaped room t → all? whole_slot t.items ≡ true
+slots_shaped room t h = all_of whole_slot t.items (λ sl m. eq-eqb (length sl.addresses) max_addresses (h.addressed sl m))

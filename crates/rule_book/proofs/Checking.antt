@@ -14,17 +14,17 @@ use Rattle.definitions.specs.declared.answers.ReadOutcome.{ReadOutcome}
 use Rattle.definitions.specs.declared.answers.ReadOutcome.TheVariants as outcome
 use Rattle.definitions.specs.declared.answers.Reading.{Reading}
 use Rattle.definitions.specs.declared.books.LoadedRule.{LoadedRule}
-use Rattle.definitions.specs.Limits.{documentLimits, maxRules}
+use Rattle.definitions.specs.Limits.{document_limits, max_rules}
 use Rattle.definitions.specs.Reading.{read}
-use Rattle.definitions.specs.Books.{isRule, ruleNumber, ruleSource, ruleOf, lineCheck}
-use Rattle.definitions.specs.LoadedBooks.{sourceStart, loaded_at}
-use Rattle.line_parts.proofs.Results.{failed-test, parsed-test, parsed-value}
+use Rattle.definitions.specs.Books.{is_rule, rule_number, rule_source, rule_of, line_check}
+use Rattle.definitions.specs.LoadedBooks.{source_start, loaded_at}
+use Rattle.line_parts.proofs.Results.{failed_test, parsed_test, parsed_value}
 use Rattle.book_rules.specs.declared.RuleResult.{RuleResult}
 use Rattle.book_rules.specs.declared.RuleResult.TheVariants.{Parsed, Failed}
-use Rattle.book_rules.specs.RuleLines.{parsedRule}
-use Rattle.book_laws.proofs.Sources.{source-within, source-at}
+use Rattle.book_rules.specs.RuleLines.{parsed_rule}
+use Rattle.book_laws.proofs.Sources.{source_within, source_at}
 use Rattle.rule_book.specs.declared.LineResult.TheVariants.{Passed, Refused}
-use Rattle.rule_book.specs.Lines.{checkedLine}
+use Rattle.rule_book.specs.Lines.{checked_line}
 
 -- the two answers for a line's form are apart
 apart : (v : LoadedRule) → Parsed v ≡ Failed → ⊥
@@ -34,52 +34,52 @@ same : (v w : LoadedRule) → Parsed v ≡ Parsed w → v ≡ w
 same v w e = cc
 
 -- from a place up to so many bytes further, as a slice has it
-pub part-long : (start len : ℕ) (l : List ℕ) → take (start + len - start) (drop start l) ≡ take len (drop start l)
-part-long start len l = let z : start + len - start ≡ len = omega arith in ap (λ (n : ℕ). take n (drop start l)) z
+pub part_long : (start len : ℕ) (l : List ℕ) → take (start + len - start) (drop start l) ≡ take len (drop start l)
+part_long start len l = let z : start + len - start ≡ len = omega arith in ap (λ (n : ℕ). take n (drop start l)) z
 
 module _ (n last : ℕ) (l : List ℕ) where
-  pub line-over : maxRules ≤ n → Refused refusal.RuleCount ≡ checkedLine documentLimits n last l
-  unfolding checkedLine lineCheck
-  line-over h = rw (lt-ltb maxRules (suc n) (omega (arith, h)))
+  pub line_over : max_rules ≤ n → Refused refusal.RuleCount ≡ checked_line document_limits n last l
+  unfolding checked_line line_check
+  line_over h = rw (lt-ltb max_rules (suc n) (omega (arith, h)))
 
-  module _ (few : n < maxRules) (x : RuleResult) (e : x ≡ parsedRule l) where
-    pub other-form : x ≡ Failed → Refused refusal.RuleForm ≡ checkedLine documentLimits n last l
-    unfolding checkedLine lineCheck parsedRule
-    other-form k = rw (le-ltb maxRules (suc n) (omega (arith, few)), failed-test Parsed Failed apart (isRule l) (loaded_at 0 l) (sym e ∙ k))
+  module _ (few : n < max_rules) (x : RuleResult) (e : x ≡ parsed_rule l) where
+    pub other_form : x ≡ Failed → Refused refusal.RuleForm ≡ checked_line document_limits n last l
+    unfolding checked_line line_check parsed_rule
+    other_form k = rw (le-ltb max_rules (suc n) (omega (arith, few)), failed_test Parsed Failed apart (is_rule l) (loaded_at 0 l) (sym e ∙ k))
 
     module _ (r : LoadedRule) (k : x ≡ Parsed r) where
-      is-rule : (isRule l ≡ true) × (r ≡ loaded_at 0 l)
-      unfolding parsedRule
-      is-rule = (parsed-test Parsed Failed apart (isRule l) (loaded_at 0 l) r (sym e ∙ k), sym (parsed-value Parsed Failed apart same (isRule l) (loaded_at 0 l) r (sym e ∙ k)))
+      is-rule : (is_rule l ≡ true) × (r ≡ loaded_at 0 l)
+      unfolding parsed_rule
+      is-rule = (parsed_test Parsed Failed apart (is_rule l) (loaded_at 0 l) r (sym e ∙ k), sym (parsed_value Parsed Failed apart same (is_rule l) (loaded_at 0 l) r (sym e ∙ k)))
 
       -- its text lies in the line
       pub text-within : r.start + r.len ≤ length l
       unfolding loaded_at
-      text-within = rw is-rule.1 (omega (arith, source-within l))
+      text-within = rw is-rule.1 (omega (arith, source_within l))
 
-      pub text-is : take r.len (drop r.start l) ≡ ruleSource l
+      pub text-is : take r.len (drop r.start l) ≡ rule_source l
       unfolding loaded_at
-      text-is = let z : 0 + sourceStart l ≡ sourceStart l = omega arith in rw (is-rule.1, z) (source-at l)
+      text-is = let z : 0 + source_start l ≡ source_start l = omega arith in rw (is-rule.1, z) (source_at l)
 
-      number_is : r.number ≡ ruleNumber l
-      unfolding loaded_at ruleOf
+      number_is : r.number ≡ rule_number l
+      unfolding loaded_at rule_of
       number_is = rw is-rule.1
 
-      pub not-rising : r.number ≤ last → Refused refusal.RuleOrder ≡ checkedLine documentLimits n last l
-      unfolding checkedLine lineCheck
-      not-rising h = rw (le-ltb maxRules (suc n) (omega (arith, few)), is-rule.0, le-leb (ruleNumber l) last (omega (arith, h, number_is)))
+      pub not-rising : r.number ≤ last → Refused refusal.RuleOrder ≡ checked_line document_limits n last l
+      unfolding checked_line line_check
+      not-rising h = rw (le-ltb max_rules (suc n) (omega (arith, few)), is-rule.0, le-leb (rule_number l) last (omega (arith, h, number_is)))
 
-      module _ (rises : last < r.number) (y : Reading) {s : List ℕ} (f : y ≡ read documentLimits s) (g : s ≡ take r.len (drop r.start l)) where
-        outcome-is : y.outcome ≡ (read documentLimits (ruleSource l)).outcome
-        outcome-is = ap (λ (z : Reading). z.outcome) (f ∙ ap (read documentLimits) (g ∙ text-is))
+      module _ (rises : last < r.number) (y : Reading) {s : List ℕ} (f : y ≡ read document_limits s) (g : s ≡ take r.len (drop r.start l)) where
+        outcome-is : y.outcome ≡ (read document_limits (rule_source l)).outcome
+        outcome-is = ap (λ (z : Reading). z.outcome) (f ∙ ap (read document_limits) (g ∙ text-is))
 
-        pub text-refused : (c : Refusal) (place : ℕ) → y.outcome ≡ outcome.Refused c place → Refused c ≡ checkedLine documentLimits n last l
-        unfolding checkedLine lineCheck
+        pub text-refused : (c : Refusal) (place : ℕ) → y.outcome ≡ outcome.Refused c place → Refused c ≡ checked_line document_limits n last l
+        unfolding checked_line line_check
         text-refused c place q =
-            rw (le-ltb maxRules (suc n) (omega (arith, few)), is-rule.0, lt-leb (ruleNumber l) last (omega (arith, rises, number_is)), sym outcome-is ∙ q)
+            rw (le-ltb max_rules (suc n) (omega (arith, few)), is-rule.0, lt-leb (rule_number l) last (omega (arith, rises, number_is)), sym outcome-is ∙ q)
 
-        pub line-passed : y.outcome ≡ outcome.Accepted → Passed r ≡ checkedLine documentLimits n last l
-        unfolding checkedLine lineCheck
+        pub line-passed : y.outcome ≡ outcome.Accepted → Passed r ≡ checked_line document_limits n last l
+        unfolding checked_line line_check
         line-passed q =
-            rw (le-ltb maxRules (suc n) (omega (arith, few)), is-rule.0, lt-leb (ruleNumber l) last (omega (arith, rises, number_is)), sym outcome-is ∙ q)
+            rw (le-ltb max_rules (suc n) (omega (arith, few)), is-rule.0, lt-leb (rule_number l) last (omega (arith, rises, number_is)), sym outcome-is ∙ q)
             (ap Passed is-rule.1)

@@ -11,39 +11,39 @@ use Rattle.definitions.specs.declared.answers.Reading.{Reading}
 use Rattle.definitions.specs.declared.books.LoadedRule.{LoadedRule}
 use Rattle.definitions.specs.declared.books.Rules.{Rules}
 use Rattle.definitions.specs.declared.books.LoadedBook.{LoadedBook}
-use Rattle.definitions.specs.Limits.{documentLimits}
+use Rattle.definitions.specs.Limits.{document_limits}
 use Rattle.definitions.specs.Reading.{read}
 use Rattle.definitions.specs.Books.{Rule, judge}
-use Rattle.definitions.specs.LoadedBooks.{ruleAt, rulesIn, loaded}
+use Rattle.definitions.specs.LoadedBooks.{rule_at, rules_in, loaded}
 use Rattle.list_laws.proofs.Every.{drop_here}
-use Rattle.book_laws.proofs.Loaded.{loaded-judgement}
+use Rattle.book_laws.proofs.Loaded.{loaded_judgement}
 
 module _ (book : List ℕ) (rs : Rules) where
-  abbrev pub rulesFrom : ℕ → List Rule
-  rulesFrom i = map (ruleAt book) (drop i (take rs.count rs.list))
+  abbrev pub rules_from : ℕ → List Rule
+  rules_from i = map (rule_at book) (drop i (take rs.count rs.list))
 
-  pub rules-all : rulesIn book rs ≡ rulesFrom 0
-  unfolding rulesIn
-  rules-all = refl
+  pub rules_all : rules_in book rs ≡ rules_from 0
+  unfolding rules_in
+  rules_all = refl
 
-  pub rules-here : (i : ℕ) (d : LoadedRule) → i < rs.count → i < length rs.list → rulesFrom i ≡ ruleAt book (get_or rs.list i d) ∷ rulesFrom (i + 1)
-  rules-here i d h l =
+  pub rules_here : (i : ℕ) (d : LoadedRule) → i < rs.count → i < length rs.list → rules_from i ≡ rule_at book (get_or rs.list i d) ∷ rules_from (i + 1)
+  rules_here i d h l =
       let n : i < length (take rs.count rs.list) = omega (arith, h, l, length-take rs.count rs.list) in
-      ap (map (ruleAt book)) (drop_here (take rs.count rs.list) i d n)
-      ∙ ap (λ (x : LoadedRule). ruleAt book x ∷ rulesFrom (i + 1)) (get_or-take rs.count rs.list i d h)
+      ap (map (rule_at book)) (drop_here (take rs.count rs.list) i d n)
+      ∙ ap (λ (x : LoadedRule). rule_at book x ∷ rules_from (i + 1)) (get_or-take rs.count rs.list i d h)
 
-  pub rules-out : (i : ℕ) → (rs.count ≤ i) ⊎ (length rs.list ≤ i) → rulesFrom i ≡ []
-  rules-out i h =
+  pub rules_out : (i : ℕ) → (rs.count ≤ i) ⊎ (length rs.list ≤ i) → rules_from i ≡ []
+  rules_out i h =
       let n : length (take rs.count rs.list) ≤ i =
       ⊎_elim (λ a. omega (arith, a, length-take rs.count rs.list)) (λ b. omega (arith, b, length-take rs.count rs.list)) h in
-      ap (map (ruleAt book)) (drop_of_length-le (take rs.count rs.list) n)
+      ap (map (rule_at book)) (drop_of_length-le (take rs.count rs.list) n)
 
 -- what was read at a rule's place is the reading of its text
-pub source-read : (book : List ℕ) (r : LoadedRule) {x : Reading} {s : List ℕ} → x ≡ read documentLimits s → s ≡ take r.len (drop r.start book)
-    → x ≡ read documentLimits (ruleAt book r).source
-unfolding ruleAt
-source-read book r e k = e ∙ ap (read documentLimits) k
+pub source_read : (book : List ℕ) (r : LoadedRule) {x : Reading} {s : List ℕ} → x ≡ read document_limits s → s ≡ take r.len (drop r.start book)
+    → x ≡ read document_limits (rule_at book r).source
+unfolding rule_at
+source_read book r e k = e ∙ ap (read document_limits) k
 
 -- a loaded book has the book's judgement
-pub judged : (book : List ℕ) {b : LoadedBook} → b ≡ loaded documentLimits book → b.judgement ≡ judge documentLimits book
-judged book e = ap (λ (x : LoadedBook). x.judgement) e ∙ loaded-judgement documentLimits book
+pub judged : (book : List ℕ) {b : LoadedBook} → b ≡ loaded document_limits book → b.judgement ≡ judge document_limits book
+judged book e = ap (λ (x : LoadedBook). x.judgement) e ∙ loaded_judgement document_limits book

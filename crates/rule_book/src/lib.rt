@@ -1,10 +1,10 @@
 // A rule book: judged line by line, and loaded. THE PUBLIC ENTRIES of books: they take any bytes.
 ghost use Rattle.std.specs.Prelude.{◌≡◌, ◌+◌, ◌≤◌, replicate, take, drop};
-ghost use Rattle.definitions.specs.Limits.{documentLimits, maxBook, maxRules};
+ghost use Rattle.definitions.specs.Limits.{document_limits, max_book, max_rules};
 ghost use Rattle.definitions.specs.Books.{judge as judgement};
-ghost use Rattle.definitions.specs.LoadedBooks.{unusedRule, loaded};
-ghost use Rattle.definitions.specs.AnswerNumbers.{judgementNumbers, judgementInNumbers};
-ghost use Rattle.rule_book.specs.Lines.{firstLine, checkedLine, refusedBook, moved_to};
+ghost use Rattle.definitions.specs.LoadedBooks.{unused_rule, loaded};
+ghost use Rattle.definitions.specs.AnswerNumbers.{judgement_numbers, judgement_in_numbers};
+ghost use Rattle.rule_book.specs.Lines.{first_line, checked_line, refused_book, moved_to};
 
 use book_rules::{RuleResult, parse_rule};
 use definitions::answers::{ReadOutcome, Refusal};
@@ -21,7 +21,7 @@ pub enum LineResult {
 
 // The first line of what is left of a book, with its LF if it has one.
 fn first_line<'a>(s: &'a [u8]) -> &'a [u8]
-    ensures { result.now ≡ firstLine s.now }
+    ensures { result.now ≡ first_line s.now }
 {
     let n = part_before(s, b'\n').len();
     if n < s.len() {
@@ -32,7 +32,7 @@ fn first_line<'a>(s: &'a [u8]) -> &'a [u8]
 
 // A line after n others, of which the last has the number `last`: 53, 51, 52, the text's own refusal, or its rule.
 fn check_line(l: &[u8], n: usize, last: u16) -> LineResult
-    ensures { result ≡ checkedLine documentLimits n last l.now }
+    ensures { result ≡ checked_line document_limits n last l.now }
 {
     if RULES <= n {
         return LineResult::Refused(Refusal::RuleCount);
@@ -55,7 +55,7 @@ fn check_line(l: &[u8], n: usize, last: u16) -> LineResult
 
 // A rule by its place in its line, as one by its place in the book.
 fn moved_to(at: usize, rule: LoadedRule) -> LoadedRule
-    requires { at + rule.start ≤ maxBook }
+    requires { at + rule.start ≤ max_book }
     ensures { result ≡ moved_to at rule }
 {
     let state = rule.state;
@@ -71,7 +71,7 @@ fn moved_to(at: usize, rule: LoadedRule) -> LoadedRule
 
 // Room for rules, none in use.
 fn no_rules() -> [LoadedRule; RULES]
-    ensures { result ≡ replicate maxRules unusedRule }
+    ensures { result ≡ replicate max_rules unused_rule }
 {
     [LoadedRule {
         number: 0,
@@ -84,7 +84,7 @@ fn no_rules() -> [LoadedRule; RULES]
 
 // A refused book: no rules.
 fn refused_book(r: Refusal, line: usize) -> LoadedBook
-    ensures { result ≡ refusedBook r line }
+    ensures { result ≡ refused_book r line }
 {
     let list = no_rules();
     LoadedBook {
@@ -95,7 +95,7 @@ fn refused_book(r: Refusal, line: usize) -> LoadedBook
 
 // LOADING: the book is judged, and its rules are kept by where their texts stand.
 pub fn load(book: &[u8]) -> LoadedBook
-    ensures { result ≡ loaded documentLimits book.now }
+    ensures { result ≡ loaded document_limits book.now }
 {
     if BOOK_BYTES < book.len() {
         return refused_book(Refusal::BookLength, 0);
@@ -127,8 +127,8 @@ pub fn load(book: &[u8]) -> LoadedBook
 
 // JUDGING: how many rules the book has, or the first refusal and its line.
 pub fn judge(book: &[u8]) -> Judgement
-    ensures answer { result ≡ judgement documentLimits book.now }
-    ensures numbers { judgementNumbers result ≡ judgementInNumbers documentLimits book.now }
+    ensures answer { result ≡ judgement document_limits book.now }
+    ensures numbers { judgement_numbers result ≡ judgement_in_numbers document_limits book.now }
 {
     let b = load(book);
     b.judgement

@@ -7,20 +7,20 @@ use lib.Dec.{leb}
 use borrow.Author.Tests.{leb-true}
 use Rattle.forms.specs.Bytes.{between}
 use Rattle.forms.specs.Form.{has}
-use Rattle.forms.proofs.Bools.{by_cases, both_left, or-false}
-use Rattle.scan_bytes.specs.Classes.{caseClass}
+use Rattle.forms.proofs.Bools.{by_cases, both_left, or_false}
+use Rattle.scan_bytes.specs.Classes.{case_class}
 
-pub case_same : (y b : ℕ) → between y y b ≡ true → true ≡ has (caseClass y) b
+pub case_same : (y b : ℕ) → between y y b ≡ true → true ≡ has (case_class y) b
 unfolding has
 case_same y b e = by_cases (between 97 122 y) (λ t. rw (t, e)) (λ t. rw (t, e))
 
-pub case-low : (y : ℕ) → between 97 122 y ≡ true → 32 ≤ y
-case-low y e = let h = leb-true 97 y (both_left (leb 97 y) (leb y 122) e) in omega arith
+pub case_low : (y : ℕ) → between 97 122 y ≡ true → 32 ≤ y
+case_low y e = let h = leb-true 97 y (both_left (leb 97 y) (leb y 122) e) in omega arith
 
-pub case-other : (y b : ℕ) (x : Bool) → between y y b ≡ false → between 97 122 y ≡ true → x ≡ between (y - 32) (y - 32) b → x ≡ has (caseClass y) b
+pub case_other : (y b : ℕ) (x : Bool) → between y y b ≡ false → between 97 122 y ≡ true → x ≡ between (y - 32) (y - 32) b → x ≡ has (case_class y) b
 unfolding has
-case-other y b x e t f = rw (t, e, or-false (between (y - 32) (y - 32) b)) f
+case_other y b x e t f = rw (t, e, or_false (between (y - 32) (y - 32) b)) f
 
-pub case-only : (y b : ℕ) → between y y b ≡ false → between 97 122 y ≡ false → false ≡ has (caseClass y) b
+pub case_only : (y b : ℕ) → between y y b ≡ false → between 97 122 y ≡ false → false ≡ has (case_class y) b
 unfolding has
-case-only y b e t = rw (t, e)
+case_only y b e t = rw (t, e)

@@ -10,14 +10,14 @@ use lib.Seq.{drop-cons}
 use lib.Dec.{leb, ltb}
 use borrow.Author.Tests.{ltb-true, ltb-false, le-ltb}
 use Rattle.forms.proofs.Bools.{by_cases}
-use Rattle.definitions.specs.Limits.{maxByte}
-use Rattle.definitions.specs.Numbers.{digitValue, value_of}
-use Rattle.scan_bytes.specs.Capped.{numberCap, capped}
+use Rattle.definitions.specs.Limits.{max_byte}
+use Rattle.definitions.specs.Numbers.{digit_value, value_of}
+use Rattle.scan_bytes.specs.Capped.{number_cap, capped}
 
 -- a digit writes at most its byte
-pub digit-le : (b : ℕ) → digitValue b ≤ b
-unfolding digitValue
-digit-le b = by_cases (leb b 57) (λ t. rw t (omega arith)) (λ t. rw t (by_cases (leb b 70) (λ u. rw u (omega arith)) (λ u. rw u (omega arith))))
+pub digit_le : (b : ℕ) → digit_value b ≤ b
+unfolding digit_value
+digit_le b = by_cases (leb b 57) (λ t. rw t (omega arith)) (λ t. rw t (by_cases (leb b 70) (λ u. rw u (omega arith)) (λ u. rw u (omega arith))))
 
 -- ---- the sum that stands still
 
@@ -26,47 +26,47 @@ module _ (base : ℕ) (low : 1 ≤ base) where
   grows : (a : ℕ) (l : List ℕ) → a ≤ value_of base a l
   unfolding value_of
   grows a [] = omega arith
-  grows a (b ∷ l) = omega (arith, le-mul_of_pos_right {m = base} a (omega arith), grows (a * base + digitValue b) l)
+  grows a (b ∷ l) = omega (arith, le-mul_of_pos_right {m = base} a (omega arith), grows (a * base + digit_value b) l)
 
-  capped-on : (x : ℕ) (l : List ℕ) → capped (value_of base (capped x) l) ≡ capped (value_of base x l)
-  capped-on x l =
-      by_cases (ltb x numberCap)
+  capped_on : (x : ℕ) (l : List ℕ) → capped (value_of base (capped x) l) ≡ capped (value_of base x l)
+  capped_on x l =
+      by_cases (ltb x number_cap)
       (λ t. rw t)
-      (λ t. let h = ltb-false x numberCap t in
-      rw (t, le-ltb (value_of base numberCap l) numberCap (grows numberCap l), le-ltb (value_of base x l) numberCap (omega (arith, grows x l))))
+      (λ t. let h = ltb-false x number_cap t in
+      rw (t, le-ltb (value_of base number_cap l) number_cap (grows number_cap l), le-ltb (value_of base x l) number_cap (omega (arith, grows x l))))
 
   -- what the loop keeps: what is still to come of the sum
   pub record Sum (s : List ℕ) (at end v i : ℕ) : Type 0 where
     pub from : at ≤ i
     pub to : i ≤ end
-    pub small : v ≤ numberCap
+    pub small : v ≤ number_cap
     pub sum : capped (value_of base 0 (take (end - at) (drop at s))) ≡ capped (value_of base v (take (end - i) (drop i s)))
 
-capped_le : (x : ℕ) → capped x ≤ numberCap
-capped_le x = by_cases (ltb x numberCap) (λ t. rw t (omega (arith, ltb-true x numberCap t))) (λ t. rw t (omega arith))
+capped_le : (x : ℕ) → capped x ≤ number_cap
+capped_le x = by_cases (ltb x number_cap) (λ t. rw t (omega (arith, ltb-true x number_cap t))) (λ t. rw t (omega arith))
 
-next-digit : (s : List ℕ) (i end : ℕ) → i < end → end ≤ length s → take (end - i) (drop i s) ≡ get_or s i 0 ∷ take (end - (i + 1)) (drop (i + 1) s)
-next-digit s i end h g =
+next_digit : (s : List ℕ) (i end : ℕ) → i < end → end ≤ length s → take (end - i) (drop i s) ≡ get_or s i 0 ∷ take (end - (i + 1)) (drop (i + 1) s)
+next_digit s i end h g =
     let e : end - i ≡ suc (end - (i + 1)) = omega arith in
     rw (e, drop-cons s i 0 (omega arith), add-one)
 
 module _ (base : ℕ) (low : 1 ≤ base) (s : List ℕ) (at end v i : ℕ) (u : Sum base low s at end v i) where
-  pub sum-on : i < end → end ≤ length s → (x : ℕ) → x ≡ capped (v * base + digitValue (get_or s i 0)) → Sum base low s at end x (i + 1)
+  pub sum_on : i < end → end ≤ length s → (x : ℕ) → x ≡ capped (v * base + digit_value (get_or s i 0)) → Sum base low s at end x (i + 1)
   unfolding value_of
-  sum-on h g x e =
+  sum_on h g x e =
       record {
         from = omega (arith, u.from);
         to = omega arith;
-        small = rw e (capped_le (v * base + digitValue (get_or s i 0)));
-        sum = u.sum ∙ rw (next-digit s i end h g, e) (sym (capped-on base low (v * base + digitValue (get_or s i 0)) (take (end - (i + 1)) (drop (i + 1) s))));
+        small = rw e (capped_le (v * base + digit_value (get_or s i 0)));
+        sum = u.sum ∙ rw (next_digit s i end h g, e) (sym (capped_on base low (v * base + digit_value (get_or s i 0)) (take (end - (i + 1)) (drop (i + 1) s))));
       }
 
-  pub sum-out : end ≤ i → v ≡ capped (value_of base 0 (take (end - at) (drop at s)))
+  pub sum_out : end ≤ i → v ≡ capped (value_of base 0 (take (end - at) (drop at s)))
   unfolding value_of
-  sum-out h =
+  sum_out h =
       let z : end - i ≡ 0 = omega arith in
-      let k : capped v ≡ v = by_cases (ltb v numberCap) (λ t. rw t) (λ t. rw t (omega (arith, ltb-false v numberCap t, u.small))) in
+      let k : capped v ≡ v = by_cases (ltb v number_cap) (λ t. rw t) (λ t. rw t (omega (arith, ltb-false v number_cap t, u.small))) in
       sym (u.sum ∙ rw z k)
 
-pub product-fits : (v base d : ℕ) → v ≤ numberCap → base ≤ 16 → d ≤ maxByte → v * base + d ≤ 68719477000
-product-fits v base d h g k = omega (arith, mul-le-mul {n₁ = v} {m₁ = base} {n₂ = numberCap} {m₂ = 16} h g, k)
+pub product_fits : (v base d : ℕ) → v ≤ number_cap → base ≤ 16 → d ≤ max_byte → v * base + d ≤ 68719477000
+product_fits v base d h g k = omega (arith, mul-le-mul {n₁ = v} {m₁ = base} {n₂ = number_cap} {m₂ = 16} h g, k)

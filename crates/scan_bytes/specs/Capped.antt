@@ -2,8 +2,8 @@
 use Rattle.std.specs.Prelude.{ℕ, ltb}
 use Rattle.forms.specs.Bytes.{if◌then◌else◌}
 
-abbrev pub numberCap : ℕ
-numberCap = 4294967296
+abbrev pub number_cap : ℕ
+number_cap = 4294967296
 
 abbrev pub capped : ℕ → ℕ
-capped v = if ltb v numberCap then v else numberCap
+capped v = if ltb v number_cap then v else number_cap

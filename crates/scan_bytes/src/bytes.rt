@@ -2,8 +2,8 @@
 ghost use Rattle.std.specs.Prelude.{◌≡◌};
 ghost use Rattle.forms.specs.Form.{has};
 ghost use Rattle.forms.specs.Bytes.{between};
-ghost use Rattle.definitions.specs.Forms.{plainBytes};
-ghost use Rattle.scan_bytes.specs.Classes.{class_of, caseClass};
+ghost use Rattle.definitions.specs.Forms.{plain_bytes};
+ghost use Rattle.scan_bytes.specs.Classes.{class_of, case_class};
 ghost use Rattle.scan_bytes.specs.declared.bytes.Class.TheVariants.{HexDigit, Quotable, NameByte};
 
 // The classes of bytes that stand in runs.
@@ -50,7 +50,7 @@ fn is_quotable(b: u8) -> bool
 
 // Whether the byte stands for itself in a pattern.
 pub fn is_plain(b: u8) -> bool
-    ensures { result ≡ has plainBytes b }
+    ensures { result ≡ has plain_bytes b }
 {
     if is_between(b' ', b'!', b) {
         return true;
@@ -102,7 +102,7 @@ pub fn in_class(k: Class, b: u8) -> bool
 
 // Whether a byte is the byte `y` of a word, in either letter case.
 pub fn in_case(y: u8, b: u8) -> bool
-    ensures { result ≡ has (caseClass y) b }
+    ensures { result ≡ has (case_class y) b }
 {
     if is_between(y, y, b) {
         return true;

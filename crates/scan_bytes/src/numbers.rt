@@ -1,6 +1,6 @@
 // The numbers that digits write, of any count. Beyond every limit they all are one number, so that none wraps.
 ghost use Rattle.std.specs.Prelude.{◌≡◌, ◌-◌, ◌≤◌, length, take, drop};
-ghost use Rattle.definitions.specs.Numbers.{digitValue, value_of};
+ghost use Rattle.definitions.specs.Numbers.{digit_value, value_of};
 ghost use Rattle.scan_bytes.specs.Capped.{capped};
 
 // The difference, or 0 where there is none.
@@ -17,7 +17,7 @@ const SMALL_ZERO: u8 = 87;
 
 // What a decimal or hex digit writes.
 fn digit_value(b: u8) -> u64
-    ensures { result ≡ digitValue b }
+    ensures { result ≡ digit_value b }
 {
     if b <= b'9' {
         return less(b, b'0');

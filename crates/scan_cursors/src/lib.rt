@@ -1,6 +1,6 @@
 // Where scanning stands in a text.
 ghost use Rattle.std.specs.Prelude.{◌≡◌};
-ghost use Rattle.scan_cursors.specs.Reads.{place_of, outOfRangeBy, joined, limitedBy};
+ghost use Rattle.scan_cursors.specs.Reads.{place_of, out_of_range_by, joined, limited_by};
 
 // At a place; at the second place, a number beyond its limit having stood at the first; or stopped at a place, for good.
 #[derive(Drop)]
@@ -23,7 +23,7 @@ pub fn place(c: Cursor) -> usize
 
 // After a number beyond its limit at the place: where the form stops later, that comes first (6 before 7).
 fn out_of_range(place: usize, d: Cursor) -> Cursor
-    ensures { result ≡ outOfRangeBy place d }
+    ensures { result ≡ out_of_range_by place d }
 {
     match d {
         Cursor::Parsed(at) => Cursor::OutOfRange(place, at),
@@ -46,7 +46,7 @@ pub fn join(c: Cursor, d: Cursor) -> Cursor
 
 // The cursor d after a value from the cursor c on that keeps its limit or not; one beyond its limit is told by its first byte.
 pub fn limited(c: Cursor, kept: bool, d: Cursor) -> Cursor
-    ensures { result ≡ limitedBy kept (place_of c) d }
+    ensures { result ≡ limited_by kept (place_of c) d }
 {
     match d {
         Cursor::Parsed(end) => {

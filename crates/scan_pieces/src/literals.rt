@@ -1,9 +1,9 @@
 // Single bytes and spaces.
 ghost use Rattle.std.specs.Prelude.{◌≡◌, ◌∷◌, [], true, false, ◌≤◌, length, drop};
 ghost use Rattle.forms.specs.Scan.{begins};
-ghost use Rattle.forms.specs.Pieces.{preceded, opt, literal, literalAs};
+ghost use Rattle.forms.specs.Pieces.{preceded, opt, literal, literal_as};
 ghost use Rattle.definitions.specs.Forms.{spaces, gap};
-ghost use Rattle.scan_bytes.specs.Classes.{caseClass};
+ghost use Rattle.scan_bytes.specs.Classes.{case_class};
 ghost use Rattle.scan_cursors.specs.Reads.{Reads, Skips};
 ghost use Rattle.scan_cursors.specs.declared.Cursor.TheVariants.{Parsed};
 
@@ -21,7 +21,7 @@ pub fn stands(s: &[u8], at: usize, b: u8) -> bool
 
 // Whether the byte of a word stands at the place, in either letter case.
 pub fn starts(s: &[u8], at: usize, y: u8) -> bool
-    ensures { result ≡ begins (caseClass y) (drop at s.now) }
+    ensures { result ≡ begins (case_class y) (drop at s.now) }
 {
     if at < s.len() {
         let b = s[at];
@@ -62,7 +62,7 @@ pub struct OptionalLiteral {
 // Whether the byte stands at the place, and the place after it.
 pub fn optional_literal_at(s: &[u8], at: usize, b: u8) -> OptionalLiteral
     requires { at ≤ length s.now }
-    ensures { Reads (opt false (literalAs b true)) s.now (Parsed at) result.yes result.cursor }
+    ensures { Reads (opt false (literal_as b true)) s.now (Parsed at) result.yes result.cursor }
 {
     if stands(s, at, b) {
         OptionalLiteral {

@@ -2,10 +2,10 @@
 ghost use Rattle.std.specs.Prelude.{◌≤◌, ◌<◌, length, ◌≡◌};
 ghost use Rattle.definitions.specs.Numbers.{number, numeral};
 ghost use Rattle.scan_bytes.specs.Classes.{class_of};
-ghost use Rattle.scan_bytes.specs.Capped.{numberCap};
+ghost use Rattle.scan_bytes.specs.Capped.{number_cap};
 ghost use Rattle.scan_cursors.specs.Reads.{Reads};
 ghost use Rattle.scan_cursors.specs.declared.Cursor.TheVariants.{Parsed};
-ghost use Rattle.scan_pieces.specs.Digits.{digitsWithin, hexPrefixed};
+ghost use Rattle.scan_pieces.specs.Digits.{digits_within, hex_prefixed};
 
 use crate::literals::{stands, starts};
 use scan_bytes::bytes::Class;
@@ -22,8 +22,8 @@ pub struct Numeric {
 
 // The run of digits of a class as a number in a base, up to a limit; one beyond it is told by its first digit.
 fn digits_at(s: &[u8], at: usize, k: Class, base: u64, limit: u64) -> Numeric
-    requires { (at ≤ length s.now) × (limit < numberCap) × (1 ≤ base) × (base ≤ 16) }
-    ensures { Reads (digitsWithin (class_of k) base limit) s.now (Parsed at) result.value result.cursor × (result.value ≤ limit) }
+    requires { (at ≤ length s.now) × (limit < number_cap) × (1 ≤ base) × (base ≤ 16) }
+    ensures { Reads (digits_within (class_of k) base limit) s.now (Parsed at) result.value result.cursor × (result.value ≤ limit) }
 {
     let end = run_of(s, at, k);
     if end == at {
@@ -48,7 +48,7 @@ fn digits_at(s: &[u8], at: usize, k: Class, base: u64, limit: u64) -> Numeric
 
 // A decimal number up to a limit.
 pub fn number_at(s: &[u8], at: usize, limit: u64) -> Numeric
-    requires { (at ≤ length s.now) × (limit < numberCap) }
+    requires { (at ≤ length s.now) × (limit < number_cap) }
     ensures { Reads (number limit) s.now (Parsed at) result.value result.cursor × (result.value ≤ limit) }
 {
     digits_at(s, at, Class::Digit, 10, limit)
@@ -56,7 +56,7 @@ pub fn number_at(s: &[u8], at: usize, limit: u64) -> Numeric
 
 // Whether `0x` or `0X` stands at the place.
 fn is_hex_prefix(s: &[u8], at: usize) -> bool
-    ensures { result ≡ hexPrefixed s.now at }
+    ensures { result ≡ hex_prefixed s.now at }
 {
     if stands(s, at, b'0') {
         starts(s, at + 1, b'x')
@@ -67,7 +67,7 @@ fn is_hex_prefix(s: &[u8], at: usize) -> bool
 
 // A number in decimal, or in hex after `0x` or `0X`, up to a limit.
 pub fn numeral_at(s: &[u8], at: usize, limit: u64) -> Numeric
-    requires { (at ≤ length s.now) × (limit < numberCap) }
+    requires { (at ≤ length s.now) × (limit < number_cap) }
     ensures { Reads (numeral limit) s.now (Parsed at) result.value result.cursor × (result.value ≤ limit) }
 {
     if is_hex_prefix(s, at) {

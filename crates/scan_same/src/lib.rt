@@ -1,10 +1,10 @@
 // Whether two slices have the same bytes.
 ghost use Rattle.std.specs.Prelude.{◌≡◌};
-ghost use Rattle.definitions.specs.Lists.{sameBytes};
+ghost use Rattle.definitions.specs.Lists.{same_bytes};
 
 // Byte by byte, up to the first that differs.
 pub fn same_bytes(s: &[u8], w: &[u8]) -> bool
-    ensures { result ≡ sameBytes s.now w.now }
+    ensures { result ≡ same_bytes s.now w.now }
 {
     if s.len() != w.len() {
         return false;

@@ -1,9 +1,9 @@
 // Single bytes and spaces from a cursor on.
 ghost use Rattle.std.specs.Prelude.{◌≡◌, ◌∷◌, [], true, false};
-ghost use Rattle.forms.specs.Pieces.{preceded, opt, literal, literalAs};
+ghost use Rattle.forms.specs.Pieces.{preceded, opt, literal, literal_as};
 ghost use Rattle.definitions.specs.Forms.{spaces};
-ghost use Rattle.scan_bytes.specs.Classes.{caseClass};
-ghost use Rattle.scan_cursors.specs.Reads.{Inside, nextIn, Reads, Skips};
+ghost use Rattle.scan_bytes.specs.Classes.{case_class};
+ghost use Rattle.scan_cursors.specs.Reads.{Inside, next_in, Reads, Skips};
 
 use scan_cursors::{Cursor, join, place};
 use scan_pieces::literals::{
@@ -12,7 +12,7 @@ use scan_pieces::literals::{
 
 // Whether scanning goes on, with the byte.
 pub fn next_is(s: &[u8], c: Cursor, b: u8) -> bool
-    ensures { result ≡ nextIn ((b, b) ∷ []) s.now c }
+    ensures { result ≡ next_in ((b, b) ∷ []) s.now c }
 {
     match c {
         Cursor::Parsed(at) => stands(s, at, b),
@@ -23,7 +23,7 @@ pub fn next_is(s: &[u8], c: Cursor, b: u8) -> bool
 
 // Whether scanning goes on, with the byte of a word in either letter case.
 pub fn next_is_letter(s: &[u8], c: Cursor, y: u8) -> bool
-    ensures { result ≡ nextIn (caseClass y) s.now c }
+    ensures { result ≡ next_in (case_class y) s.now c }
 {
     match c {
         Cursor::Parsed(at) => starts(s, at, y),
@@ -45,7 +45,7 @@ pub fn then_literal(s: &[u8], c: Cursor, b: u8) -> Cursor
 // Whether the byte stands there, and the cursor after it.
 pub fn then_optional_literal(s: &[u8], c: Cursor, b: u8) -> OptionalLiteral
     requires { Inside s.now c }
-    ensures { Reads (opt false (literalAs b true)) s.now c result.yes result.cursor }
+    ensures { Reads (opt false (literal_as b true)) s.now c result.yes result.cursor }
 {
     let at = place(c);
     let m = optional_literal_at(s, at, b);

@@ -2,8 +2,8 @@
 ghost use Rattle.std.specs.Prelude.{true, false, ◌≤◌, length, get_or, ◌≡◌};
 ghost use Rattle.forms.specs.Pieces.{or, keyword, word};
 ghost use Rattle.definitions.specs.Forms.{comma};
-ghost use Rattle.scan_bytes.specs.Classes.{caseClass};
-ghost use Rattle.scan_cursors.specs.Reads.{Inside, nextIn, Reads};
+ghost use Rattle.scan_bytes.specs.Classes.{case_class};
+ghost use Rattle.scan_cursors.specs.Reads.{Inside, next_in, Reads};
 
 use crate::literals::{next_is, next_is_letter, then_literal};
 use scan_cursors::{Cursor, join, place};
@@ -30,7 +30,7 @@ pub struct EitherAt {
 // Either of two words: the first letter of the one decides which must stand, also where a number before it was beyond its limit.
 pub fn then_either_word(s: &[u8], c: Cursor, one: &[u8], other: &[u8]) -> EitherAt
     requires { Inside s.now c × (1 ≤ length one.now) }
-    ensures { Reads (or (keyword one.now true) (keyword other.now false)) s.now c result.first result.cursor × (result.first ≡ nextIn (caseClass (get_or one.now 0 0)) s.now c) }
+    ensures { Reads (or (keyword one.now true) (keyword other.now false)) s.now c result.first result.cursor × (result.first ≡ next_in (case_class (get_or one.now 0 0)) s.now c) }
 {
     let letter = one[0];
     if next_is_letter(s, c, letter) {

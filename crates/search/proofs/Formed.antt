@@ -17,109 +17,109 @@ use Rattle.definitions.specs.declared.table.Table.{Table}
 use Rattle.definitions.specs.declared.packets.Direction.{Direction}
 use Rattle.definitions.specs.declared.packets.LastMatch.TheVariants.{None}
 use Rattle.definitions.specs.declared.packets.Start.{Start}
-use Rattle.definitions.specs.Limits.{maxItems, maxPatterns, maxByte}
+use Rattle.definitions.specs.Limits.{max_items, max_patterns, max_byte}
 use Rattle.definitions.specs.Lists.{keep, all?}
-use Rattle.definitions.specs.Items.{Kind, unused, addressed, patterned, plainTest, kind_of, slots_of, patternFirst, patternsOf, afterItem}
-use Rattle.definitions.specs.WellFormed.{nameFits, slotFits, slotUnused, patternCount, itemsFit, bytes_of, bytesFit, wellFormed}
+use Rattle.definitions.specs.Items.{Kind, unused, addressed, patterned, plain_test, kind_of, slots_of, pattern_first, patterns_of, after_item}
+use Rattle.definitions.specs.WellFormed.{name_fits, slot_fits, slot_unused, pattern_count, items_fit, bytes_of, bytes_fit, well_formed}
 use Rattle.definitions.specs.Fields.{View}
-use Rattle.definitions.specs.Placements.{constraintBy, constraints, items_of, positiveIn, positives, placements, headHolds, listed}
-use Rattle.definitions.specs.Answers.{placementOf}
-use Rattle.laws.proofs.Keep.{keep-in}
-use Rattle.laws.proofs.Listing.{placements-meet, meets-length}
+use Rattle.definitions.specs.Placements.{constraint_by, constraints, items_of, positive_in, positives, placements, head_holds, listed}
+use Rattle.definitions.specs.Answers.{placement_of}
+use Rattle.laws.proofs.Keep.{keep_in}
+use Rattle.laws.proofs.Listing.{placements_meet, meets_length}
 use Rattle.table_well_formed.proofs.Forming as forming
-use Rattle.match_windows.specs.Spans.{sizeBound}
+use Rattle.match_windows.specs.Spans.{size_bound}
 use Rattle.search_state.specs.declared.outcomes.Outcome.{Outcome}
-use Rattle.search_state.specs.Outcomes.{nothing, outcomeOf}
-use Rattle.search_state.specs.Choosing.{answer, afterIf}
-use Rattle.search_state.proofs.Extending.{first-outcome}
+use Rattle.search_state.specs.Outcomes.{nothing, outcome_of}
+use Rattle.search_state.specs.Choosing.{answer, after_if}
+use Rattle.search_state.proofs.Extending.{first_outcome}
 use Rattle.search_items.specs.Items.{ReadyItems}
 use Rattle.search.specs.Searching.{Searchable}
 
 -- ---- no more positive patterns than patterns
 
-positives-by : (k : Kind) (it : Item) (al : List Address) (b : List ℕ) (n : ℕ) (ps : List Pattern) → n ≤ length ps
-    → positiveIn (constraintBy k it al b) + n ≤ length (patternFirst k ps)
-positives-by unused it al b n ps h = omega arith
-positives-by (addressed a) it al b n ps h = omega arith
-positives-by (patterned p) it al b n ps h = by_cases p.negated (λ t. rw t (omega arith)) (λ f. rw f (omega arith))
-positives-by plainTest it al b n ps h = omega arith
+positives_by : (k : Kind) (it : Item) (al : List Address) (b : List ℕ) (n : ℕ) (ps : List Pattern) → n ≤ length ps
+    → positive_in (constraint_by k it al b) + n ≤ length (pattern_first k ps)
+positives_by unused it al b n ps h = omega arith
+positives_by (addressed a) it al b n ps h = omega arith
+positives_by (patterned p) it al b n ps h = by_cases p.negated (λ t. rw t (omega arith)) (λ f. rw f (omega arith))
+positives_by plain_test it al b n ps h = omega arith
 
-positives-few : (sls : List Slot) (b : List ℕ) → positives (constraints sls b) ≤ length (patternsOf sls)
-unfolding positives constraints patternsOf
-positives-few [] b = omega arith
-positives-few (sl ∷ sls) b =
+positives_few : (sls : List Slot) (b : List ℕ) → positives (constraints sls b) ≤ length (patterns_of sls)
+unfolding positives constraints patterns_of
+positives_few [] b = omega arith
+positives_few (sl ∷ sls) b =
     let k = kind_of sl.item in
-    positives-by k sl.item sl.addresses b (positives (constraints sls (afterItem k b))) (patternsOf sls) (positives-few sls (afterItem k b))
+    positives_by k sl.item sl.addresses b (positives (constraints sls (after_item k b))) (patterns_of sls) (positives_few sls (after_item k b))
 
 -- ---- a well-formed table
 
-module _ (t : Table) (formed : wellFormed t ≡ true) where
-  items-fit : itemsFit t ≡ true
-  unfolding wellFormed
-  items-fit = both_left (itemsFit t) _ (both_right (leb t.protocol maxByte) _ (both_right (nameFits t.name t.len) _ formed))
+module _ (t : Table) (formed : well_formed t ≡ true) where
+  items_fit_lem : items_fit t ≡ true
+  unfolding well_formed
+  items_fit_lem = both_left (items_fit t) _ (both_right (leb t.protocol max_byte) _ (both_right (name_fits t.name t.len) _ formed))
 
-  bytes_fit : bytesFit t ≡ true
-  unfolding wellFormed
-  bytes_fit =
-      both_left (bytesFit t) _ (both_right (itemsFit t) _ (both_right (leb t.protocol maxByte) _ (both_right (nameFits t.name t.len) _ formed)))
+  bytes_fit_lem : bytes_fit t ≡ true
+  unfolding well_formed
+  bytes_fit_lem =
+      both_left (bytes_fit t) _ (both_right (items_fit t) _ (both_right (leb t.protocol max_byte) _ (both_right (name_fits t.name t.len) _ formed)))
 
-  few-items : t.count ≤ maxItems
-  few-items = forming.few-items t items-fit
+  few_items : t.count ≤ max_items
+  few_items = forming.few_items t items_fit_lem
 
-  few-patterns : patternCount t ≤ maxPatterns
-  unfolding itemsFit
-  few-patterns =
-      leb-true (patternCount t) maxPatterns
-      (both_left (leb (patternCount t) maxPatterns) _
-      (both_right (all? slotUnused _) _ (both_right (all? slotFits (slots_of t)) _ (both_right (leb t.count maxItems) _ items-fit))))
+  few_patterns : pattern_count t ≤ max_patterns
+  unfolding items_fit
+  few_patterns =
+      leb-true (pattern_count t) max_patterns
+      (both_left (leb (pattern_count t) max_patterns) _
+      (both_right (all? slot_unused _) _ (both_right (all? slot_fits (slots_of t)) _ (both_right (leb t.count max_items) _ items_fit_lem))))
 
-  stored : bytes_of (patternsOf (slots_of t)) ≤ length t.bytes
-  unfolding bytesFit
+  stored : bytes_of (patterns_of (slots_of t)) ≤ length t.bytes
+  unfolding bytes_fit
   stored =
-      let used = eqb-true t.used (bytes_of (patternsOf (slots_of t))) (both_left (eqb t.used (bytes_of (patternsOf (slots_of t)))) _ bytes_fit) in
-      let more = both_right (eqb t.used (bytes_of (patternsOf (slots_of t)))) _ bytes_fit in
+      let used = eqb-true t.used (bytes_of (patterns_of (slots_of t))) (both_left (eqb t.used (bytes_of (patterns_of (slots_of t)))) _ bytes_fit_lem) in
+      let more = both_right (eqb t.used (bytes_of (patterns_of (slots_of t)))) _ bytes_fit_lem in
       let room = leb-true t.used (length t.bytes) (both_left (leb t.used (length t.bytes)) _ more) in
       omega arith
 
-  pub formed-searchable : (s d : List ℕ) → length t.bytes < sizeBound → length s < sizeBound → length d < sizeBound
+  pub formed_searchable : (s d : List ℕ) → length t.bytes < size_bound → length s < size_bound → length d < size_bound
       → Searchable t.items t.count t.bytes s d
-  formed-searchable s d b h k =
-      record { few = few-items; patterns = few-patterns; stored = stored; bytes = b; payload = h; decoded = k }
+  formed_searchable s d b h k =
+      record { few = few_items; patterns = few_patterns; stored = stored; bytes = b; payload = h; decoded = k }
 
 -- ---- what can be searched
 
 module _ (t : Table) {s d : List ℕ} (ready : Searchable t.items t.count t.bytes s d) where
-  few-positives : positives (items_of t) ≤ maxPatterns
+  few_positives : positives (items_of t) ≤ max_patterns
   unfolding items_of
-  few-positives = omega (arith, positives-few (slots_of t) t.bytes, ready.patterns)
+  few_positives = omega (arith, positives_few (slots_of t) t.bytes, ready.patterns)
 
-  pub ready-first : ReadyItems (slots_of t) t.bytes s d None (placementOf [])
+  pub ready_first : ReadyItems (slots_of t) t.bytes s d None (placement_of [])
   unfolding items_of
-  ready-first =
+  ready_first =
       record {
         small = record { bytes = ready.bytes; payload = ready.payload; decoded = ready.decoded; last = omega arith };
         stored = ready.stored;
-        room = omega (arith, few-positives);
+        room = omega (arith, few_positives);
       }
 
   -- ---- what it lists
 
   module _ (v : View) where
-    short : (q : List Start) → Mem q (placements v (items_of t) None) → length q ≤ maxPatterns
-    short q m = let e = meets-length v (items_of t) None q (placements-meet v (items_of t) None q m) in omega (arith, few-positives)
+    short : (q : List Start) → Mem q (placements v (items_of t) None) → length q ≤ max_patterns
+    short q m = let e = meets_length v (items_of t) None q (placements_meet v (items_of t) None q m) in omega (arith, few_positives)
 
     module _ (dir : Direction) (on-bound : Bool) (p : List Start) where
-      pub found_first : (h : Bool) → h ≡ headHolds t v dir → not h ≡ false → (x : Outcome)
-          → x ≡ answer (placementOf []) on-bound p (placements v (constraints (slots_of t) t.bytes) None)
-          → x ≡ outcomeOf (keep (afterIf on-bound p) (listed t v dir))
+      pub found_first : (h : Bool) → h ≡ head_holds t v dir → not h ≡ false → (x : Outcome)
+          → x ≡ answer (placement_of []) on-bound p (placements v (constraints (slots_of t) t.bytes) None)
+          → x ≡ outcome_of (keep (after_if on-bound p) (listed t v dir))
       unfolding answer listed items_of
       found_first b e n x h =
-          h ∙ first-outcome (keep (afterIf on-bound p) (placements v (items_of t) None))
-          (λ q m. short q (keep-in (afterIf on-bound p) q (placements v (items_of t) None) m).0)
+          h ∙ first_outcome (keep (after_if on-bound p) (placements v (items_of t) None))
+          (λ q m. short q (keep_in (after_if on-bound p) q (placements v (items_of t) None) m).0)
           ∙ rw (sym e ∙ not-false b n)
 
-pub found_none : (t : Table) (v : View) (dir : Direction) (on-bound : Bool) (p : List Start) (h : Bool) → h ≡ headHolds t v dir → not h ≡ true
+pub found_none : (t : Table) (v : View) (dir : Direction) (on-bound : Bool) (p : List Start) (h : Bool) → h ≡ head_holds t v dir → not h ≡ true
     → (x : Outcome) → x ≡ nothing
-    → x ≡ outcomeOf (keep (afterIf on-bound p) (listed t v dir))
+    → x ≡ outcome_of (keep (after_if on-bound p) (listed t v dir))
 unfolding listed keep
 found_none t v dir on-bound p h e n x i = rw (sym e ∙ not-true h n) i

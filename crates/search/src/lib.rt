@@ -3,9 +3,9 @@ ghost use Rattle.std.specs.Prelude.{◌≡◌};
 ghost use Rattle.definitions.specs.Lists.{keep};
 ghost use Rattle.definitions.specs.Placements.{listed};
 ghost use Rattle.fields.specs.Seen.{seen};
-ghost use Rattle.search_state.specs.Outcomes.{outcomeOf};
-ghost use Rattle.search_state.specs.Choosing.{afterIf};
-ghost use Rattle.search.specs.Searching.{searchedTable, Searchable};
+ghost use Rattle.search_state.specs.Outcomes.{outcome_of};
+ghost use Rattle.search_state.specs.Choosing.{after_if};
+ghost use Rattle.search.specs.Searching.{searched_table, Searchable};
 
 use definitions::limits::{ITEMS, PATTERNS};
 use definitions::packets::{Direction, FieldMap, LastMatch, PacketHeader, Start};
@@ -31,7 +31,7 @@ pub fn find<'a>(
     on_bound: bool,
 ) -> Outcome
     requires { Searchable items count bytes.now payload.now decoded.now }
-    ensures { result ≡ outcomeOf (keep (afterIf on_bound bound) (listed (searchedTable protocol flow items count bytes.now) (seen header payload.now decoded.now m) dir)) }
+    ensures { result ≡ outcome_of (keep (after_if on_bound bound) (listed (searched_table protocol flow items count bytes.now) (seen header payload.now decoded.now m) dir)) }
 {
     if !head_holds(protocol, flow, header, dir) {
         return no_match();

@@ -16,24 +16,24 @@ use Rattle.definitions.specs.declared.table.Slot.{Slot}
 use Rattle.definitions.specs.declared.packets.LastMatch.{LastMatch}
 use Rattle.definitions.specs.declared.packets.Start.{Start}
 use Rattle.definitions.specs.declared.packets.Placement.{Placement}
-use Rattle.definitions.specs.References.{lastAfter}
+use Rattle.definitions.specs.References.{last_after}
 use Rattle.definitions.specs.Windows.{last_end}
-use Rattle.definitions.specs.Items.{Kind, patternFirst, patternsOf, afterItem}
+use Rattle.definitions.specs.Items.{Kind, pattern_first, patterns_of, after_item}
 use Rattle.definitions.specs.WellFormed.{bytes_of}
 use Rattle.definitions.specs.Fields.{View}
-use Rattle.definitions.specs.Tests.{testHolds}
-use Rattle.definitions.specs.Placements.{Constraint, matched, unmatched, tested, patternConstraint, constraintBy, constraints, positives}
-use Rattle.definitions.specs.Placements.{unmatchedHolds, placements}
+use Rattle.definitions.specs.Tests.{test_holds}
+use Rattle.definitions.specs.Placements.{Constraint, matched, unmatched, tested, pattern_constraint, constraint_by, constraints, positives}
+use Rattle.definitions.specs.Placements.{unmatched_holds, placements}
 use Rattle.definitions.specs.contracts.table.Item as item-type
-use Rattle.definitions.proofs.OtherItems.{other-kind}
-use Rattle.list_laws.proofs.Firsts.{first-here, first_out}
-use Rattle.match_windows.specs.Spans.{sizeBound}
+use Rattle.definitions.proofs.OtherItems.{other_kind}
+use Rattle.list_laws.proofs.Firsts.{first_here, first_out}
+use Rattle.match_windows.specs.Spans.{size_bound}
 use Rattle.match_items.specs.Bounds.{Bounded}
 use Rattle.search_state.specs.Outcomes.{nothing}
 use Rattle.search_state.specs.Choosing.{push, answer}
-use Rattle.search_state.proofs.Answering.{answer-nothing}
+use Rattle.search_state.proofs.Answering.{answer_nothing}
 use Rattle.search_state.specs.declared.input.SearchInput.{SearchInput}
-use Rattle.search_state.specs.Inputs.{itemsLeft, slot0}
+use Rattle.search_state.specs.Inputs.{items_left, slot0}
 use Rattle.search_items.specs.Items.{Small, ReadyItems, Trying}
 
 -- ---- what is wanted
@@ -42,84 +42,84 @@ abbrev pub NoPattern : Item → Type 0
 NoPattern it = OneOf (0 ∷ 1 ∷ 2 ∷ 3 ∷ 4 ∷ 5 ∷ 6 ∷ 7 ∷ 8 ∷ []) (tag_of item-type.the_type it)
 
 module _ (all : List Slot) (sl : Slot) (sls : List Slot) (u : all ≡ sl ∷ sls) (b : List ℕ) where
-  pub constraints-test : NoPattern sl.item → constraints all b ≡ tested sl.item sl.addresses ∷ constraints sls b
+  pub constraints_test : NoPattern sl.item → constraints all b ≡ tested sl.item sl.addresses ∷ constraints sls b
   unfolding constraints
-  constraints-test k =
+  constraints_test k =
       let it = sl.item in
       let al = sl.addresses in
       rw u
-      (other-kind (λ (κ : Kind). ◌≡◌ {A = List Constraint} (constraintBy κ it al b ∷ constraints sls (afterItem κ b)) (tested it al ∷ constraints sls b))
+      (other_kind (λ (κ : Kind). ◌≡◌ {A = List Constraint} (constraint_by κ it al b ∷ constraints sls (after_item κ b)) (tested it al ∷ constraints sls b))
       refl (λ a. refl) refl it k)
 
-  bytes-test : NoPattern sl.item → bytes_of (patternsOf all) ≡ bytes_of (patternsOf sls)
-  unfolding patternsOf
-  bytes-test k = rw u (other-kind (λ (κ : Kind). bytes_of (patternFirst κ (patternsOf sls)) ≡ bytes_of (patternsOf sls)) refl (λ a. refl) refl sl.item k)
+  bytes_test : NoPattern sl.item → bytes_of (patterns_of all) ≡ bytes_of (patterns_of sls)
+  unfolding patterns_of
+  bytes_test k = rw u (other_kind (λ (κ : Kind). bytes_of (pattern_first κ (patterns_of sls)) ≡ bytes_of (patterns_of sls)) refl (λ a. refl) refl sl.item k)
 
   module _ (p : Pattern) (e : sl.item ≡ item.Pattern p) where
-    constraints-pattern : constraints all b ≡ patternConstraint p (take p.len b) ∷ constraints sls (drop p.len b)
+    constraints_pattern : constraints all b ≡ pattern_constraint p (take p.len b) ∷ constraints sls (drop p.len b)
     unfolding constraints
-    constraints-pattern = rw (u, e)
+    constraints_pattern = rw (u, e)
 
-    pub constraints-unmatched : p.negated ≡ true → constraints all b ≡ unmatched p (take p.len b) ∷ constraints sls (drop p.len b)
-    constraints-unmatched n = constraints-pattern ∙ rw n
+    pub constraints_unmatched : p.negated ≡ true → constraints all b ≡ unmatched p (take p.len b) ∷ constraints sls (drop p.len b)
+    constraints_unmatched n = constraints_pattern ∙ rw n
 
-    pub constraints-matched : p.negated ≡ false → constraints all b ≡ matched p (take p.len b) ∷ constraints sls (drop p.len b)
-    constraints-matched n = constraints-pattern ∙ rw n
+    pub constraints_matched : p.negated ≡ false → constraints all b ≡ matched p (take p.len b) ∷ constraints sls (drop p.len b)
+    constraints_matched n = constraints_pattern ∙ rw n
 
-    bytes-pattern : bytes_of (patternsOf all) ≡ p.len + bytes_of (patternsOf sls)
-    unfolding patternsOf bytes_of
-    bytes-pattern = rw (u, e)
+    bytes_pattern : bytes_of (patterns_of all) ≡ p.len + bytes_of (patterns_of sls)
+    unfolding patterns_of bytes_of
+    bytes_pattern = rw (u, e)
 
 -- an array field of structs is held element by element, so its length is told of a map
-pub length-mapped : {A B : Type 0} (f : A → B) (l : List A) (n : ℕ) → length (map f l) ≡ n → length l ≡ n
-length-mapped f l n e = sym (length-map l f) ∙ e
+pub length_mapped : {A B : Type 0} (f : A → B) (l : List A) (n : ℕ) → length (map f l) ≡ n → length l ≡ n
+length_mapped f l n e = sym (length-map l f) ∙ e
 
-pub left_here : (q : SearchInput) (k : ℕ) → k < q.count → q.count ≤ length q.items → itemsLeft q k ≡ get_or q.items k slot0 ∷ itemsLeft q (k + 1)
-left_here q k h g = first-here q.items q.count k slot0 h g
+pub left_here : (q : SearchInput) (k : ℕ) → k < q.count → q.count ≤ length q.items → items_left q k ≡ get_or q.items k slot0 ∷ items_left q (k + 1)
+left_here q k h g = first_here q.items q.count k slot0 h g
 
-pub left_out : (q : SearchInput) (k : ℕ) → q.count ≤ k → itemsLeft q k ≡ []
-left_out q k h = first_out q.items q.count k h
+pub left_out_lem : (q : SearchInput) (k : ℕ) → q.count ≤ k → items_left q k ≡ []
+left_out_lem q k h = first_out q.items q.count k h
 
 -- ---- what the search rests on
 
-positives-test : (it : Item) (al : List Address) (ws : List Constraint) → positives (tested it al ∷ ws) ≡ positives ws
+positives_test : (it : Item) (al : List Address) (ws : List Constraint) → positives (tested it al ∷ ws) ≡ positives ws
 unfolding positives
-positives-test it al ws = omega arith
+positives_test it al ws = omega arith
 
-positives-nowhere : (p : Pattern) (b : List ℕ) (ws : List Constraint) → positives (unmatched p b ∷ ws) ≡ positives ws
+positives_nowhere : (p : Pattern) (b : List ℕ) (ws : List Constraint) → positives (unmatched p b ∷ ws) ≡ positives ws
 unfolding positives
-positives-nowhere p b ws = omega arith
+positives_nowhere p b ws = omega arith
 
-positives-placed : (p : Pattern) (b : List ℕ) (ws : List Constraint) → positives (matched p b ∷ ws) ≡ 1 + positives ws
+positives_placed : (p : Pattern) (b : List ℕ) (ws : List Constraint) → positives (matched p b ∷ ws) ≡ 1 + positives ws
 unfolding positives
-positives-placed p b ws = refl
+positives_placed p b ws = refl
 
 module _ (all : List Slot) (sl : Slot) (sls : List Slot) (u : all ≡ sl ∷ sls) (b s d : List ℕ) (l : LastMatch) (chosen : Placement)
     (rd : ReadyItems all b s d l chosen) where
-  pub ready-test : NoPattern sl.item → ReadyItems sls b s d l chosen
-  ready-test k =
-      let room : positives (constraints all b) ≡ positives (constraints sls b) = ap positives (constraints-test all sl sls u b k) ∙ positives-test _ _ _ in
-      record { small = rd.small; stored = omega (arith, rd.stored, bytes-test all sl sls u b k); room = omega (arith, rd.room, room) }
+  pub ready_test : NoPattern sl.item → ReadyItems sls b s d l chosen
+  ready_test k =
+      let room : positives (constraints all b) ≡ positives (constraints sls b) = ap positives (constraints_test all sl sls u b k) ∙ positives_test _ _ _ in
+      record { small = rd.small; stored = omega (arith, rd.stored, bytes_test all sl sls u b k); room = omega (arith, rd.room, room) }
 
   module _ (p : Pattern) (e : sl.item ≡ item.Pattern p) where
-    pub pattern-stored : p.len + bytes_of (patternsOf sls) ≤ length b
-    pattern-stored = omega (arith, rd.stored, bytes-pattern all sl sls u b p e)
+    pub pattern_stored : p.len + bytes_of (patterns_of sls) ≤ length b
+    pattern_stored = omega (arith, rd.stored, bytes_pattern all sl sls u b p e)
 
-    own-whole : length (take p.len b) ≡ p.len
-    own-whole = length-take p.len b ∙ omega (arith, pattern-stored)
+    own_whole : length (take p.len b) ≡ p.len
+    own_whole = length-take p.len b ∙ omega (arith, pattern_stored)
 
-    pub pattern-bounded : Bounded s d p (take p.len b) l
-    pattern-bounded =
+    pub pattern_bounded : Bounded s d p (take p.len b) l
+    pattern_bounded =
         record {
           payload = rd.small.payload;
           decoded = rd.small.decoded;
           last = rd.small.last;
-          pattern = omega (arith, pattern-stored, rd.small.bytes);
-          own_val = own-whole;
+          pattern = omega (arith, pattern_stored, rd.small.bytes);
+          own_val = own_whole;
         }
 
-    rest-small : Small (drop p.len b) s d l
-    rest-small =
+    rest_small : Small (drop p.len b) s d l
+    rest_small =
         record {
           bytes = omega (arith, length-drop p.len b, rd.small.bytes);
           payload = rd.small.payload;
@@ -127,37 +127,37 @@ module _ (all : List Slot) (sl : Slot) (sls : List Slot) (u : all ≡ sl ∷ sls
           last = rd.small.last;
         }
 
-    pub ready-nowhere : p.negated ≡ true → ReadyItems sls (drop p.len b) s d l chosen
-    ready-nowhere n =
+    pub ready_nowhere : p.negated ≡ true → ReadyItems sls (drop p.len b) s d l chosen
+    ready_nowhere n =
         let rest = constraints sls (drop p.len b) in
-        let room : positives (constraints all b) ≡ positives rest = ap positives (constraints-unmatched all sl sls u b p e n) ∙ positives-nowhere p _ _ in
-        record { small = rest-small; stored = omega (arith, length-drop p.len b, pattern-stored); room = omega (arith, rd.room, room) }
+        let room : positives (constraints all b) ≡ positives rest = ap positives (constraints_unmatched all sl sls u b p e n) ∙ positives_nowhere p _ _ in
+        record { small = rest_small; stored = omega (arith, length-drop p.len b, pattern_stored); room = omega (arith, rd.room, room) }
 
-    pub ready-placed : p.negated ≡ false → Trying sls (drop p.len b) p (take p.len b) s d l chosen
-    ready-placed n =
+    pub ready_placed : p.negated ≡ false → Trying sls (drop p.len b) p (take p.len b) s d l chosen
+    ready_placed n =
         let rest = constraints sls (drop p.len b) in
-        let room : positives (constraints all b) ≡ 1 + positives rest = ap positives (constraints-matched all sl sls u b p e n) ∙ positives-placed p _ _ in
+        let room : positives (constraints all b) ≡ 1 + positives rest = ap positives (constraints_matched all sl sls u b p e n) ∙ positives_placed p _ _ in
         record {
-          small = rest-small;
-          len = omega (arith, pattern-stored, rd.small.bytes);
-          own = own-whole;
-          stored = omega (arith, length-drop p.len b, pattern-stored);
+          small = rest_small;
+          len = omega (arith, pattern_stored, rd.small.bytes);
+          own = own_whole;
+          stored = omega (arith, length-drop p.len b, pattern_stored);
           room = omega (arith, rd.room, room);
         }
 
 -- a pattern that is to be placed, and the items after it with its start chosen
 module _ (sls : List Slot) (b : List ℕ) (p : Pattern) (own s d : List ℕ) (l : LastMatch) (chosen : Placement) (tr : Trying sls b p own s d l chosen) where
-  pub trying-bounded : Bounded s d p own l
-  trying-bounded = record { payload = tr.small.payload; decoded = tr.small.decoded; last = tr.small.last; pattern = tr.len; own_val = tr.own }
+  pub trying_bounded : Bounded s d p own l
+  trying_bounded = record { payload = tr.small.payload; decoded = tr.small.decoded; last = tr.small.last; pattern = tr.len; own_val = tr.own }
 
-  last-small : (at : Start) → at.at + p.len < sizeBound → last_end (lastAfter l p at) < sizeBound
-  last-small at h = by_cases p.negated (λ t. rw t tr.small.last) (λ t. rw t h)
+  last_small : (at : Start) → at.at + p.len < size_bound → last_end (last_after l p at) < size_bound
+  last_small at h = by_cases p.negated (λ t. rw t tr.small.last) (λ t. rw t h)
 
-  pub ready-next : (at : Start) (next : LastMatch) (ws : Placement) → at.at + p.len < sizeBound → next ≡ lastAfter l p at → ws ≡ push chosen at
+  pub ready_next : (at : Start) (next : LastMatch) (ws : Placement) → at.at + p.len < size_bound → next ≡ last_after l p at → ws ≡ push chosen at
       → ReadyItems sls b s d next ws
-  ready-next at next ws h en ew =
+  ready_next at next ws h en ew =
       record {
-        small = record { bytes = tr.small.bytes; payload = tr.small.payload; decoded = tr.small.decoded; last = rw en (last-small at h) };
+        small = record { bytes = tr.small.bytes; payload = tr.small.payload; decoded = tr.small.decoded; last = rw en (last_small at h) };
         stored = tr.stored;
         room = rw ew tr.room;
       }
@@ -166,23 +166,23 @@ module _ (sls : List Slot) (b : List ℕ) (p : Pattern) (own s d : List ℕ) (l 
 
 module _ (v : View) (l : LastMatch) (chosen : Placement) (on-bound : Bool) (q : List Start) (ws : List Constraint) where
   module _ (it : Item) (al : List Address) where
-    pub test-yes : testHolds v it al l ≡ true → answer chosen on-bound q (placements v (tested it al ∷ ws) l) ≡ answer chosen on-bound q (placements v ws l)
+    pub test_yes : test_holds v it al l ≡ true → answer chosen on-bound q (placements v (tested it al ∷ ws) l) ≡ answer chosen on-bound q (placements v ws l)
     unfolding placements
-    test-yes h = rw h
+    test_yes h = rw h
 
-    pub test-no : testHolds v it al l ≡ false → answer chosen on-bound q (placements v (tested it al ∷ ws) l) ≡ nothing
+    pub test_no : test_holds v it al l ≡ false → answer chosen on-bound q (placements v (tested it al ∷ ws) l) ≡ nothing
     unfolding placements
-    test-no h = rw h (answer-nothing chosen on-bound q)
+    test_no h = rw h (answer_nothing chosen on-bound q)
 
   module _ (p : Pattern) (b : List ℕ) where
-    pub nowhere-yes : unmatchedHolds v p b l ≡ true
+    pub nowhere_yes : unmatched_holds v p b l ≡ true
         → answer chosen on-bound q (placements v (unmatched p b ∷ ws) l) ≡ answer chosen on-bound q (placements v ws l)
     unfolding placements
-    nowhere-yes h = rw h
+    nowhere_yes h = rw h
 
-    pub nowhere-no : unmatchedHolds v p b l ≡ false → answer chosen on-bound q (placements v (unmatched p b ∷ ws) l) ≡ nothing
+    pub nowhere_no : unmatched_holds v p b l ≡ false → answer chosen on-bound q (placements v (unmatched p b ∷ ws) l) ≡ nothing
     unfolding placements
-    nowhere-no h = rw h (answer-nothing chosen on-bound q)
+    nowhere_no h = rw h (answer_nothing chosen on-bound q)
 
 pub after_last : (v : View) (l : LastMatch) (chosen : Placement) (on-bound : Bool) (q : List Start) (b : List ℕ)
     → answer chosen on-bound q (placements v (constraints [] b) l) ≡ answer chosen on-bound q ([] ∷ [])

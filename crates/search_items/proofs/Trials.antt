@@ -12,105 +12,105 @@ use Rattle.definitions.specs.declared.packets.FieldMap.{FieldMap}
 use Rattle.definitions.specs.declared.packets.LastMatch.{LastMatch}
 use Rattle.definitions.specs.declared.packets.Start.{Start}
 use Rattle.definitions.specs.declared.packets.Placement.{Placement}
-use Rattle.definitions.specs.Starts.{start_at, sameStart}
-use Rattle.definitions.specs.References.{lastAfter}
-use Rattle.definitions.specs.Limits.{maxItems}
+use Rattle.definitions.specs.Starts.{start_at, same_start}
+use Rattle.definitions.specs.References.{last_after}
+use Rattle.definitions.specs.Limits.{max_items}
 use Rattle.definitions.specs.Fields.{present, field_of}
-use Rattle.definitions.specs.Placements.{Constraint, matched, constraints, startsTo, spread, liesIn, starts, placements}
-use Rattle.laws.proofs.StartOrder.{number-not-before}
-use Rattle.laws.proofs.Keep.{keep-none}
+use Rattle.definitions.specs.Placements.{Constraint, matched, constraints, starts_to, spread, lies_in, starts, placements}
+use Rattle.laws.proofs.StartOrder.{number_not_before}
+use Rattle.laws.proofs.Keep.{keep_none}
 use Rattle.list_laws.proofs.Every.{drop_here}
 use Rattle.match_windows.specs.declared.Window.{Window}
-use Rattle.match_windows.specs.Spans.{sizeBound, Spans, places_of}
-use Rattle.match_patterns.specs.Starts.{standing, Fits, firstStart}
-use Rattle.match_patterns.proofs.Listing.{places-window}
-use Rattle.match_patterns.proofs.FirstStart.{first-reached, first_passes}
+use Rattle.match_windows.specs.Spans.{size_bound, Spans, places_of}
+use Rattle.match_patterns.specs.Starts.{standing, Fits, first_start}
+use Rattle.match_patterns.proofs.Listing.{places_window}
+use Rattle.match_patterns.proofs.FirstStart.{first_reached, first_passes}
 use Rattle.fields.specs.Seen.{seen}
-use Rattle.match_items.proofs.Placing.{starts-present}
+use Rattle.match_items.proofs.Placing.{starts_present}
 use Rattle.search_state.specs.declared.outcomes.Outcome.{Outcome}
 use Rattle.search_state.specs.Outcomes.{nothing}
-use Rattle.search_state.specs.Choosing.{push, answer, foundOr, startFrom}
+use Rattle.search_state.specs.Choosing.{push, answer, found_or, start_from}
 use Rattle.search_state.specs.declared.input.SearchInput.{SearchInput}
-use Rattle.search_state.proofs.Answering.{startsFrom, starts-met, starts-past, starts-out, answer-cons, answer-from, answer-nothing}
-use Rattle.search_state.specs.Inputs.{itemsLeft}
+use Rattle.search_state.proofs.Answering.{starts_from, starts_met, starts_past, starts_out, answer_cons, answer_from, answer_nothing}
+use Rattle.search_state.specs.Inputs.{items_left}
 use Rattle.search_items.specs.Items.{ReadyItems, Trying}
-use Rattle.search_items.proofs.Stepping.{ready-next}
+use Rattle.search_items.proofs.Stepping.{ready_next}
 use Rattle.search_items.proofs.PassedItems.{found}
 
 -- ---- before the loop
 
 module _ (header : PacketHeader) (s d : List ℕ) (m : FieldMap) (p : Pattern) (own : List ℕ) (l : LastMatch) (ws : List Constraint) (chosen : Placement)
     (on-bound : Bool) where
-  starts-absent : present m p.context ≡ false → starts (seen header s d m) p own l ≡ []
-  unfolding starts liesIn
-  starts-absent e = keep-none (liesIn (seen header s d m) p own l) (startsTo (length (field_of s d m p.context))) (λ x. rw e)
+  starts_absent : present m p.context ≡ false → starts (seen header s d m) p own l ≡ []
+  unfolding starts lies_in
+  starts_absent e = keep_none (lies_in (seen header s d m) p own l) (starts_to (length (field_of s d m p.context))) (λ x. rw e)
 
-  pub try-absent : (q : List Start) (t : Bool) → t ≡ present m p.context → not t ≡ true → (r : Outcome) → r ≡ nothing
+  pub try_absent : (q : List Start) (t : Bool) → t ≡ present m p.context → not t ≡ true → (r : Outcome) → r ≡ nothing
       → r ≡ answer chosen on-bound q (placements (seen header s d m) (matched p own ∷ ws) l)
   unfolding placements spread
-  try-absent q t e n r h = rw (starts-absent (sym e ∙ not-true t n)) (h ∙ sym (answer-nothing chosen on-bound q))
+  try_absent q t e n r h = rw (starts_absent (sym e ∙ not-true t n)) (h ∙ sym (answer_nothing chosen on-bound q))
 
   module _ (f : List ℕ) (w : Window) (sp : Spans p l (length f) w) (q : f ≡ field_of s d m p.context) (t : Bool) (g : t ≡ present m p.context)
       (n : not t ≡ false) where
-    starts-are : starts (seen header s d m) p own l ≡ startsFrom (standing p.nocase own f) w.from w.to
-    starts-are = starts-present header s d m p own l (sym g ∙ not-false t n) ∙ ap (map start_at) (ap (places_of p own l) (sym q) ∙ places-window p own l f w sp)
+    starts_are : starts (seen header s d m) p own l ≡ starts_from (standing p.nocase own f) w.from w.to
+    starts_are = starts_present header s d m p own l (sym g ∙ not-false t n) ∙ ap (map start_at) (ap (places_of p own l) (sym q) ∙ places_window p own l f w sp)
 
-    try-begin : (ss : List Start) (at : ℕ) → chosen.count < length ss → at ≡ startFrom on-bound (get_or ss chosen.count (start_at 0)) w.from
+    try_begin : (ss : List Start) (at : ℕ) → chosen.count < length ss → at ≡ start_from on-bound (get_or ss chosen.count (start_at 0)) w.from
         → answer chosen on-bound (drop chosen.count ss) (placements (seen header s d m) (matched p own ∷ ws) l)
         ≡ answer chosen on-bound (drop chosen.count ss)
-        (spread (λ (x : Start). placements (seen header s d m) ws (lastAfter l p x)) (startsFrom (standing p.nocase own f) at w.to))
+        (spread (λ (x : Start). placements (seen header s d m) ws (last_after l p x)) (starts_from (standing p.nocase own f) at w.to))
     unfolding placements
-    try-begin ss at h e =
-        rw (starts-are, e, drop_here ss chosen.count (start_at 0) h)
-        (answer-from (λ (x : Start). placements (seen header s d m) ws (lastAfter l p x)) (get_or ss chosen.count (start_at 0)) (drop (chosen.count + 1) ss)
+    try_begin ss at h e =
+        rw (starts_are, e, drop_here ss chosen.count (start_at 0) h)
+        (answer_from (λ (x : Start). placements (seen header s d m) ws (last_after l p x)) (get_or ss chosen.count (start_at 0)) (drop (chosen.count + 1) ss)
         (standing p.nocase own f) w.to chosen on-bound w.from)
 
-from-ahead : (on-bound : Bool) (b : Start) (x at : ℕ) → at ≡ startFrom on-bound b x → on-bound ≡ true → b.at ≤ at
-from-ahead on-bound b x at e t = let z : at ≡ max b.at x = e ∙ ap (λ (y : Bool). startFrom y b x) t in omega arith
+from_ahead : (on-bound : Bool) (b : Start) (x at : ℕ) → at ≡ start_from on-bound b x → on-bound ≡ true → b.at ≤ at
+from_ahead on-bound b x at e t = let z : at ≡ max b.at x = e ∙ ap (λ (y : Bool). start_from y b x) t in omega arith
 
 -- ---- one turn, and the end
 
 module _ (chosen : Placement) (on-bound : Bool) (ss : List Start) (f : Start → List (List Start)) (h : ℕ → Bool) (at to : ℕ) where
-  try-done : (q : List Start) → to ≤ at → (r z : Outcome) → r ≡ nothing → z ≡ answer chosen on-bound q (spread f (startsFrom h at to)) → r ≡ z
+  try_done : (q : List Start) → to ≤ at → (r z : Outcome) → r ≡ nothing → z ≡ answer chosen on-bound q (spread f (starts_from h at to)) → r ≡ z
   unfolding spread
-  try-done q l r z e i =
-      let none : answer chosen on-bound q (spread f (startsFrom h at to)) ≡ nothing = rw (starts-out h at to l) (answer-nothing chosen on-bound q) in
+  try_done q l r z e i =
+      let none : answer chosen on-bound q (spread f (starts_from h at to)) ≡ nothing = rw (starts_out h at to l) (answer_nothing chosen on-bound q) in
       e ∙ sym (i ∙ none)
 
-  try-no : (q : List Start) → h at ≡ false
-      → answer chosen on-bound q (spread f (startsFrom h at to)) ≡ answer chosen on-bound q (spread f (startsFrom h (at + 1) to))
-  try-no q e = ap (λ (k : List Start). answer chosen on-bound q (spread f k)) (starts-past h at to e)
+  try_no : (q : List Start) → h at ≡ false
+      → answer chosen on-bound q (spread f (starts_from h at to)) ≡ answer chosen on-bound q (spread f (starts_from h (at + 1) to))
+  try_no q e = ap (λ (k : List Start). answer chosen on-bound q (spread f k)) (starts_past h at to e)
 
-  try-yes : at < to → h at ≡ true → chosen.count < length ss → (on-bound ≡ true → (get_or ss chosen.count (start_at 0)).at ≤ at)
-      → answer chosen on-bound (drop chosen.count ss) (spread f (startsFrom h at to))
-      ≡ foundOr (answer (push chosen (start_at at)) (on-bound && sameStart (get_or ss chosen.count (start_at 0)) (start_at at)) (drop (chosen.count + 1) ss)
+  try_yes : at < to → h at ≡ true → chosen.count < length ss → (on-bound ≡ true → (get_or ss chosen.count (start_at 0)).at ≤ at)
+      → answer chosen on-bound (drop chosen.count ss) (spread f (starts_from h at to))
+      ≡ found_or (answer (push chosen (start_at at)) (on-bound && same_start (get_or ss chosen.count (start_at 0)) (start_at at)) (drop (chosen.count + 1) ss)
       (f (start_at at)))
-      (answer chosen on-bound (drop chosen.count ss) (spread f (startsFrom h (at + 1) to)))
-  try-yes l e g a =
+      (answer chosen on-bound (drop chosen.count ss) (spread f (starts_from h (at + 1) to)))
+  try_yes l e g a =
       let b = get_or ss chosen.count (start_at 0) in
-      rw (starts-met h at to l e, drop_here ss chosen.count (start_at 0) g)
-      (answer-cons f b (drop (chosen.count + 1) ss) chosen on-bound (start_at at) (startsFrom h (at + 1) to) (λ y. number-not-before at b (a y)))
+      rw (starts_met h at to l e, drop_here ss chosen.count (start_at 0) g)
+      (answer_cons f b (drop (chosen.count + 1) ss) chosen on-bound (start_at at) (starts_from h (at + 1) to) (λ y. number_not_before at b (a y)))
 
 -- a start that lies was tried with the items left, whose placements after a last positive pattern are those of g
 tried : (chosen : Placement) (on-bound : Bool) (ss : List Start) (g : LastMatch → List (List Start)) (la : Start → LastMatch) (h : ℕ → Bool) (at to : ℕ)
     (s : Start) (next : LastMatch) (ws : Placement) (st : Bool) (x : Outcome)
     → at < to → h at ≡ true → chosen.count < length ss → (on-bound ≡ true → (get_or ss chosen.count (start_at 0)).at ≤ at) → s ≡ start_at at
-    → next ≡ la s → ws ≡ push chosen s → st ≡ (on-bound && sameStart (get_or ss chosen.count (start_at 0)) s) → x ≡ answer ws st (drop ws.count ss) (g next)
-    → answer chosen on-bound (drop chosen.count ss) (spread (λ (y : Start). g (la y)) (startsFrom h at to))
-    ≡ foundOr x (answer chosen on-bound (drop chosen.count ss) (spread (λ (y : Start). g (la y)) (startsFrom h (at + 1) to)))
+    → next ≡ la s → ws ≡ push chosen s → st ≡ (on-bound && same_start (get_or ss chosen.count (start_at 0)) s) → x ≡ answer ws st (drop ws.count ss) (g next)
+    → answer chosen on-bound (drop chosen.count ss) (spread (λ (y : Start). g (la y)) (starts_from h at to))
+    ≡ found_or x (answer chosen on-bound (drop chosen.count ss) (spread (λ (y : Start). g (la y)) (starts_from h (at + 1) to)))
 tried chosen on-bound ss g la h at to s next ws st x l e k a is en ew es ex =
     let b = get_or ss chosen.count (start_at 0) in
-    let y : x ≡ answer (push chosen (start_at at)) (on-bound && sameStart b (start_at at)) (drop (chosen.count + 1) ss) (g (la (start_at at))) =
+    let y : x ≡ answer (push chosen (start_at at)) (on-bound && same_start b (start_at at)) (drop (chosen.count + 1) ss) (g (la (start_at at))) =
     ex ∙ rw (ew, es, en, is) in
-    try-yes chosen on-bound ss (λ (z : Start). g (la z)) h at to l e k a
-    ∙ ap (λ (z : Outcome). foundOr z (answer chosen on-bound (drop chosen.count ss) (spread (λ (u : Start). g (la u)) (startsFrom h (at + 1) to)))) (sym y)
+    try_yes chosen on-bound ss (λ (z : Start). g (la z)) h at to l e k a
+    ∙ ap (λ (z : Outcome). found_or z (answer chosen on-bound (drop chosen.count ss) (spread (λ (u : Start). g (la u)) (starts_from h (at + 1) to)))) (sym y)
 
 -- a first answer that is there, and one that is not
-or-found : (x y z : Outcome) → z ≡ foundOr x y → x.found ≡ true → x ≡ z
-or-found x y z e t = sym (e ∙ rw t)
+or_found : (x y z : Outcome) → z ≡ found_or x y → x.found ≡ true → x ≡ z
+or_found x y z e t = sym (e ∙ rw t)
 
-or-missing : (x y z : Outcome) → z ≡ foundOr x y → x.found ≡ false → z ≡ y
-or-missing x y z e t = e ∙ rw t
+or_missing : (x y z : Outcome) → z ≡ found_or x y → x.found ≡ false → z ≡ y
+or_missing x y z e t = e ∙ rw t
 
 -- ---- the starts that are tried
 
@@ -118,39 +118,39 @@ or-missing x y z e t = e ∙ rw t
 abbrev over : SearchInput → List ℕ → List ℕ → LastMatch → Placement → Bool → List Constraint → Pattern → (ℕ → Bool) → ℕ → ℕ → Outcome
 over q s d l chosen on-bound ws p h to at =
     answer chosen on-bound (drop chosen.count q.bound)
-    (spread (λ (x : Start). placements (seen q.header s d q.map) ws (lastAfter l p x)) (startsFrom h at to))
+    (spread (λ (x : Start). placements (seen q.header s d q.map) ws (last_after l p x)) (starts_from h at to))
 
 -- what the items after the k-th want; `rest` are their pattern bytes
 abbrev later : SearchInput → ℕ → List ℕ → List Constraint
-later q k rest = constraints (itemsLeft q (k + 1)) rest
+later q k rest = constraints (items_left q (k + 1)) rest
 
 -- what is known once the starts before `at` are done: none of them leads to a placement, and those from `at` up to `to` decide, in the field f, for the
 -- k-th item, the pattern p with the bytes own
 pub record Tried (q : SearchInput) (k : ℕ) (rest s d : List ℕ) (l : LastMatch) (chosen : Placement) (on-bound : Bool) (p : Pattern)
     (own f : List ℕ) (to at : ℕ) : Type 0 where
-  pub few : (k < q.count) × (q.count ≤ maxItems)
-  pub trying : Trying (itemsLeft q (k + 1)) rest p own s d l chosen
-  pub small : length f < sizeBound
+  pub few : (k < q.count) × (q.count ≤ max_items)
+  pub trying : Trying (items_left q (k + 1)) rest p own s d l chosen
+  pub small : length f < size_bound
   pub inside : (x : ℕ) → x < to → x + p.len ≤ length f
   pub room : chosen.count < length q.bound
   pub ahead : on-bound ≡ true → (get_or q.bound chosen.count (start_at 0)).at ≤ at
   pub same : found q s d l chosen on-bound (matched p own ∷ later q k rest) ≡ over q s d l chosen on-bound (later q k rest) p (standing p.nocase own f) to at
 
-pub tried-none : {q : SearchInput} {k : ℕ} {rest s d : List ℕ} {l : LastMatch} {chosen : Placement} {on-bound : Bool} {p : Pattern} {own f : List ℕ}
+pub tried_none : {q : SearchInput} {k : ℕ} {rest s d : List ℕ} {l : LastMatch} {chosen : Placement} {on-bound : Bool} {p : Pattern} {own f : List ℕ}
     {w : Window}
     {t : Bool} {at : ℕ}
-    → (k < q.count) × (q.count ≤ maxItems) → Trying (itemsLeft q (k + 1)) rest p own s d l chosen → length f < sizeBound → chosen.count < length q.bound
+    → (k < q.count) × (q.count ≤ max_items) → Trying (items_left q (k + 1)) rest p own s d l chosen → length f < size_bound → chosen.count < length q.bound
     → Spans p l (length f) w → f ≡ field_of s d q.map p.context → t ≡ present q.map p.context → not t ≡ false
-    → at ≡ startFrom on-bound (get_or q.bound chosen.count (start_at 0)) w.from → Tried q k rest s d l chosen on-bound p own f w.to at
-tried-none {q} {k} {rest} {s} {d} {l} {chosen} {on-bound} {p} {own} {f} {w} {t} {at} few trying small room sp e g n a =
+    → at ≡ start_from on-bound (get_or q.bound chosen.count (start_at 0)) w.from → Tried q k rest s d l chosen on-bound p own f w.to at
+tried_none {q} {k} {rest} {s} {d} {l} {chosen} {on-bound} {p} {own} {f} {w} {t} {at} few trying small room sp e g n a =
     record {
       few = few;
       trying = trying;
       small = small;
       inside = sp.inside;
       room = room;
-      ahead = from-ahead on-bound (get_or q.bound chosen.count (start_at 0)) w.from at a;
-      same = try-begin q.header s d q.map p own l (later q k rest) chosen on-bound f w sp e t g n q.bound at room a;
+      ahead = from_ahead on-bound (get_or q.bound chosen.count (start_at 0)) w.from at a;
+      same = try_begin q.header s d q.map p own l (later q k rest) chosen on-bound f w sp e t g n q.bound at room a;
     }
 
 module _ {q : SearchInput} {k : ℕ} {rest s d : List ℕ} {l : LastMatch} {chosen : Placement} {on-bound : Bool} {p : Pattern} {own f : List ℕ} {to at : ℕ}
@@ -164,18 +164,18 @@ module _ {q : SearchInput} {k : ℕ} {rest s d : List ℕ} {l : LastMatch} {chos
   abbrev left_after : LastMatch → List (List Start)
   left_after = placements (seen q.header s d q.map) ws
 
-  abbrev passed-by : List Start
-  passed-by = drop chosen.count q.bound
+  abbrev passed_by : List Start
+  passed_by = drop chosen.count q.bound
 
   -- the bytes fit at each start that may be tried, and their end is far below what a number holds
-  pub own-fits : Fits own f to
-  own-fits x h = omega (arith, o.trying.own, o.inside x h)
+  pub own_fits : Fits own f to
+  own_fits x h = omega (arith, o.trying.own, o.inside x h)
 
-  pub end-small : at < to → at + p.len < sizeBound
-  end-small h = omega (arith, o.inside at h, o.small)
+  pub end_small : at < to → at + p.len < size_bound
+  end_small h = omega (arith, o.inside at h, o.small)
 
-  pub tried-out : to ≤ at → (r : Outcome) → r ≡ nothing → r ≡ found q s d l chosen on-bound (matched p own ∷ ws)
-  tried-out h r e = try-done chosen on-bound q.bound (λ (x : Start). left_after (lastAfter l p x)) stands at to passed-by h r _ e o.same
+  pub tried_out : to ≤ at → (r : Outcome) → r ≡ nothing → r ≡ found q s d l chosen on-bound (matched p own ∷ ws)
+  tried_out h r e = try_done chosen on-bound q.bound (λ (x : Start). left_after (last_after l p x)) stands at to passed_by h r _ e o.same
 
   -- the starts after this one decide
   one_further : found q s d l chosen on-bound (matched p own ∷ ws) ≡ over q s d l chosen on-bound ws p stands to (at + 1)
@@ -191,31 +191,31 @@ module _ {q : SearchInput} {k : ℕ} {rest s d : List ℕ} {l : LastMatch} {chos
         same = e;
       }
 
-  tried-past : stands at ≡ false → Tried q k rest s d l chosen on-bound p own f to (at + 1)
-  tried-past e = one_further (o.same ∙ try-no chosen on-bound q.bound (λ (x : Start). left_after (lastAfter l p x)) stands at to passed-by e)
+  tried_past : stands at ≡ false → Tried q k rest s d l chosen on-bound p own f to (at + 1)
+  tried_past e = one_further (o.same ∙ try_no chosen on-bound q.bound (λ (x : Start). left_after (last_after l p x)) stands at to passed_by e)
 
   -- a start that lies is chosen
   module _ (more : at < to) {x : Start} (is : x ≡ start_at at) where
-    pub chosen-small : x.at + p.len < sizeBound
-    chosen-small = rw is (end-small more)
+    pub chosen_small : x.at + p.len < size_bound
+    chosen_small = rw is (end_small more)
 
-    module _ {next : LastMatch} {ac : Placement} (en : next ≡ lastAfter l p x) (ea : ac ≡ push chosen x) where
-      pub chosen-ready : ReadyItems (itemsLeft q (k + 1)) rest s d next ac
-      chosen-ready = ready-next (itemsLeft q (k + 1)) rest p own s d l chosen o.trying x next ac chosen-small en ea
+    module _ {next : LastMatch} {ac : Placement} (en : next ≡ last_after l p x) (ea : ac ≡ push chosen x) where
+      pub chosen-ready : ReadyItems (items_left q (k + 1)) rest s d next ac
+      chosen-ready = ready_next (items_left q (k + 1)) rest p own s d l chosen o.trying x next ac chosen_small en ea
 
       -- with the answer r of the items left after it
-      module _ (lies : stands at ≡ true) {st : Bool} {r : Outcome} (es : st ≡ (on-bound && sameStart (get_or q.bound chosen.count (start_at 0)) x))
+      module _ (lies : stands at ≡ true) {st : Bool} {r : Outcome} (es : st ≡ (on-bound && same_start (get_or q.bound chosen.count (start_at 0)) x))
           (er : r ≡ found q s d next ac st ws) where
-        this-or : found q s d l chosen on-bound (matched p own ∷ ws) ≡ foundOr r (over q s d l chosen on-bound ws p stands to (at + 1))
+        this-or : found q s d l chosen on-bound (matched p own ∷ ws) ≡ found_or r (over q s d l chosen on-bound ws p stands to (at + 1))
         this-or =
             o.same
-            ∙ tried chosen on-bound q.bound left_after (lastAfter l p) stands at to x next ac st r more lies o.room o.ahead is en ea es er
+            ∙ tried chosen on-bound q.bound left_after (last_after l p) stands at to x next ac st r more lies o.room o.ahead is en ea es er
 
         pub tried-found : r.found ≡ true → r ≡ found q s d l chosen on-bound (matched p own ∷ ws)
-        tried-found e = or-found r _ _ this-or e
+        tried-found e = or_found r _ _ this-or e
 
         pub tried-vain : r.found ≡ false → Tried q k rest s d l chosen on-bound p own f to (at + 1)
-        tried-vain e = one_further (or-missing r _ _ this-or e)
+        tried-vain e = one_further (or_missing r _ _ this-or e)
 
 -- what is known at each turn: besides, where a start is left to try, the bytes stand at `at`
 pub record Reached (q : SearchInput) (k : ℕ) (rest s d : List ℕ) (l : LastMatch) (chosen : Placement) (on-bound : Bool) (p : Pattern)
@@ -225,11 +225,11 @@ pub record Reached (q : SearchInput) (k : ℕ) (rest s d : List ℕ) (l : LastMa
 
 -- starts at which the bytes do not stand are passed, up to the first at which they do
 pub reached : {q : SearchInput} {k : ℕ} {rest s d : List ℕ} {l : LastMatch} {chosen : Placement} {on-bound : Bool} {p : Pattern} {own f : List ℕ} {to at r : ℕ}
-    → Tried q k rest s d l chosen on-bound p own f to at → r ≡ firstStart (standing p.nocase own f) at (to - at)
+    → Tried q k rest s d l chosen on-bound p own f to at → r ≡ first_start (standing p.nocase own f) at (to - at)
     → Reached q k rest s d l chosen on-bound p own f to r
 reached {q} {k} {rest} {s} {d} {l} {chosen} {on-bound} {p} {own} {f} {to} {at} o e =
     let stands = standing p.nocase own f in
     rw e (record {
-      tried = first-reached stands (λ x. Tried q k rest s d l chosen on-bound p own f to x) (λ x t u. tried-past u t) (to - at) at o;
+      tried = first_reached stands (λ x. Tried q k rest s d l chosen on-bound p own f to x) (λ x t u. tried_past u t) (to - at) at o;
       lies = first_passes stands to at;
     })

@@ -1,10 +1,10 @@
 // The search: one function handles an item, the other tries a pattern's starts and calls the first for the items left.
 ghost use Rattle.std.specs.Prelude.{◌≡◌, ◌∷◌, ◌+◌, ◌≤◌, ◌<◌, drop};
-ghost use Rattle.definitions.specs.Limits.{maxItems};
+ghost use Rattle.definitions.specs.Limits.{max_items};
 ghost use Rattle.definitions.specs.Placements.{matched, constraints, placements};
 ghost use Rattle.fields.specs.Seen.{seen};
 ghost use Rattle.search_state.specs.Choosing.{answer};
-ghost use Rattle.search_state.specs.Inputs.{itemsLeft};
+ghost use Rattle.search_state.specs.Inputs.{items_left};
 ghost use Rattle.search_items.specs.Items.{ReadyItems, Trying};
 
 use definitions::packets::{LastMatch, Placement};
@@ -32,8 +32,8 @@ pub fn from_item<'a>(
     chosen: Placement,
     on_bound: bool,
 ) -> Outcome
-    requires { (input.count ≤ maxItems) × ReadyItems (itemsLeft input k) bytes.now payload.now decoded.now last chosen }
-    ensures { result ≡ answer chosen on_bound (drop chosen.count input.bound) (placements (seen input.header payload.now decoded.now input.map) (constraints (itemsLeft input k) bytes.now) last) }
+    requires { (input.count ≤ max_items) × ReadyItems (items_left input k) bytes.now payload.now decoded.now last chosen }
+    ensures { result ≡ answer chosen on_bound (drop chosen.count input.bound) (placements (seen input.header payload.now decoded.now input.map) (constraints (items_left input k) bytes.now) last) }
 {
     let count = input.count;
     let header = input.header;
@@ -85,8 +85,8 @@ fn try_starts<'a>(
     chosen: Placement,
     on_bound: bool,
 ) -> Outcome
-    requires { (k < input.count) × (input.count ≤ maxItems) × Trying (itemsLeft input (k + 1)) rest.now p own.now payload.now decoded.now last chosen }
-    ensures { result ≡ answer chosen on_bound (drop chosen.count input.bound) (placements (seen input.header payload.now decoded.now input.map) (matched p own.now ∷ constraints (itemsLeft input (k + 1)) rest.now) last) }
+    requires { (k < input.count) × (input.count ≤ max_items) × Trying (items_left input (k + 1)) rest.now p own.now payload.now decoded.now last chosen }
+    ensures { result ≡ answer chosen on_bound (drop chosen.count input.bound) (placements (seen input.header payload.now decoded.now input.map) (matched p own.now ∷ constraints (items_left input (k + 1)) rest.now) last) }
 {
     let map = input.map;
     let c = p.context;

@@ -8,10 +8,10 @@ use native.Mathlib.Omega.{arith}
 use lib.ListN.{length, set, replicate, length-append}
 use lib.Seq.{set-append_seam, append_snoc}
 use Rattle.definitions.specs.declared.packets.Start.{Start}
-use Rattle.definitions.specs.Limits.{maxPatterns}
+use Rattle.definitions.specs.Limits.{max_patterns}
 use Rattle.definitions.specs.Starts.{start_at}
-use Rattle.definitions.specs.Answers.{placementOf}
-use Rattle.search_state.specs.Outcomes.{outcomeOf}
+use Rattle.definitions.specs.Answers.{placement_of}
+use Rattle.search_state.specs.Outcomes.{outcome_of}
 use Rattle.search_state.specs.Choosing.{extend, first_of}
 
 extend_to : (q pre : List Start) (m : ℕ)
@@ -25,11 +25,11 @@ extend_to (s ∷ q) pre m =
     let e : set (pre ++ start_at 0 ∷ room) (length pre) s ≡ (pre ++ (s ∷ [])) ++ room = set-append_seam pre (start_at 0) room s ∙ sym (append_snoc pre s room) in
     rw (suc-add (length q) m, e, ← n, ← append_snoc pre s q) (extend_to q (pre ++ (s ∷ [])) m)
 
-extend-none : (q : List Start) → length q ≤ maxPatterns → extend (placementOf []) q ≡ placementOf q
-extend-none q h =
-    let e : length q + (maxPatterns - length q) ≡ maxPatterns = omega arith in
-    subst (λ (n : ℕ). extend (record { count = 0; starts = replicate n (start_at 0) }) q ≡ placementOf q) e (extend_to q [] (maxPatterns - length q))
+extend_none : (q : List Start) → length q ≤ max_patterns → extend (placement_of []) q ≡ placement_of q
+extend_none q h =
+    let e : length q + (max_patterns - length q) ≡ max_patterns = omega arith in
+    subst (λ (n : ℕ). extend (record { count = 0; starts = replicate n (start_at 0) }) q ≡ placement_of q) e (extend_to q [] (max_patterns - length q))
 
-pub first-outcome : (ps : List (List Start)) → ((q : List Start) → Mem q ps → length q ≤ maxPatterns) → first_of (placementOf []) ps ≡ outcomeOf ps
-first-outcome [] h = refl
-first-outcome (q ∷ ps) h = rw (extend-none q (h q (here refl)))
+pub first_outcome : (ps : List (List Start)) → ((q : List Start) → Mem q ps → length q ≤ max_patterns) → first_of (placement_of []) ps ≡ outcome_of ps
+first_outcome [] h = refl
+first_outcome (q ∷ ps) h = rw (extend_none q (h q (here refl)))

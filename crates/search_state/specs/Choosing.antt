@@ -4,7 +4,7 @@ use Rattle.forms.specs.Bytes.{if◌then◌else◌}
 use Rattle.definitions.specs.declared.packets.Start.{Start}
 use Rattle.definitions.specs.declared.packets.Placement.{Placement}
 use Rattle.definitions.specs.Lists.{keep}
-use Rattle.definitions.specs.Placements.{lexLess}
+use Rattle.definitions.specs.Placements.{lex_less}
 use Rattle.search_state.specs.declared.outcomes.Outcome.{Outcome}
 use Rattle.search_state.specs.Outcomes.{nothing}
 
@@ -22,19 +22,19 @@ first_of chosen [] = nothing
 first_of chosen (q ∷ qs) = record { found = true; placement = extend chosen q }
 
 -- q is after p, where that is asked: "next" asks it, "first" and the verdict don't
-abbrev pub afterIf : Bool → List Start → List Start → Bool
-afterIf true p q = lexLess p q
-afterIf false p q = true
+abbrev pub after_if : Bool → List Start → List Start → Bool
+after_if true p q = lex_less p q
+after_if false p q = true
 
 -- the first of the list ps, after p where on the bound: the starts in chosen are then those of the placement to pass
 unfoldable pub answer : Placement → Bool → List Start → List (List Start) → Outcome
-answer chosen on-bound p ps = first_of chosen (keep (afterIf on-bound p) ps)
+answer chosen on-bound p ps = first_of chosen (keep (after_if on-bound p) ps)
 
 -- the first outcome, or the second where the first is nothing
-abbrev pub foundOr : Outcome → Outcome → Outcome
-foundOr f g = if f.found then f else g
+abbrev pub found_or : Outcome → Outcome → Outcome
+found_or f g = if f.found then f else g
 
 -- where the first start worth a try is, where the placement to pass has a here
-abbrev pub startFrom : Bool → Start → ℕ → ℕ
-startFrom true a from = max a.at from
-startFrom false a from = from
+abbrev pub start_from : Bool → Start → ℕ → ℕ
+start_from true a from = max a.at from
+start_from false a from = from

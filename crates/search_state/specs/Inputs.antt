@@ -5,8 +5,8 @@ use Rattle.definitions.specs.declared.table.Slot.{Slot}
 use Rattle.search_state.specs.declared.input.SearchInput.{SearchInput}
 
 -- the items in use from the k-th on
-abbrev pub itemsLeft : SearchInput → ℕ → List Slot
-itemsLeft q k = drop k (take q.count q.items)
+abbrev pub items_left : SearchInput → ℕ → List Slot
+items_left q k = drop k (take q.count q.items)
 
 -- what the logic has after the array's end
 abbrev pub slot0 : Slot

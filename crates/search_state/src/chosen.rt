@@ -1,11 +1,11 @@
 // The starts that a search has chosen so far: a placement after the last item, one start more, and which starts are worth a try.
 ghost use Rattle.std.specs.Prelude.{◌≡◌, ◌&&◌, List, [], ◌∷◌, ◌+◌, ◌<◌};
 ghost use Rattle.definitions.specs.declared.packets.Start.{Start};
-ghost use Rattle.definitions.specs.Limits.{maxPatterns};
-ghost use Rattle.definitions.specs.References.{lastAfter};
-ghost use Rattle.definitions.specs.Starts.{sameStart};
-ghost use Rattle.match_windows.specs.Spans.{sizeBound};
-ghost use Rattle.search_state.specs.Choosing.{push, answer, startFrom};
+ghost use Rattle.definitions.specs.Limits.{max_patterns};
+ghost use Rattle.definitions.specs.References.{last_after};
+ghost use Rattle.definitions.specs.Starts.{same_start};
+ghost use Rattle.match_windows.specs.Spans.{size_bound};
+ghost use Rattle.search_state.specs.Choosing.{push, answer, start_from};
 
 use crate::outcomes::{Outcome, no_match};
 use definitions::packets::{LastMatch, Placement, Start};
@@ -28,7 +28,7 @@ pub fn finish(chosen: Placement, on_bound: bool) -> Outcome
 
 // The starts chosen, with one more.
 pub fn with_start(chosen: Placement, s: Start) -> Placement
-    requires { chosen.count < maxPatterns }
+    requires { chosen.count < max_patterns }
     ensures { result ≡ push chosen s }
 {
     let j = chosen.count;
@@ -40,7 +40,7 @@ pub fn with_start(chosen: Placement, s: Start) -> Placement
 
 // The first start worth a try, where the placement to pass has `b` here.
 pub fn start_from(on_bound: bool, b: Start, from: usize) -> usize
-    ensures { result ≡ startFrom on_bound b from }
+    ensures { result ≡ start_from on_bound b from }
 {
     if !on_bound {
         return from;
@@ -54,7 +54,7 @@ pub fn start_from(on_bound: bool, b: Start, from: usize) -> usize
 
 // Whether the starts chosen, with `s`, are still those of the placement to pass.
 pub fn still_on_bound(on_bound: bool, s: Start, b: Start) -> bool
-    ensures { result ≡ (on_bound && sameStart b s) }
+    ensures { result ≡ (on_bound && same_start b s) }
 {
     if !on_bound {
         return false;
@@ -64,8 +64,8 @@ pub fn still_on_bound(on_bound: bool, s: Start, b: Start) -> bool
 
 // The last positive pattern, after `p` that lies at the start `s`.
 pub fn last_after(last: LastMatch, p: Pattern, s: Start) -> LastMatch
-    requires { s.at + p.len < sizeBound }
-    ensures { result ≡ lastAfter last p s }
+    requires { s.at + p.len < size_bound }
+    ensures { result ≡ last_after last p s }
 {
     last_ending(last, p, s.at + p.len)
 }

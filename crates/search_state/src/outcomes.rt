@@ -1,6 +1,6 @@
 // What a search finds.
 ghost use Rattle.std.specs.Prelude.{◌≡◌, []};
-ghost use Rattle.definitions.specs.Answers.{placementOf};
+ghost use Rattle.definitions.specs.Answers.{placement_of};
 ghost use Rattle.search_state.specs.Outcomes.{nothing};
 
 use definitions::limits::PATTERNS;
@@ -15,7 +15,7 @@ pub struct Outcome {
 
 // No start: the placement to begin with, and that of none and of a refusal.
 pub fn empty() -> Placement
-    ensures { result ≡ placementOf [] }
+    ensures { result ≡ placement_of [] }
 {
     Placement {
         count: 0,

@@ -6,18 +6,18 @@ use Prim.Native.Nat.{ℕ, ◌+◌, ◌-◌}
 use native.Mathlib.Omega.{arith}
 use lib.ListN.{length, take, drop, length-take, take-append-drop}
 use lib.Seq.{take-append_seam, drop-append_seam}
-use Rattle.forms.specs.Bytes.{text, sameWord}
-use Rattle.forms.specs.Place.{Read, readAt}
-use Rattle.forms.proofs.Words.{word-length}
+use Rattle.forms.specs.Bytes.{text, same_word}
+use Rattle.forms.specs.Place.{Read, read_at}
+use Rattle.forms.proofs.Words.{word_length}
 use Rattle.definitions.specs.declared.answers.Refusal.TheVariants as refusal
 use Rattle.definitions.specs.declared.answers.ReadOutcome.TheVariants as outcome
 use Rattle.definitions.specs.OptionValues.{OptionValue}
-use Rattle.definitions.specs.Options.{Option, optionTable, inName, nameLength, listed, optionAt}
+use Rattle.definitions.specs.Options.{Option, option_table, in_name, name_length, listed, option_at}
 use Rattle.definitions.specs.Reading.{dashes}
 use Rattle.definitions.specs.WrongPlaces.{span, NamedAt, OfForm}
-use Rattle.list_laws.proofs.Runs.{run-le}
+use Rattle.list_laws.proofs.Runs.{run_le}
 use Rattle.laws.proofs.Placing.{OptionAnswers}
-use Rattle.syntax.proofs.Frame.{parted, front-exactly}
+use Rattle.syntax.proofs.Frame.{parted, front_exactly}
 use Rattle.syntax.proofs.Names.{row_of}
 
 -- the bytes from a place to the end of what stands there
@@ -31,45 +31,45 @@ pub record Named (s : List ℕ) (dash : ℕ) (r : Read OptionValue) : Type 1 whe
   pub option : Option
   pub name : List ℕ
   pub named : NamedAt s dash option
-  pub is : sameWord name option.name ≡ true
+  pub is : same_word name option.name ≡ true
   pub stands : drop dash s ≡ 45 ∷ 45 ∷ (name ++ drop (dash + 2 + length name) s)
-  pub answers : readAt option.form s (dash + 2 + length name) ≡ r
+  pub answers : read_at option.form s (dash + 2 + length name) ≡ r
 
-unfoldable pub named-from : (s : List ℕ) (dash : ℕ) (o : Option) (r : Read OptionValue) → NamedAt s dash o
-    → readAt o.form s (dash + 2 + nameLength s (dash + 2)) ≡ r → Named s dash r
-named-from s dash o r n a =
-    let j = nameLength s (dash + 2) in
+unfoldable pub named_from : (s : List ℕ) (dash : ℕ) (o : Option) (r : Read OptionValue) → NamedAt s dash o
+    → read_at o.form s (dash + 2 + name_length s (dash + 2)) ≡ r → Named s dash r
+named_from s dash o r n a =
+    let j = name_length s (dash + 2) in
     let w = take j (drop (dash + 2) s) in
-    let l : length w ≡ j = simp length-take (omega (arith, run-le inName (drop (dash + 2) s))) in
+    let l : length w ≡ j = simp length-take (omega (arith, run_le in_name (drop (dash + 2) s))) in
     let z : dash + 2 - dash ≡ 2 = omega arith in
     let d1 : drop dash s ≡ (45 ∷ 45 ∷ []) ++ drop (dash + 2) s =
     parted s dash 2 (drop (dash + 2) s) refl ∙ ap (λ x. x ++ drop (dash + 2) s) (rw z at n.dashes) in
     let d2 : drop (dash + 2) s ≡ w ++ drop (dash + 2 + j) s = parted s (dash + 2) j (drop (dash + 2 + j) s) refl in
     record { option = o; name = w; named = n; is = n.named; stands = rw l (d1 ∙ ap (λ x. 45 ∷ 45 ∷ x) d2); answers = rw l a }
 
-pub named-at : (s : List ℕ) (dash : ℕ) (r : Read OptionValue) → OptionAnswers s dash (listed r) → Named s dash r
-unfolding optionAt
-named-at s dash r a =
-    let j = nameLength s (dash + 2) in
-    let k = row_of optionTable (take j (drop (dash + 2) s)) s (dash + 2 + j) r a.1 in
-    let d : drop dash s ≡ 45 ∷ 45 ∷ drop 2 (drop dash s) = (front-exactly (text "--") (drop dash s)).0 a.0 in
-    named-from s dash k.0 r
+pub named_at : (s : List ℕ) (dash : ℕ) (r : Read OptionValue) → OptionAnswers s dash (listed r) → Named s dash r
+unfolding option_at
+named_at s dash r a =
+    let j = name_length s (dash + 2) in
+    let k = row_of option_table (take j (drop (dash + 2) s)) s (dash + 2 + j) r a.1 in
+    let d : drop dash s ≡ 45 ∷ 45 ∷ drop 2 (drop dash s) = (front_exactly (text "--") (drop dash s)).0 a.0 in
+    named_from s dash k.0 r
     (record { listed = k.1; dashes = span_of s dash (45 ∷ 45 ∷ []) (drop 2 (drop dash s)) (dash + 2) d refl; named = k.2 }) k.3
 
 -- bytes that are parted after as many are parted alike
-pub parted-alike : (x y z w : List ℕ) → length x ≡ length z → x ++ y ≡ z ++ w → (x ≡ z) × (y ≡ w)
-parted-alike x y z w l e = (
+pub parted_alike : (x y z w : List ℕ) → length x ≡ length z → x ++ y ≡ z ++ w → (x ≡ z) × (y ≡ w)
+parted_alike x y z w l e = (
   sym (take-append_seam x y) ∙ ap (take (length x)) e ∙ ap (λ n. take n (z ++ w)) l ∙ take-append_seam z w,
   sym (drop-append_seam x y) ∙ ap (drop (length x)) e ∙ ap (λ n. drop n (z ++ w)) l ∙ drop-append_seam z w,
 )
 
 -- a text of the option that stands at its dash: its name is the one that stands there, and the rest stands after it
-pub form-stands : (s : List ℕ) (dash : ℕ) {r : Read OptionValue} (i : Named s dash r) (to : ℕ) (f : OfForm i.option (span s dash to))
+pub form_stands : (s : List ℕ) (dash : ℕ) {r : Read OptionValue} (i : Named s dash r) (to : ℕ) (f : OfForm i.option (span s dash to))
     → (f.name ≡ i.name) × (drop (dash + 2 + length i.name) s ≡ f.rest ++ drop (to - dash) (drop dash s))
-form-stands s dash i to f =
+form_stands s dash i to f =
     let t = drop (to - dash) (drop dash s) in
-    let l : length i.name ≡ length f.name = word-length i.name i.option.name i.is ∙ sym (word-length f.name i.option.name f.named) in
+    let l : length i.name ≡ length f.name = word_length i.name i.option.name i.is ∙ sym (word_length f.name i.option.name f.named) in
     let d : i.name ++ drop (dash + 2 + length i.name) s ≡ f.name ++ (f.rest ++ t) =
     ap (drop 2) (sym i.stands ∙ sym (take-append-drop (to - dash) (drop dash s)) ∙ ap (λ x. x ++ t) f.is) ∙ append_assoc f.name f.rest t in
-    let k = parted-alike i.name (drop (dash + 2 + length i.name) s) f.name (f.rest ++ t) l d in
+    let k = parted_alike i.name (drop (dash + 2 + length i.name) s) f.name (f.rest ++ t) l d in
     (sym k.0, k.1)

@@ -9,14 +9,14 @@ use Prim.Native.Nat.{ℕ}
 use native.Mathlib.Omega.{arith}
 use lib.Dec.{eqb, leb}
 use borrow.Author.Tests.{eqb-true, leb-true, not-true}
-use Rattle.forms.specs.Bytes.{lower, sameWord}
+use Rattle.forms.specs.Bytes.{lower, same_word}
 use Rattle.forms.specs.Form.{Class, has, Form}
-use Rattle.forms.specs.Scan.{nullable, firstSet, begins, followSet, isLL1}
+use Rattle.forms.specs.Scan.{nullable, first_set, begins, follow_set, is_ll1}
 use Rattle.forms.proofs.Bools.{by_cases, both_left, both_right}
 use Rattle.forms.proofs.Sound.{never}
 use Rattle.definitions.specs.Lists.{none?}
 use Rattle.definitions.specs.OptionValues.{OptionValue}
-use Rattle.definitions.specs.Options.{Option, optionTable, inName}
+use Rattle.definitions.specs.Options.{Option, option_table, in_name}
 
 -- ---- tests over rows
 
@@ -31,79 +31,79 @@ each_row p (later-one {x} {xs} m) t = each_row p m (both_right (p x) (all_rows p
 -- ---- names
 
 -- small letters, digits, `_` and `.` only
-unfoldable pub plainWord : List ℕ → Bool
-plainWord [] = true
-plainWord (b ∷ w) = (inName b && eqb (lower b) b) && plainWord w
+unfoldable pub plain_word : List ℕ → Bool
+plain_word [] = true
+plain_word (b ∷ w) = (in_name b && eqb (lower b) b) && plain_word w
 
-abbrev pub plainName : Option → Bool
-plainName o = plainWord o.name
+abbrev pub plain_name : Option → Bool
+plain_name o = plain_word o.name
 
 -- no two rows have one name
 abbrev pub unlike : Option → Option → Bool
-unlike o p = not (sameWord p.name o.name)
+unlike o p = not (same_word p.name o.name)
 
 abbrev pub distinct : List Option → Bool
 distinct [] = true
 distinct (o ∷ os) = all_rows (unlike o) os && distinct os
 
-pub names-plain : all_rows plainName optionTable ≡ true
-unfolding optionTable plainWord inName lower
-names-plain = refl
+pub names_plain : all_rows plain_name option_table ≡ true
+unfolding option_table plain_word in_name lower
+names_plain = refl
 
-pub names-distinct : distinct optionTable ≡ true
-unfolding optionTable sameWord lower
-names-distinct = refl
+pub names_distinct : distinct option_table ≡ true
+unfolding option_table same_word lower
+names_distinct = refl
 
 -- ---- forms
 
 -- single bytes, none of which can stand in a name
-abbrev pub noName : Class → Bool
-noName [] = true
-noName (r ∷ c) = (eqb r.0 r.1 && not (inName r.0)) && noName c
+abbrev pub no_name : Class → Bool
+no_name [] = true
+no_name (r ∷ c) = (eqb r.0 r.1 && not (in_name r.0)) && no_name c
 
 -- one byte of look-ahead decides; the form begins with a byte that is not of a name, and nothing goes on after it
-abbrev pub formAlone : Option → Bool
-formAlone o = isLL1 o.form && (not (nullable o.form) && (none? (followSet o.form) && noName (firstSet o.form)))
+abbrev pub form_alone : Option → Bool
+form_alone o = is_ll1 o.form && (not (nullable o.form) && (none? (follow_set o.form) && no_name (first_set o.form)))
 
-pub forms-alone : all_rows formAlone optionTable ≡ true
-unfolding optionTable inName lower
-forms-alone = refl
+pub forms_alone : all_rows form_alone option_table ≡ true
+unfolding option_table in_name lower
+forms_alone = refl
 
-none-begins : (c : Class) → none? c ≡ true → (r : List ℕ) → begins c r ≡ false
+none_begins : (c : Class) → none? c ≡ true → (r : List ℕ) → begins c r ≡ false
 unfolding has
-none-begins [] e [] = refl
-none-begins [] e (b ∷ r) = refl
-none-begins (q ∷ c) e r = never (cc)
+none_begins [] e [] = refl
+none_begins [] e (b ∷ r) = refl
+none_begins (q ∷ c) e r = never (cc)
 
-no-name-byte : (c : Class) → noName c ≡ true → (b : ℕ) → has c b ≡ true → inName b ≡ false
+no_name_byte : (c : Class) → no_name c ≡ true → (b : ℕ) → has c b ≡ true → in_name b ≡ false
 unfolding has
-no-name-byte [] e b h = never (cc)
-no-name-byte (r ∷ c) e b h =
-    let e1 = both_left (eqb r.0 r.1 && not (inName r.0)) (noName c) e in
+no_name_byte [] e b h = never (cc)
+no_name_byte (r ∷ c) e b h =
+    let e1 = both_left (eqb r.0 r.1 && not (in_name r.0)) (no_name c) e in
     by_cases (leb r.0 b && leb b r.1)
     (λ t.
-    let z = eqb-true r.0 r.1 (both_left (eqb r.0 r.1) (not (inName r.0)) e1) in
+    let z = eqb-true r.0 r.1 (both_left (eqb r.0 r.1) (not (in_name r.0)) e1) in
     let g = leb-true r.0 b (both_left (leb r.0 b) (leb b r.1) t) in
     let k = leb-true b r.1 (both_right (leb r.0 b) (leb b r.1) t) in
     let y : r.0 ≡ b = omega (arith, z, g, k) in
-    subst (λ a. inName a ≡ false) y (not-true (inName r.0) (both_right (eqb r.0 r.1) (not (inName r.0)) e1)))
-    (λ t. no-name-byte c (both_right (eqb r.0 r.1 && not (inName r.0)) (noName c) e) b (rw t at h))
+    subst (λ a. in_name a ≡ false) y (not-true (in_name r.0) (both_right (eqb r.0 r.1) (not (in_name r.0)) e1)))
+    (λ t. no_name_byte c (both_right (eqb r.0 r.1 && not (in_name r.0)) (no_name c) e) b (rw t at h))
 
 pub record Alone (f : Form OptionValue) : Type 0 where
-  pub is-LL1 : isLL1 f ≡ true
-  pub is-full : not (nullable f) ≡ true
-  pub ends-itself : (r : List ℕ) → begins (followSet f) r ≡ false
-  pub not-of-name : (b : ℕ) → has (firstSet f) b ≡ true → inName b ≡ false
+  pub is_LL1 : is_ll1 f ≡ true
+  pub is_full : not (nullable f) ≡ true
+  pub ends_itself : (r : List ℕ) → begins (follow_set f) r ≡ false
+  pub not_of_name : (b : ℕ) → has (first_set f) b ≡ true → in_name b ≡ false
 
-pub form-alone : {o : Option} → Mem o optionTable → Alone o.form
-form-alone {o} m =
+pub form_alone_lem : {o : Option} → Mem o option_table → Alone o.form
+form_alone_lem {o} m =
     let f = o.form in
-    let t = each_row formAlone m forms-alone in
-    let t1 = both_right (isLL1 f) (not (nullable f) && (none? (followSet f) && noName (firstSet f))) t in
-    let t2 = both_right (not (nullable f)) (none? (followSet f) && noName (firstSet f)) t1 in
+    let t = each_row form_alone m forms_alone in
+    let t1 = both_right (is_ll1 f) (not (nullable f) && (none? (follow_set f) && no_name (first_set f))) t in
+    let t2 = both_right (not (nullable f)) (none? (follow_set f) && no_name (first_set f)) t1 in
     record {
-      is-LL1 = both_left (isLL1 f) (not (nullable f) && (none? (followSet f) && noName (firstSet f))) t;
-      is-full = both_left (not (nullable f)) (none? (followSet f) && noName (firstSet f)) t1;
-      ends-itself = none-begins (followSet f) (both_left (none? (followSet f)) (noName (firstSet f)) t2);
-      not-of-name = no-name-byte (firstSet f) (both_right (none? (followSet f)) (noName (firstSet f)) t2);
+      is_LL1 = both_left (is_ll1 f) (not (nullable f) && (none? (follow_set f) && no_name (first_set f))) t;
+      is_full = both_left (not (nullable f)) (none? (follow_set f) && no_name (first_set f)) t1;
+      ends_itself = none_begins (follow_set f) (both_left (none? (follow_set f)) (no_name (first_set f)) t2);
+      not_of_name = no_name_byte (first_set f) (both_right (none? (follow_set f)) (no_name (first_set f)) t2);
     }

@@ -20,55 +20,55 @@ use Rattle.definitions.specs.declared.table.Pattern as table
 use Rattle.definitions.specs.Lists.{all?, keep, count}
 use Rattle.definitions.specs.OptionValues.{OptionValue, Name, Protocol, Flow, Test, Pattern, Modified}
 use Rattle.definitions.specs.Forms.{valued, closed}
-use Rattle.definitions.specs.Options.{Option, optionTable}
-use Rattle.definitions.specs.Tables.{slotsIn}
-use Rattle.definitions.specs.Items.{Kind, unused, addressed, patterned, plainTest, kind_of, patternFirst, patternsOf}
+use Rattle.definitions.specs.Options.{Option, option_table}
+use Rattle.definitions.specs.Tables.{slots_in}
+use Rattle.definitions.specs.Items.{Kind, unused, addressed, patterned, plain_test, kind_of, pattern_first, patterns_of}
 use Rattle.definitions.specs.Starts.{start_at}
-use Rattle.definitions.specs.References.{lastAfter, usable, usableRun, usableIn}
-use Rattle.definitions.specs.Occurrences.{isPattern}
+use Rattle.definitions.specs.References.{last_after, usable, usable_run, usable_in}
+use Rattle.definitions.specs.Occurrences.{is_pattern}
 use Rattle.definitions.specs.Grammar.{OptionText, option, OptionsBy, OptionsText, close, space}
 
 -- ---- a test's item is no pattern
 
-abbrev pub noPattern : Kind → Bool
-noPattern unused = true
-noPattern (addressed a) = true
-noPattern (patterned p) = false
-noPattern plainTest = true
+abbrev pub no_pattern : Kind → Bool
+no_pattern unused = true
+no_pattern (addressed a) = true
+no_pattern (patterned p) = false
+no_pattern plain_test = true
 
-abbrev pub testOnly : OptionValue → Bool
-testOnly (Name n) = true
-testOnly (Protocol p) = true
-testOnly (Flow f) = true
-testOnly (Test it al) = noPattern (kind_of it)
-testOnly (Pattern n b) = true
-testOnly (Modified m) = true
+abbrev pub test_only : OptionValue → Bool
+test_only (Name n) = true
+test_only (Protocol p) = true
+test_only (Flow f) = true
+test_only (Test it al) = no_pattern (kind_of it)
+test_only (Pattern n b) = true
+test_only (Modified m) = true
 
 -- so it is for all that the form makes
 pub record Makes (f : Form OptionValue) : Type 0 where
-  pub made_so : (x : List ℕ) (e : OptionValue) → Means true f x e → testOnly e ≡ true
+  pub made_so : (x : List ℕ) (e : OptionValue) → Means true f x e → test_only e ≡ true
 
-closed-value : (f : Form OptionValue) (x : List ℕ) (e : OptionValue) → Means true (closed f) x e → (y : List ℕ) × Means true f y e
+closed_value : (f : Form OptionValue) (x : List ℕ) (e : OptionValue) → Means true (closed f) x e → (y : List ℕ) × Means true f y e
 unfolding Means
-closed-value f x e m = (m.2.0, subst (λ v. Means true f m.2.0 v) (sym m.1) m.2.3)
+closed_value f x e m = (m.2.0, subst (λ v. Means true f m.2.0 v) (sym m.1) m.2.3)
 
-valued-value : (f : Form OptionValue) (x : List ℕ) (e : OptionValue) → Means true (valued f) x e → (y : List ℕ) × Means true f y e
+valued_value : (f : Form OptionValue) (x : List ℕ) (e : OptionValue) → Means true (valued f) x e → (y : List ℕ) × Means true f y e
 unfolding Means
-valued-value f x e m = closed-value f m.2.1 e (subst (λ v. Means true (closed f) m.2.1 v) (sym m.1) m.2.4)
+valued_value f x e m = closed_value f m.2.1 e (subst (λ v. Means true (closed f) m.2.1 v) (sym m.1) m.2.4)
 
 -- an option with a value: by the function that makes its option; an option without one: by its option
-by_value : {A : Type 0} {h : A → OptionValue} {f : Form A} → ((a : A) → testOnly (h a) ≡ true) → Makes (valued (fmap h f))
+by_value : {A : Type 0} {h : A → OptionValue} {f : Form A} → ((a : A) → test_only (h a) ≡ true) → Makes (valued (fmap h f))
 unfolding Means
 by_value {A} {h} {f} t =
     record {
-      made_so = λ x e m. let w = valued-value (fmap h f) x e m in ap testOnly w.1.1 ∙ t w.1.0;
+      made_so = λ x e m. let w = valued_value (fmap h f) x e m in ap test_only w.1.1 ∙ t w.1.0;
     }
 
-by_itself : {d : OptionValue} → testOnly d ≡ true → Makes (closed (pure d))
+by_itself : {d : OptionValue} → test_only d ≡ true → Makes (closed (pure d))
 unfolding Means
 by_itself {d} t =
     record {
-      made_so = λ x e m. let w = closed-value (pure d) x e m in ap testOnly w.1.1 ∙ t;
+      made_so = λ x e m. let w = closed_value (pure d) x e m in ap test_only w.1.1 ∙ t;
     }
 
 infixr 5 ◌and◌
@@ -81,9 +81,9 @@ row_makes (first_one e) (m and ms) = subst (λ (z : Option). Makes z.form) (sym 
 row_makes (later-one i) (m and ms) = row_makes i ms
 
 -- in the order of the table
-table-rows : RowsMake optionTable
-unfolding optionTable
-table-rows =
+table_rows : RowsMake option_table
+unfolding option_table
+table_rows =
     by_value (λ n. refl)
     and by_value (λ p. refl)
     and by_value (λ f. refl)
@@ -109,46 +109,46 @@ table-rows =
     and by_value (λ w. refl)
     and done
 
-pub option-tests : {x : List ℕ} {e : OptionValue} → OptionText x e → testOnly e ≡ true
-option-tests (option o n y {e} m q w) = (row_makes m table-rows).made_so y e w
+pub option_tests : {x : List ℕ} {e : OptionValue} → OptionText x e → test_only e ≡ true
+option_tests (option o n y {e} m q w) = (row_makes m table_rows).made_so y e w
 
-pub options-tests : {l : List ℕ} {es : List OptionValue} → OptionsText l es → all? testOnly es ≡ true
+pub options_tests : {l : List ℕ} {es : List OptionValue} → OptionsText l es → all? test_only es ≡ true
 unfolding all?
-options-tests close = refl
-options-tests (space o) = options-tests o
-options-tests (OptionsBy.more t o) = rw (option-tests t) (options-tests o)
+options_tests close = refl
+options_tests (space o) = options_tests o
+options_tests (OptionsBy.more t o) = rw (option_tests t) (options_tests o)
 
 -- ---- counts
 
-pub skipped : (k : Kind) (ps : List table.Pattern) → noPattern k ≡ true → patternFirst k ps ≡ ps
+pub skipped : (k : Kind) (ps : List table.Pattern) → no_pattern k ≡ true → pattern_first k ps ≡ ps
 skipped unused ps t = refl
 skipped (addressed a) ps t = refl
 skipped (patterned p) ps t = never (cc)
-skipped plainTest ps t = refl
+skipped plain_test ps t = refl
 
 -- as many pattern items as pattern options
-pub patterns-counted : (es : List OptionValue) → all? testOnly es ≡ true → length (patternsOf (slotsIn es)) ≡ count isPattern es
-unfolding all? keep slotsIn patternsOf
-patterns-counted [] t = refl
-patterns-counted (Name n ∷ es) t = patterns-counted es t
-patterns-counted (Protocol p ∷ es) t = patterns-counted es t
-patterns-counted (Flow f ∷ es) t = patterns-counted es t
-patterns-counted (Test it al ∷ es) t = ap length (skipped (kind_of it) (patternsOf (slotsIn es)) (both_left (noPattern (kind_of it)) (all? testOnly es) t))
-    ∙ patterns-counted es (both_right (noPattern (kind_of it)) (all? testOnly es) t)
-patterns-counted (Pattern n b ∷ es) t = ap suc (patterns-counted es t)
-patterns-counted (Modified m ∷ es) t = patterns-counted es t
+pub patterns_counted : (es : List OptionValue) → all? test_only es ≡ true → length (patterns_of (slots_in es)) ≡ count is_pattern es
+unfolding all? keep slots_in patterns_of
+patterns_counted [] t = refl
+patterns_counted (Name n ∷ es) t = patterns_counted es t
+patterns_counted (Protocol p ∷ es) t = patterns_counted es t
+patterns_counted (Flow f ∷ es) t = patterns_counted es t
+patterns_counted (Test it al ∷ es) t = ap length (skipped (kind_of it) (patterns_of (slots_in es)) (both_left (no_pattern (kind_of it)) (all? test_only es) t))
+    ∙ patterns_counted es (both_right (no_pattern (kind_of it)) (all? test_only es) t)
+patterns_counted (Pattern n b ∷ es) t = ap suc (patterns_counted es t)
+patterns_counted (Modified m ∷ es) t = patterns_counted es t
 
-usable-run-le : (last : LastMatch) (ps : List table.Pattern) → usableRun last ps ≤ length ps
-unfolding usableRun
-usable-run-le last [] = omega arith
-usable-run-le last (p ∷ ps) = by_cases (usable last p) (λ t. rw t (omega (arith, usable-run-le (lastAfter last p (start_at 0)) ps))) (λ t. rw t (omega arith))
+usable_run_le : (last : LastMatch) (ps : List table.Pattern) → usable_run last ps ≤ length ps
+unfolding usable_run
+usable_run_le last [] = omega arith
+usable_run_le last (p ∷ ps) = by_cases (usable last p) (λ t. rw t (omega (arith, usable_run_le (last_after last p (start_at 0)) ps))) (λ t. rw t (omega arith))
 
-pub usable-le : (es : List OptionValue) → all? testOnly es ≡ true → usableIn es ≤ count isPattern es
-usable-le es t = let e = patterns-counted es t in omega (arith, e, usable-run-le None (patternsOf (slotsIn es)))
+pub usable_le : (es : List OptionValue) → all? test_only es ≡ true → usable_in es ≤ count is_pattern es
+usable_le es t = let e = patterns_counted es t in omega (arith, e, usable_run_le None (patterns_of (slots_in es)))
 
 -- no pattern is unusable exactly if as many are usable as there are
-pub usable-exactly : (es : List OptionValue) → all? testOnly es ≡ true → (ltb (usableIn es) (count isPattern es) ≡ false) ↔ (usableIn es ≡ count isPattern es)
-usable-exactly es t = (
-  λ e. let g = ltb-false (usableIn es) (count isPattern es) e in omega (arith, g, usable-le es t),
-  λ e. le-ltb (usableIn es) (count isPattern es) (omega (arith, e)),
+pub usable_exactly : (es : List OptionValue) → all? test_only es ≡ true → (ltb (usable_in es) (count is_pattern es) ≡ false) ↔ (usable_in es ≡ count is_pattern es)
+usable_exactly es t = (
+  λ e. let g = ltb-false (usable_in es) (count is_pattern es) e in omega (arith, g, usable_le es t),
+  λ e. le-ltb (usable_in es) (count is_pattern es) (omega (arith, e)),
 )

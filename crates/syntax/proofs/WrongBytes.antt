@@ -8,27 +8,27 @@ use native.Mathlib.Omega.{arith}
 use lib.ListN.{length, length-append, drop, length-drop}
 use Rattle.forms.specs.Form.{Form, Means}
 use Rattle.forms.specs.Scan.{Scan, Got, Stop, scan, over}
-use Rattle.forms.specs.Place.{Failed, placed, readAt}
+use Rattle.forms.specs.Place.{Failed, placed, read_at}
 use Rattle.forms.proofs.Sound.{never}
-use Rattle.forms.proofs.Words.{word-length}
+use Rattle.forms.proofs.Words.{word_length}
 use Rattle.forms.proofs.Complete.{reads}
 use Rattle.forms.proofs.Places.{StopsAt, stops_at}
 use Rattle.definitions.specs.declared.answers.Refusal.TheVariants as refusal
 use Rattle.definitions.specs.declared.answers.ReadOutcome.TheVariants as outcome
 use Rattle.definitions.specs.Limits.{Limits}
 use Rattle.definitions.specs.Options.{listed}
-use Rattle.definitions.specs.Reading.{atDash, atLetter, readPlacing, read}
+use Rattle.definitions.specs.Reading.{at_dash, at_letter, read_placing, read}
 use Rattle.definitions.specs.WrongPlaces.{span, OfForm, BeginsForm, WrongByte}
-use Rattle.laws.proofs.Placing.{OptionAnswers, form-cause}
-use Rattle.syntax.proofs.Frame.{after, place_after}
-use Rattle.syntax.proofs.Rows.{form-alone}
-use Rattle.syntax.proofs.OptionAt.{Named, named-at, form-stands, span_of, parted-alike}
+use Rattle.laws.proofs.Placing.{OptionAnswers, form_cause}
+use Rattle.syntax.proofs.Frame.{after, place_after_lem}
+use Rattle.syntax.proofs.Rows.{form_alone_lem}
+use Rattle.syntax.proofs.OptionAt.{Named, named_at, form_stands, span_of, parted_alike}
 
-failed-split : {A : Type 0} (s : List ℕ) (o : List (List ℕ)) (u : Scan A) (p : ℕ) → placed s o u ≡ Failed p
+failed_split : {A : Type 0} (s : List ℕ) (o : List (List ℕ)) (u : Scan A) (p : ℕ) → placed s o u ≡ Failed p
     → (r : List ℕ) × (u ≡ Stop r) × (p ≡ length s - length r)
-failed-split s [] (Got v r) p e = never (cc)
-failed-split s (x ∷ o) (Got v r) p e = never (cc)
-failed-split s o (Stop r) p e = let z : length s - length r ≡ p = cc in (r, refl, sym z)
+failed_split s [] (Got v r) p e = never (cc)
+failed_split s (x ∷ o) (Got v r) p e = never (cc)
+failed_split s o (Stop r) p e = let z : length s - length r ≡ p = cc in (r, refl, sym z)
 
 module _ (s : List ℕ) (dash p : ℕ) (i : Named s dash (Failed p)) (r : List ℕ)
     (stopped : scan i.option.form (drop (dash + 2 + length i.name) s) ≡ Stop r)
@@ -43,7 +43,7 @@ module _ (s : List ℕ) (dash p : ℕ) (i : Named s dash (Failed p)) (r : List �
 
   place : p ≡ dash + length passed
   unfolding passed
-  place = placed-so ∙ place_after s dash passed r stands (omega arith)
+  place = placed-so ∙ place_after_lem s dash passed r stands (omega arith)
 
   begins : BeginsForm i.option passed
   unfolding passed
@@ -55,7 +55,7 @@ module _ (s : List ℕ) (dash p : ℕ) (i : Named s dash (Failed p)) (r : List �
       value = stops.value;
       is = ap (λ l. 45 ∷ 45 ∷ l) (append_assoc i.name stops.passed stops.onward);
       named = i.is;
-      formed = stops.begins-one;
+      formed = stops.begins_one;
     },
   )
 
@@ -65,14 +65,14 @@ module _ (s : List ℕ) (dash p : ℕ) (i : Named s dash (Failed p)) (r : List �
   no_more b t e g =
       let f = g.1 in
       let l : length i.name ≡ length f.name =
-      word-length i.name i.option.name i.is ∙ sym (word-length f.name i.option.name f.named) in
+      word_length i.name i.option.name i.is ∙ sym (word_length f.name i.option.name f.named) in
       let q : i.name ++ (stops.passed ++ b ∷ g.0) ≡ f.name ++ f.rest =
       ap (λ k. i.name ++ k) (sym (append_assoc stops.passed (b ∷ []) g.0))
       ∙ sym (append_assoc i.name (stops.passed ++ (b ∷ [])) g.0)
       ∙ ap (λ k. k ++ g.0) (sym (append_assoc i.name stops.passed (b ∷ [])))
       ∙ ap (drop 2) f.is in
-      let k = parted-alike i.name (stops.passed ++ b ∷ g.0) f.name f.rest l q in
-      stops.no-further b t g.0 f.value e (subst (λ x. Means false i.option.form x f.value) (sym k.1) f.formed)
+      let k = parted_alike i.name (stops.passed ++ b ∷ g.0) f.name f.rest l q in
+      stops.no_further b t g.0 f.value e (subst (λ x. Means false i.option.form x f.value) (sym k.1) f.formed)
 
   more_left : (l : List ℕ) → r ≡ l → p < length s → BeginsForm i.option (span s dash (p + 1)) → ⊥
   more_left [] e h g =
@@ -89,13 +89,13 @@ module _ (s : List ℕ) (dash p : ℕ) (i : Named s dash (Failed p)) (r : List �
   inside = omega (arith, placed-so)
 
   -- a text of the option would have been read
-  not-formed : (to : ℕ) → OfForm i.option (span s dash to) → ⊥
-  not-formed to f =
-      let a = form-alone i.named.listed in
+  not_formed : (to : ℕ) → OfForm i.option (span s dash to) → ⊥
+  not_formed to f =
+      let a = form_alone_lem i.named.listed in
       let t = drop (to - dash) (drop dash s) in
-      let d = (form-stands s dash i to f).1 in
+      let d = (form_stands s dash i to f).1 in
       let g : scan i.option.form (f.rest ++ t) ≡ Got f.value t =
-      (reads i.option.form a.is-LL1 f.rest f.value t f.formed (a.ends-itself t)).0 in
+      (reads i.option.form a.is_LL1 f.rest f.value t f.formed (a.ends_itself t)).0 in
       let e : Got f.value t ≡ Stop r = sym g ∙ ap (scan i.option.form) (sym d) ∙ stopped in
       never (cc)
 
@@ -104,24 +104,24 @@ module _ (s : List ℕ) (dash p : ℕ) (i : Named s dash (Failed p)) (r : List �
       record {
         option = i.option;
         named = i.named;
-        not-formed = λ to f. not-formed to f;
+        not_formed = λ to f. not_formed to f;
         after = omega (arith, place);
         inside = inside;
         begins = subst (BeginsForm i.option) (sym (span_of s dash passed r p stands place)) begins;
-        no-further = λ h g. more_left r refl h g;
+        no_further = λ h g. more_left r refl h g;
       }
 
-pub form-fails : (s : List ℕ) (dash p : ℕ) → OptionAnswers s dash (listed (Failed p)) → WrongByte s dash p
-unfolding readAt
-form-fails s dash p a =
-    let i = named-at s dash (Failed p) a in
+pub form_fails : (s : List ℕ) (dash p : ℕ) → OptionAnswers s dash (listed (Failed p)) → WrongByte s dash p
+unfolding read_at
+form_fails s dash p a =
+    let i = named_at s dash (Failed p) a in
     let l = drop (dash + 2 + length i.name) s in
-    let f = failed-split s (over i.option.form l) (scan i.option.form l) p i.answers in
-    wrong s dash p i f.0 f.1 (stops_at i.option.form (form-alone i.named.listed).is-LL1 l f.0 f.1) f.2
+    let f = failed_split s (over i.option.form l) (scan i.option.form l) p i.answers in
+    wrong s dash p i f.0 f.1 (stops_at i.option.form (form_alone_lem i.named.listed).is_LL1 l f.0 f.1) f.2
 
 -- THE PLACE OF 6, of an option whose first dash is the place that document 01 gives
 pub wrong_byte : (lim : Limits) (s : List ℕ) (p : ℕ) → (read lim s).outcome ≡ outcome.Refused refusal.Form p
-    → (dash : ℕ) × ((readPlacing atDash lim s).outcome ≡ outcome.Refused refusal.Form dash) × WrongByte s dash p
+    → (dash : ℕ) × ((read_placing at_dash lim s).outcome ≡ outcome.Refused refusal.Form dash) × WrongByte s dash p
 wrong_byte lim s p e =
-    let c = form-cause s atLetter atDash lim p e in
-    (c.0, c.4, subst (WrongByte s c.0) (sym c.3) (form-fails s c.0 c.1 c.2))
+    let c = form_cause s at_letter at_dash lim p e in
+    (c.0, c.4, subst (WrongByte s c.0) (sym c.3) (form_fails s c.0 c.1 c.2))

@@ -1,6 +1,6 @@
 -- Bits gathered from bytes are none where each byte is zero.
 use mathlib.Core.Path.{◌≡◌, refl, sym, ◌∙◌}
-use mathlib.Core.Bool.{Bool, true, false, ◌&&◌, and-true, and_assoc}
+use mathlib.Core.Bool.{Bool, true, false, ◌&&◌, and_true, and_assoc}
 use mathlib.Core.List.{List}
 use Prim.Native.Nat.{ℕ, ◌+◌, ◌≤◌, ◌<◌}
 use native.Mathlib.Omega.{arith}
@@ -22,10 +22,10 @@ no_bits a b = go (eqb a 0) refl (eqb b 0) refl
 
 -- the loop's step and its end, where r is what it has to find out
 module _ (r : Bool) (s : List ℕ) (bits i : ℕ) (e : r ≡ (eqb bits 0 && all? is_zero (drop i s))) where
-  pub gather-on : i < length s → r ≡ (eqb (bit_or bits (get_or s i 0)) 0 && all? is_zero (drop (i + 1) s))
+  pub gather_on : i < length s → r ≡ (eqb (bit_or bits (get_or s i 0)) 0 && all? is_zero (drop (i + 1) s))
   unfolding all?
-  gather-on h = e ∙ rw (drop_here s i 0 h, no_bits bits (get_or s i 0)) (sym (and_assoc (eqb bits 0) (is_zero (get_or s i 0)) (all? is_zero (drop (i + 1) s))))
+  gather_on h = e ∙ rw (drop_here s i 0 h, no_bits bits (get_or s i 0)) (sym (and_assoc (eqb bits 0) (is_zero (get_or s i 0)) (all? is_zero (drop (i + 1) s))))
 
-  pub gather-out : length s ≤ i → r ≡ eqb bits 0
+  pub gather_out : length s ≤ i → r ≡ eqb bits 0
   unfolding all?
-  gather-out h = e ∙ rw (drop_of_length-le s {i = i} h) (and-true (eqb bits 0))
+  gather_out h = e ∙ rw (drop_of_length-le s {i = i} h) (and_true (eqb bits 0))

@@ -1,10 +1,10 @@
 // The bytes of a table: its name, and room that is not in use.
 ghost use Rattle.std.specs.Prelude.{◌≡◌, ◌&&◌, ℕ, ◌≤◌, length, take, drop, leb};
 ghost use Rattle.forms.specs.Form.{has};
-ghost use Rattle.definitions.specs.Limits.{maxByte};
+ghost use Rattle.definitions.specs.Limits.{max_byte};
 ghost use Rattle.definitions.specs.Lists.{all?};
 ghost use Rattle.definitions.specs.Forms.{quotable};
-ghost use Rattle.definitions.specs.WellFormed.{is_zero, nameFits};
+ghost use Rattle.definitions.specs.WellFormed.{is_zero, name_fits};
 
 use definitions::limits::NAME_BYTES;
 use scan_bytes::bytes::{Class, in_class};
@@ -39,7 +39,7 @@ fn quotable_to(s: &[u8], n: usize) -> bool
 
 // 1 to 64 bytes that may stand in a name, and zeros after them.
 pub fn name_fits(name: [u8; NAME_BYTES], len: usize) -> bool
-    ensures { result ≡ nameFits name len }
+    ensures { result ≡ name_fits name len }
 {
     if len < 1 {
         return false;
@@ -56,7 +56,7 @@ pub fn name_fits(name: [u8; NAME_BYTES], len: usize) -> bool
 
 // So many bytes are in use, and the room after them is zero.
 pub fn room_fits(s: &[u8], used: usize) -> bool
-    ensures { result ≡ (leb used (length s.now) && (all? (λ (b : ℕ). leb b maxByte) (take used s.now) && all? is_zero (drop used s.now))) }
+    ensures { result ≡ (leb used (length s.now) && (all? (λ (b : ℕ). leb b max_byte) (take used s.now) && all? is_zero (drop used s.now))) }
 {
     if s.len() < used {
         return false;

@@ -6,34 +6,34 @@ use Rattle.definitions.specs.declared.table.Item.{Item}
 use Rattle.definitions.specs.declared.table.Address.{Address}
 use Rattle.definitions.specs.declared.table.Slot.{Slot}
 use Rattle.definitions.specs.declared.table.Table.{Table}
-use Rattle.definitions.specs.Lists.{sameBytes}
-use Rattle.table_numbers.specs.ItemNumbers.{flowNumber, itemNumbers, itemOffset}
+use Rattle.definitions.specs.Lists.{same_bytes}
+use Rattle.table_numbers.specs.ItemNumbers.{flow_number, item_numbers, item_offset}
 
 -- two lists, element by element
-unfoldable pub sameBy : {A : Type 0} → (A → A → Bool) → List A → List A → Bool
-sameBy f [] [] = true
-sameBy f [] (y ∷ ys) = false
-sameBy f (x ∷ xs) [] = false
-sameBy f (x ∷ xs) (y ∷ ys) = f x y && sameBy f xs ys
+unfoldable pub same_by : {A : Type 0} → (A → A → Bool) → List A → List A → Bool
+same_by f [] [] = true
+same_by f [] (y ∷ ys) = false
+same_by f (x ∷ xs) [] = false
+same_by f (x ∷ xs) (y ∷ ys) = f x y && same_by f xs ys
 
-abbrev pub sameOffset : ℤ → ℤ → Bool
-sameOffset a b = le_z a b && le_z b a
+abbrev pub same_offset : ℤ → ℤ → Bool
+same_offset a b = le_z a b && le_z b a
 
-unfoldable pub sameItem : Item → Item → Bool
-sameItem a b = sameBytes (itemNumbers a) (itemNumbers b) && sameOffset (itemOffset a) (itemOffset b)
+unfoldable pub same_item : Item → Item → Bool
+same_item a b = same_bytes (item_numbers a) (item_numbers b) && same_offset (item_offset a) (item_offset b)
 
-unfoldable pub sameAddress : Address → Address → Bool
-sameAddress a b = eqb a.number b.number && eqb a.prefix b.prefix
+unfoldable pub same_address : Address → Address → Bool
+same_address a b = eqb a.number b.number && eqb a.prefix b.prefix
 
-unfoldable pub sameSlot : Slot → Slot → Bool
-sameSlot a b = sameItem a.item b.item && sameBy sameAddress a.addresses b.addresses
+unfoldable pub same_slot : Slot → Slot → Bool
+same_slot a b = same_item a.item b.item && same_by same_address a.addresses b.addresses
 
 -- all eight fields: the numbers, the flow, the name, the pattern bytes, the slots
-unfoldable pub sameTable : Table → Table → Bool
-sameTable t u =
+unfoldable pub same_table : Table → Table → Bool
+same_table t u =
     eqb t.len u.len
     && (eqb t.protocol u.protocol
-    && (eqb (flowNumber t.flow) (flowNumber u.flow)
+    && (eqb (flow_number t.flow) (flow_number u.flow)
     && (eqb t.used u.used
     && (eqb t.count u.count
-    && (sameBytes t.name u.name && (sameBytes t.bytes u.bytes && sameBy sameSlot t.items u.items))))))
+    && (same_bytes t.name u.name && (same_bytes t.bytes u.bytes && same_by same_slot t.items u.items))))))

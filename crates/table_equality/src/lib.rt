@@ -1,7 +1,7 @@
 // EQUALITY OF TABLES: field by field, whatever stands in them, unused room too. proofs/Exactly.antt: true exactly for equal tables.
 ghost use Rattle.std.specs.Prelude.{◌≡◌};
-ghost use Rattle.definitions.specs.Lists.{sameBytes};
-ghost use Rattle.table_equality.specs.SameTables.{sameBy, sameOffset, sameItem, sameAddress, sameSlot, sameTable};
+ghost use Rattle.definitions.specs.Lists.{same_bytes};
+ghost use Rattle.table_equality.specs.SameTables.{same_by, same_offset, same_item, same_address, same_slot, same_table};
 
 use definitions::limits::{ADDRESSES, ITEMS};
 use definitions::table::{Address, Item, Slot, Table};
@@ -11,7 +11,7 @@ use table_numbers::{NUMBERS, item_numbers, item_offset};
 
 // The numbers of two items, one by one.
 fn same_numbers(a: [u64; NUMBERS], b: [u64; NUMBERS]) -> bool
-    ensures { result ≡ sameBytes a b }
+    ensures { result ≡ same_bytes a b }
 {
     let mut i = 0;
     while i < NUMBERS {
@@ -24,7 +24,7 @@ fn same_numbers(a: [u64; NUMBERS], b: [u64; NUMBERS]) -> bool
 }
 
 fn same_offset(a: i32, b: i32) -> bool
-    ensures { result ≡ sameOffset a b }
+    ensures { result ≡ same_offset a b }
 {
     if a <= b {
         return b <= a;
@@ -34,7 +34,7 @@ fn same_offset(a: i32, b: i32) -> bool
 
 // Two items without their addresses.
 pub fn same_item(a: Item, b: Item) -> bool
-    ensures { result ≡ sameItem a b }
+    ensures { result ≡ same_item a b }
 {
     if same_numbers(item_numbers(a), item_numbers(b)) {
         return same_offset(item_offset(a), item_offset(b));
@@ -43,7 +43,7 @@ pub fn same_item(a: Item, b: Item) -> bool
 }
 
 fn same_address(a: Address, b: Address) -> bool
-    ensures { result ≡ sameAddress a b }
+    ensures { result ≡ same_address a b }
 {
     if a.number == b.number {
         return a.prefix == b.prefix;
@@ -52,7 +52,7 @@ fn same_address(a: Address, b: Address) -> bool
 }
 
 fn same_addresses(a: [Address; ADDRESSES], b: [Address; ADDRESSES]) -> bool
-    ensures { result ≡ sameBy sameAddress a b }
+    ensures { result ≡ same_by same_address a b }
 {
     let mut i = 0;
     while i < ADDRESSES {
@@ -66,7 +66,7 @@ fn same_addresses(a: [Address; ADDRESSES], b: [Address; ADDRESSES]) -> bool
 
 // An item with its addresses.
 pub fn same_slot(a: Slot, b: Slot) -> bool
-    ensures { result ≡ sameSlot a b }
+    ensures { result ≡ same_slot a b }
 {
     let x = a.item;
     let y = b.item;
@@ -80,7 +80,7 @@ pub fn same_slot(a: Slot, b: Slot) -> bool
 
 // WHETHER TWO TABLES ARE EQUAL.
 pub fn same_table(t: Table, u: Table) -> bool
-    ensures { result ≡ sameTable t u }
+    ensures { result ≡ same_table t u }
 {
     if t.len != u.len {
         return false;

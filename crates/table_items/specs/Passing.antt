@@ -3,44 +3,44 @@ use Rattle.std.specs.Prelude.{◌≡◌, ℕ, ◌+◌, ◌-◌, ◌<◌, Bool, t
 use Rattle.definitions.specs.declared.packets.LastMatch.TheVariants.{None}
 use Rattle.definitions.specs.declared.table.Pattern.{Pattern}
 use Rattle.definitions.specs.declared.table.Slot.{Slot}
-use Rattle.definitions.specs.Limits.{maxPatterns, maxTests, maxItems}
-use Rattle.definitions.specs.Items.{Kind, unused, addressed, patterned, plainTest, kind_of}
+use Rattle.definitions.specs.Limits.{max_patterns, max_tests, max_items}
+use Rattle.definitions.specs.Items.{Kind, unused, addressed, patterned, plain_test, kind_of}
 use Rattle.definitions.specs.Starts.{start_at}
-use Rattle.definitions.specs.References.{lastAfter, usable}
-use Rattle.definitions.specs.WellFormed.{slotFits}
+use Rattle.definitions.specs.References.{last_after, usable}
+use Rattle.definitions.specs.WellFormed.{slot_fits}
 use Rattle.table_items.specs.declared.Passed.{Passed}
 
 -- no slot passed yet
-abbrev pub nonePassed : ℕ → Passed
-nonePassed used = record { patterns = 0; left = used; last = None }
+abbrev pub none_passed : ℕ → Passed
+none_passed used = record { patterns = 0; left = used; last = None }
 
 -- a pattern may follow, and a slot may be passed
-abbrev pub mayFollow : Passed → Pattern → Bool
-mayFollow w p = leb p.len w.left && usable w.last p
+abbrev pub may_follow : Passed → Pattern → Bool
+may_follow w p = leb p.len w.left && usable w.last p
 
-abbrev pub kindPasses : Passed → Kind → Bool
-kindPasses w unused = true
-kindPasses w (addressed a) = true
-kindPasses w (patterned p) = mayFollow w p
-kindPasses w plainTest = true
+abbrev pub kind_passes : Passed → Kind → Bool
+kind_passes w unused = true
+kind_passes w (addressed a) = true
+kind_passes w (patterned p) = may_follow w p
+kind_passes w plain_test = true
 
-abbrev pub mayPass : Passed → Slot → Bool
-mayPass w sl = slotFits sl && kindPasses w (kind_of sl.item)
+abbrev pub may_pass : Passed → Slot → Bool
+may_pass w sl = slot_fits sl && kind_passes w (kind_of sl.item)
 
 -- one slot more
-abbrev pub pastKind : Passed → Kind → Passed
-pastKind w unused = w
-pastKind w (addressed a) = w
-pastKind w (patterned p) = record { patterns = w.patterns + 1; left = w.left - p.len; last = lastAfter w.last p (start_at 0) }
-pastKind w plainTest = w
+abbrev pub past_kind : Passed → Kind → Passed
+past_kind w unused = w
+past_kind w (addressed a) = w
+past_kind w (patterned p) = record { patterns = w.patterns + 1; left = w.left - p.len; last = last_after w.last p (start_at 0) }
+past_kind w plain_test = w
 
-abbrev pub pastItem : Passed → Slot → Passed
-pastItem w sl = pastKind w (kind_of sl.item)
+abbrev pub past_item : Passed → Slot → Passed
+past_item w sl = past_kind w (kind_of sl.item)
 
 pub record Passable (w : Passed) (sl : Slot) : Type 0 where
-  pub few : w.patterns < maxItems
-  pub passes : mayPass w sl ≡ true
+  pub few : w.patterns < max_items
+  pub passes : may_pass w sl ≡ true
 
 -- the end, where so many items are in use
-abbrev pub endsWell : Passed → ℕ → Bool
-endsWell w count = leb w.patterns maxPatterns && (leb (count - w.patterns) maxTests && eqb w.left 0)
+abbrev pub ends_well : Passed → ℕ → Bool
+ends_well w count = leb w.patterns max_patterns && (leb (count - w.patterns) max_tests && eqb w.left 0)

@@ -1,6 +1,6 @@
 // What the slots of a table that are passed so far come to, and one slot more: the steps of the test of its items.
 ghost use Rattle.std.specs.Prelude.{◌≡◌, ◌≤◌};
-ghost use Rattle.table_items.specs.Passing.{nonePassed, mayFollow, mayPass, Passable, pastItem, endsWell};
+ghost use Rattle.table_items.specs.Passing.{none_passed, may_follow, may_pass, Passable, past_item, ends_well};
 
 use definitions::limits::{PATTERNS, TESTS};
 use definitions::packets::LastMatch;
@@ -18,7 +18,7 @@ pub struct Passed {
 
 // No slot passed yet.
 pub fn none_passed(used: usize) -> Passed
-    ensures { result ≡ nonePassed used }
+    ensures { result ≡ none_passed used }
 {
     Passed {
         patterns: 0,
@@ -30,7 +30,7 @@ pub fn none_passed(used: usize) -> Passed
 // A pattern with no more bytes than are left, and with usable references. The bytes are counted down, since the lengths may be any numbers and
 // their sum too large.
 fn may_follow(w: Passed, p: Pattern) -> bool
-    ensures { result ≡ mayFollow w p }
+    ensures { result ≡ may_follow w p }
 {
     if w.left < p.len {
         return false;
@@ -41,7 +41,7 @@ fn may_follow(w: Passed, p: Pattern) -> bool
 
 // A slot that holds what it may; a pattern in it may follow those passed.
 pub fn may_pass(w: Passed, slot: Slot) -> bool
-    ensures { result ≡ mayPass w slot }
+    ensures { result ≡ may_pass w slot }
 {
     if !slot_fits(slot) {
         return false;
@@ -56,7 +56,7 @@ pub fn may_pass(w: Passed, slot: Slot) -> bool
 // One slot more.
 pub fn past_item(w: Passed, slot: Slot) -> Passed
     requires { Passable w slot }
-    ensures { result ≡ pastItem w slot }
+    ensures { result ≡ past_item w slot }
 {
     let it = slot.item;
     let Item::Pattern(p) = it else {
@@ -74,7 +74,7 @@ pub fn past_item(w: Passed, slot: Slot) -> Passed
 // The end, where so many items are in use: no more than 8 patterns and 16 tests, and no bytes left.
 pub fn ends_well(w: Passed, count: usize) -> bool
     requires { w.patterns ≤ count }
-    ensures { result ≡ endsWell w count }
+    ensures { result ≡ ends_well w count }
 {
     let patterns = w.patterns;
     if PATTERNS < patterns {

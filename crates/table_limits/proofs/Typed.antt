@@ -7,11 +7,11 @@ use mir.Val.{WT}
 use denote.Enum.Laws.{val}
 use Rattle.definitions.specs.declared.table.Within.{Within}
 use Rattle.definitions.specs.declared.table.Within.TheVariants as within
-use Rattle.definitions.specs.Limits.{maxWord}
-use Rattle.definitions.specs.WellFormed.{withinFits}
+use Rattle.definitions.specs.Limits.{max_word}
+use Rattle.definitions.specs.WellFormed.{within_fits}
 use Rattle.definitions.specs.contracts.table.Within as within-type
 use Rattle.definitions.proofs.table.Within.TheLaws as within-laws
 
-pub within-fits : (w : Within) → WT (val within-type.the_type within-laws.the_laws w) → withinFits w ≡ true
-within-fits within.Unset k = refl
-within-fits (within.Given r) k = le-leb r.number maxWord (omega (arith, k.1.0.0))
+pub within_fits_lem : (w : Within) → WT (val within-type.the_type within-laws.the_laws w) → within_fits w ≡ true
+within_fits_lem within.Unset k = refl
+within_fits_lem (within.Given r) k = le-leb r.number max_word (omega (arith, k.1.0.0))

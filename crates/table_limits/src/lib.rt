@@ -1,10 +1,10 @@
 // The numbers of items and addresses, each within its limit. What a number's type rules out needs no test.
 ghost use Rattle.std.specs.Prelude.{◌≡◌, leb, nat_abs};
 ghost use Rattle.forms.specs.Bytes.{between};
-ghost use Rattle.definitions.specs.Limits.{maxWord, maxAddresses};
+ghost use Rattle.definitions.specs.Limits.{max_word, max_addresses};
 ghost use Rattle.definitions.specs.ByteCounts.{byte_count};
-ghost use Rattle.definitions.specs.Forms.{maxField};
-ghost use Rattle.definitions.specs.WellFormed.{addressFits, addressUnused, distanceFits, itemFits};
+ghost use Rattle.definitions.specs.Forms.{max_field};
+ghost use Rattle.definitions.specs.WellFormed.{address_fits, address_unused, distance_fits, item_fits};
 
 use definitions::limits::{ADDRESSES, MAX_BYTE, MAX_OFFSET, MAX_PREFIX, MAX_WORD};
 use definitions::table::{
@@ -13,7 +13,7 @@ use definitions::table::{
 
 // An address test has 1 to 8 addresses.
 pub fn count_fits(count: usize) -> bool
-    ensures { result ≡ between 1 maxAddresses count }
+    ensures { result ≡ between 1 max_addresses count }
 {
     if 1 <= count {
         count <= ADDRESSES
@@ -24,7 +24,7 @@ pub fn count_fits(count: usize) -> bool
 
 // Whether a number test is within the limit of its field. No text reads as an ip_id.
 pub fn number_fits(a: NumberTest) -> bool
-    ensures { result ≡ itemFits (Item.Number a) }
+    ensures { result ≡ item_fits (Item.Number a) }
 {
     let field = a.field;
     match field {
@@ -37,7 +37,7 @@ pub fn number_fits(a: NumberTest) -> bool
 
 // The most that stands in a header field, which is its full mask.
 pub fn field_most(field: HeaderField) -> u64
-    ensures { result ≡ maxField field }
+    ensures { result ≡ max_field field }
 {
     match field {
         HeaderField::TotalLength => MAX_WORD,
@@ -49,7 +49,7 @@ pub fn field_most(field: HeaderField) -> u64
 
 // Whether mask and number of a field test are within the limit of its field.
 pub fn field_fits(a: FieldTest) -> bool
-    ensures { result ≡ itemFits (Item.Field a) }
+    ensures { result ≡ item_fits (Item.Field a) }
 {
     let field = a.field;
     let most = field_most(field);
@@ -75,7 +75,7 @@ const OFFSET_LEAST: i32 = -MAX_OFFSET;
 
 // A distance lies between -65535 and 65535.
 fn offset_fits(offset: i32) -> bool
-    ensures { result ≡ leb (nat_abs offset) maxWord }
+    ensures { result ≡ leb (nat_abs offset) max_word }
 {
     if OFFSET_LEAST <= offset {
         offset <= MAX_OFFSET
@@ -85,7 +85,7 @@ fn offset_fits(offset: i32) -> bool
 }
 
 fn distance_fits(distance: Distance) -> bool
-    ensures { result ≡ distanceFits distance }
+    ensures { result ≡ distance_fits distance }
 {
     match distance {
         Distance::Unset => true,
@@ -95,7 +95,7 @@ fn distance_fits(distance: Distance) -> bool
 
 // A pattern has a byte at least, and its distance fits; a within does by its type.
 pub fn pattern_fits(p: Pattern) -> bool
-    ensures { result ≡ itemFits (Item.Pattern p) }
+    ensures { result ≡ item_fits (Item.Pattern p) }
 {
     if p.len == 0 {
         return false;
@@ -106,14 +106,14 @@ pub fn pattern_fits(p: Pattern) -> bool
 
 // The number of an address is within its limit by its type.
 pub fn address_fits(a: Address) -> bool
-    ensures { result ≡ addressFits a }
+    ensures { result ≡ address_fits a }
 {
     a.prefix <= MAX_PREFIX
 }
 
 // An address that is not in use is zero.
 pub fn address_unused(a: Address) -> bool
-    ensures { result ≡ addressUnused a }
+    ensures { result ≡ address_unused a }
 {
     if a.number == 0 { a.prefix == 0 } else { false }
 }

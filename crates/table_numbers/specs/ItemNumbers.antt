@@ -6,17 +6,17 @@ use Rattle.definitions.specs.declared.table.Flow.TheVariants as flow
 use Rattle.definitions.specs.declared.table.Side.{Side}
 use Rattle.definitions.specs.declared.table.Side.TheVariants as side
 use Rattle.definitions.specs.declared.table.NumberField.{NumberField}
-use Rattle.definitions.specs.declared.table.NumberField.TheVariants as numberField
+use Rattle.definitions.specs.declared.table.NumberField.TheVariants as number_field
 use Rattle.definitions.specs.declared.table.Order.{Order}
 use Rattle.definitions.specs.declared.table.Order.TheVariants as order
 use Rattle.definitions.specs.declared.table.HeaderField.{HeaderField}
-use Rattle.definitions.specs.declared.table.HeaderField.TheVariants as headerField
+use Rattle.definitions.specs.declared.table.HeaderField.TheVariants as header_field
 use Rattle.definitions.specs.declared.table.Operator.{Operator}
 use Rattle.definitions.specs.declared.table.Operator.TheVariants as operator
 use Rattle.definitions.specs.declared.table.SizeField.{SizeField}
-use Rattle.definitions.specs.declared.table.SizeField.TheVariants as sizeField
+use Rattle.definitions.specs.declared.table.SizeField.TheVariants as size_field
 use Rattle.definitions.specs.declared.table.ByteOperator.{ByteOperator}
-use Rattle.definitions.specs.declared.table.ByteOperator.TheVariants as byteOperator
+use Rattle.definitions.specs.declared.table.ByteOperator.TheVariants as byte_operator
 use Rattle.definitions.specs.declared.table.Distance.{Distance}
 use Rattle.definitions.specs.declared.table.Distance.TheVariants as distance
 use Rattle.definitions.specs.declared.table.Within.{Within}
@@ -24,107 +24,107 @@ use Rattle.definitions.specs.declared.table.Within.TheVariants as within
 use Rattle.definitions.specs.declared.table.Item.{Item}
 use Rattle.definitions.specs.declared.table.Item.TheVariants as item
 use Rattle.definitions.specs.ByteCounts.{byte_count}
-use Rattle.definitions.specs.References.{contextNumber, referenceNumber}
+use Rattle.definitions.specs.References.{context_number, reference_number}
 
 -- ---- which case it is
 
-abbrev pub flagNumber : Bool → ℕ
-flagNumber false = 0
-flagNumber true = 1
+abbrev pub flag_number : Bool → ℕ
+flag_number false = 0
+flag_number true = 1
 
-abbrev pub flowNumber : Flow → ℕ
-flowNumber flow.Any = 0
-flowNumber flow.FromClient = 1
-flowNumber flow.FromServer = 2
+abbrev pub flow_number : Flow → ℕ
+flow_number flow.Any = 0
+flow_number flow.FromClient = 1
+flow_number flow.FromServer = 2
 
-abbrev pub sideNumber : Side → ℕ
-sideNumber side.Source = 0
-sideNumber side.Destination = 1
+abbrev pub side_number : Side → ℕ
+side_number side.Source = 0
+side_number side.Destination = 1
 
-abbrev pub numberFieldNumber : NumberField → ℕ
-numberFieldNumber numberField.IpId = 0
-numberFieldNumber numberField.SourcePort = 1
-numberFieldNumber numberField.DestinationPort = 2
-numberFieldNumber numberField.Tos = 3
+abbrev pub number_field_number : NumberField → ℕ
+number_field_number number_field.IpId = 0
+number_field_number number_field.SourcePort = 1
+number_field_number number_field.DestinationPort = 2
+number_field_number number_field.Tos = 3
 
-abbrev pub orderNumber : Order → ℕ
-orderNumber order.Equal = 0
-orderNumber order.Less = 1
-orderNumber order.Greater = 2
+abbrev pub order_number : Order → ℕ
+order_number order.Equal = 0
+order_number order.Less = 1
+order_number order.Greater = 2
 
-abbrev pub headerFieldNumber : HeaderField → ℕ
-headerFieldNumber headerField.TotalLength = 0
-headerFieldNumber headerField.Id = 1
-headerFieldNumber headerField.Checksum = 2
-headerFieldNumber headerField.Ttl = 3
+abbrev pub header_field_number : HeaderField → ℕ
+header_field_number header_field.TotalLength = 0
+header_field_number header_field.Id = 1
+header_field_number header_field.Checksum = 2
+header_field_number header_field.Ttl = 3
 
-abbrev pub operatorNumber : Operator → ℕ
-operatorNumber operator.Equal = 0
-operatorNumber operator.Unequal = 1
-operatorNumber operator.Less = 2
-operatorNumber operator.Greater = 3
-operatorNumber operator.AtMost = 4
-operatorNumber operator.AtLeast = 5
+abbrev pub operator_number : Operator → ℕ
+operator_number operator.Equal = 0
+operator_number operator.Unequal = 1
+operator_number operator.Less = 2
+operator_number operator.Greater = 3
+operator_number operator.AtMost = 4
+operator_number operator.AtLeast = 5
 
-abbrev pub sizeFieldNumber : SizeField → ℕ
-sizeFieldNumber sizeField.Payload = 0
-sizeFieldNumber sizeField.Uri = 1
-sizeFieldNumber sizeField.Header = 2
-sizeFieldNumber sizeField.Body = 3
+abbrev pub size_field_number : SizeField → ℕ
+size_field_number size_field.Payload = 0
+size_field_number size_field.Uri = 1
+size_field_number size_field.Header = 2
+size_field_number size_field.Body = 3
 
-abbrev pub byteOperatorNumber : ByteOperator → ℕ
-byteOperatorNumber byteOperator.Greater = 0
-byteOperatorNumber byteOperator.Less = 1
-byteOperatorNumber byteOperator.Equal = 2
-byteOperatorNumber byteOperator.Unequal = 3
+abbrev pub byte_operator_number : ByteOperator → ℕ
+byte_operator_number byte_operator.Greater = 0
+byte_operator_number byte_operator.Less = 1
+byte_operator_number byte_operator.Equal = 2
+byte_operator_number byte_operator.Unequal = 3
 
 -- ---- distance and within: 0 for the reference where they are not given
 
-abbrev pub distanceReference : Distance → ℕ
-distanceReference distance.Unset = 0
-distanceReference (distance.Given d) = suc (referenceNumber d.reference)
+abbrev pub distance_reference : Distance → ℕ
+distance_reference distance.Unset = 0
+distance_reference (distance.Given d) = suc (reference_number d.reference)
 
-abbrev pub distanceReverse : Distance → ℕ
-distanceReverse distance.Unset = 0
-distanceReverse (distance.Given d) = flagNumber d.reverse
+abbrev pub distance_reverse : Distance → ℕ
+distance_reverse distance.Unset = 0
+distance_reverse (distance.Given d) = flag_number d.reverse
 
-abbrev pub distanceOffset : Distance → ℤ
-distanceOffset distance.Unset = pos 0
-distanceOffset (distance.Given d) = d.offset
+abbrev pub distance_offset : Distance → ℤ
+distance_offset distance.Unset = pos 0
+distance_offset (distance.Given d) = d.offset
 
-abbrev pub withinReference : Within → ℕ
-withinReference within.Unset = 0
-withinReference (within.Given w) = suc (referenceNumber w.reference)
+abbrev pub within_reference : Within → ℕ
+within_reference within.Unset = 0
+within_reference (within.Given w) = suc (reference_number w.reference)
 
-abbrev pub withinNumber : Within → ℕ
-withinNumber within.Unset = 0
-withinNumber (within.Given w) = w.number
+abbrev pub within_number : Within → ℕ
+within_number within.Unset = 0
+within_number (within.Given w) = w.number
 
 -- ---- the item
 
-abbrev pub itemNumbers : Item → List ℕ
-itemNumbers item.Unused = 0 ∷ 0 ∷ 0 ∷ 0 ∷ 0 ∷ 0 ∷ 0 ∷ 0 ∷ 0 ∷ []
-itemNumbers (item.Address a) = 1 ∷ sideNumber a.side ∷ flagNumber a.negated ∷ a.count ∷ 0 ∷ 0 ∷ 0 ∷ 0 ∷ 0 ∷ []
-itemNumbers item.SameIp = 2 ∷ 0 ∷ 0 ∷ 0 ∷ 0 ∷ 0 ∷ 0 ∷ 0 ∷ 0 ∷ []
-itemNumbers (item.Number a) = 3 ∷ numberFieldNumber a.field ∷ a.number ∷ 0 ∷ 0 ∷ 0 ∷ 0 ∷ 0 ∷ 0 ∷ []
-itemNumbers (item.Ttl a) = 4 ∷ orderNumber a.order ∷ a.number ∷ 0 ∷ 0 ∷ 0 ∷ 0 ∷ 0 ∷ 0 ∷ []
-itemNumbers (item.Field a) = 5 ∷ headerFieldNumber a.field ∷ a.mask ∷ operatorNumber a.operator ∷ a.number ∷ 0 ∷ 0 ∷ 0 ∷ 0 ∷ []
-itemNumbers (item.Size a) = 6 ∷ orderNumber a.order ∷ a.number ∷ sizeFieldNumber a.field ∷ 0 ∷ 0 ∷ 0 ∷ 0 ∷ 0 ∷ []
-itemNumbers (item.At a) = 7 ∷ a.number ∷ flagNumber a.relative ∷ 0 ∷ 0 ∷ 0 ∷ 0 ∷ 0 ∷ 0 ∷ []
-itemNumbers (item.Byte a) =
-    8 ∷ byte_count a.width ∷ byteOperatorNumber a.operator ∷ a.value ∷ a.offset ∷ flagNumber a.relative ∷ flagNumber a.little ∷ 0 ∷ 0 ∷ []
-itemNumbers (item.Pattern p) =
-    9 ∷ flagNumber p.negated ∷ p.len ∷ contextNumber p.context ∷ flagNumber p.nocase ∷ distanceReference p.distance ∷
-    distanceReverse p.distance ∷ withinReference p.within ∷ withinNumber p.within ∷ []
+abbrev pub item_numbers : Item → List ℕ
+item_numbers item.Unused = 0 ∷ 0 ∷ 0 ∷ 0 ∷ 0 ∷ 0 ∷ 0 ∷ 0 ∷ 0 ∷ []
+item_numbers (item.Address a) = 1 ∷ side_number a.side ∷ flag_number a.negated ∷ a.count ∷ 0 ∷ 0 ∷ 0 ∷ 0 ∷ 0 ∷ []
+item_numbers item.SameIp = 2 ∷ 0 ∷ 0 ∷ 0 ∷ 0 ∷ 0 ∷ 0 ∷ 0 ∷ 0 ∷ []
+item_numbers (item.Number a) = 3 ∷ number_field_number a.field ∷ a.number ∷ 0 ∷ 0 ∷ 0 ∷ 0 ∷ 0 ∷ 0 ∷ []
+item_numbers (item.Ttl a) = 4 ∷ order_number a.order ∷ a.number ∷ 0 ∷ 0 ∷ 0 ∷ 0 ∷ 0 ∷ 0 ∷ []
+item_numbers (item.Field a) = 5 ∷ header_field_number a.field ∷ a.mask ∷ operator_number a.operator ∷ a.number ∷ 0 ∷ 0 ∷ 0 ∷ 0 ∷ []
+item_numbers (item.Size a) = 6 ∷ order_number a.order ∷ a.number ∷ size_field_number a.field ∷ 0 ∷ 0 ∷ 0 ∷ 0 ∷ 0 ∷ []
+item_numbers (item.At a) = 7 ∷ a.number ∷ flag_number a.relative ∷ 0 ∷ 0 ∷ 0 ∷ 0 ∷ 0 ∷ 0 ∷ []
+item_numbers (item.Byte a) =
+    8 ∷ byte_count a.width ∷ byte_operator_number a.operator ∷ a.value ∷ a.offset ∷ flag_number a.relative ∷ flag_number a.little ∷ 0 ∷ 0 ∷ []
+item_numbers (item.Pattern p) =
+    9 ∷ flag_number p.negated ∷ p.len ∷ context_number p.context ∷ flag_number p.nocase ∷ distance_reference p.distance ∷
+    distance_reverse p.distance ∷ within_reference p.within ∷ within_number p.within ∷ []
 
-abbrev pub itemOffset : Item → ℤ
-itemOffset item.Unused = pos 0
-itemOffset (item.Address a) = pos 0
-itemOffset item.SameIp = pos 0
-itemOffset (item.Number a) = pos 0
-itemOffset (item.Ttl a) = pos 0
-itemOffset (item.Field a) = pos 0
-itemOffset (item.Size a) = pos 0
-itemOffset (item.At a) = pos 0
-itemOffset (item.Byte a) = pos 0
-itemOffset (item.Pattern p) = distanceOffset p.distance
+abbrev pub item_offset : Item → ℤ
+item_offset item.Unused = pos 0
+item_offset (item.Address a) = pos 0
+item_offset item.SameIp = pos 0
+item_offset (item.Number a) = pos 0
+item_offset (item.Ttl a) = pos 0
+item_offset (item.Field a) = pos 0
+item_offset (item.Size a) = pos 0
+item_offset (item.At a) = pos 0
+item_offset (item.Byte a) = pos 0
+item_offset (item.Pattern p) = distance_offset p.distance

@@ -10,14 +10,14 @@ use table_references::usable::reference_number;
 
 // A flag: 0 or 1.
 pub fn flag_number(b: bool) -> u64
-    ensures { result ≡ of.flagNumber b }
+    ensures { result ≡ of.flag_number b }
 {
     if b { 1 } else { 0 }
 }
 
 // Which flow it is.
 pub fn flow_number(f: Flow) -> u64
-    ensures { result ≡ of.flowNumber f }
+    ensures { result ≡ of.flow_number f }
 {
     match f {
         Flow::Any => 0,
@@ -28,7 +28,7 @@ pub fn flow_number(f: Flow) -> u64
 
 // Which side it is.
 pub fn side_number(s: Side) -> u64
-    ensures { result ≡ of.sideNumber s }
+    ensures { result ≡ of.side_number s }
 {
     match s {
         Side::Source => 0,
@@ -38,7 +38,7 @@ pub fn side_number(s: Side) -> u64
 
 // Which field of a number test it is.
 pub fn number_field_number(f: NumberField) -> u64
-    ensures { result ≡ of.numberFieldNumber f }
+    ensures { result ≡ of.number_field_number f }
 {
     match f {
         NumberField::IpId => 0,
@@ -50,7 +50,7 @@ pub fn number_field_number(f: NumberField) -> u64
 
 // Which order it is.
 pub fn order_number(o: Order) -> u64
-    ensures { result ≡ of.orderNumber o }
+    ensures { result ≡ of.order_number o }
 {
     match o {
         Order::Equal => 0,
@@ -61,7 +61,7 @@ pub fn order_number(o: Order) -> u64
 
 // Which field of the header it is.
 pub fn header_field_number(f: HeaderField) -> u64
-    ensures { result ≡ of.headerFieldNumber f }
+    ensures { result ≡ of.header_field_number f }
 {
     match f {
         HeaderField::TotalLength => 0,
@@ -73,7 +73,7 @@ pub fn header_field_number(f: HeaderField) -> u64
 
 // Which operator of a field test it is.
 pub fn operator_number(o: Operator) -> u64
-    ensures { result ≡ of.operatorNumber o }
+    ensures { result ≡ of.operator_number o }
 {
     match o {
         Operator::Equal => 0,
@@ -87,7 +87,7 @@ pub fn operator_number(o: Operator) -> u64
 
 // Which field it is whose size is meant.
 pub fn size_field_number(f: SizeField) -> u64
-    ensures { result ≡ of.sizeFieldNumber f }
+    ensures { result ≡ of.size_field_number f }
 {
     match f {
         SizeField::Payload => 0,
@@ -99,7 +99,7 @@ pub fn size_field_number(f: SizeField) -> u64
 
 // Which operator of a byte test it is.
 pub fn byte_operator_number(o: ByteOperator) -> u64
-    ensures { result ≡ of.byteOperatorNumber o }
+    ensures { result ≡ of.byte_operator_number o }
 {
     match o {
         ByteOperator::Greater => 0,
@@ -111,7 +111,7 @@ pub fn byte_operator_number(o: ByteOperator) -> u64
 
 // Which reference a distance has, counted from 1; 0 where it is not given.
 pub fn distance_reference(d: Distance) -> u64
-    ensures { result ≡ of.distanceReference d }
+    ensures { result ≡ of.distance_reference d }
 {
     match d {
         Distance::Unset => 0,
@@ -124,7 +124,7 @@ pub fn distance_reference(d: Distance) -> u64
 
 // Whether a distance is in reverse; 0 where it is not given.
 pub fn distance_reverse(d: Distance) -> u64
-    ensures { result ≡ of.distanceReverse d }
+    ensures { result ≡ of.distance_reverse d }
 {
     match d {
         Distance::Unset => 0,
@@ -134,7 +134,7 @@ pub fn distance_reverse(d: Distance) -> u64
 
 // The offset of a distance; 0 where it is not given.
 pub fn distance_offset(d: Distance) -> i32
-    ensures { result ≡ of.distanceOffset d }
+    ensures { result ≡ of.distance_offset d }
 {
     match d {
         Distance::Unset => 0,
@@ -144,7 +144,7 @@ pub fn distance_offset(d: Distance) -> i32
 
 // Which reference a within has, counted from 1; 0 where it is not given.
 pub fn within_reference(w: Within) -> u64
-    ensures { result ≡ of.withinReference w }
+    ensures { result ≡ of.within_reference w }
 {
     match w {
         Within::Unset => 0,
@@ -157,7 +157,7 @@ pub fn within_reference(w: Within) -> u64
 
 // The number of a within; 0 where it is not given.
 pub fn within_number(w: Within) -> u64
-    ensures { result ≡ of.withinNumber w }
+    ensures { result ≡ of.within_number w }
 {
     match w {
         Within::Unset => 0,

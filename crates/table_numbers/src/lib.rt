@@ -20,7 +20,7 @@ use table_references::usable::context_number;
 pub const NUMBERS: usize = 9;
 
 fn address_numbers(a: AddressTest) -> [u64; NUMBERS]
-    ensures { result ≡ of.itemNumbers (Item.Address a) }
+    ensures { result ≡ of.item_numbers (Item.Address a) }
 {
     let side = a.side;
     [
@@ -37,7 +37,7 @@ fn address_numbers(a: AddressTest) -> [u64; NUMBERS]
 }
 
 fn number_numbers(a: NumberTest) -> [u64; NUMBERS]
-    ensures { result ≡ of.itemNumbers (Item.Number a) }
+    ensures { result ≡ of.item_numbers (Item.Number a) }
 {
     let field = a.field;
     [
@@ -54,14 +54,14 @@ fn number_numbers(a: NumberTest) -> [u64; NUMBERS]
 }
 
 fn ttl_numbers(a: TtlTest) -> [u64; NUMBERS]
-    ensures { result ≡ of.itemNumbers (Item.Ttl a) }
+    ensures { result ≡ of.item_numbers (Item.Ttl a) }
 {
     let order = a.order;
     [4, order_number(order), a.number as u64, 0, 0, 0, 0, 0, 0]
 }
 
 fn field_numbers(a: FieldTest) -> [u64; NUMBERS]
-    ensures { result ≡ of.itemNumbers (Item.Field a) }
+    ensures { result ≡ of.item_numbers (Item.Field a) }
 {
     let field = a.field;
     let operator = a.operator;
@@ -79,7 +79,7 @@ fn field_numbers(a: FieldTest) -> [u64; NUMBERS]
 }
 
 fn size_numbers(a: SizeTest) -> [u64; NUMBERS]
-    ensures { result ≡ of.itemNumbers (Item.Size a) }
+    ensures { result ≡ of.item_numbers (Item.Size a) }
 {
     let order = a.order;
     let field = a.field;
@@ -97,7 +97,7 @@ fn size_numbers(a: SizeTest) -> [u64; NUMBERS]
 }
 
 fn at_numbers(a: AtTest) -> [u64; NUMBERS]
-    ensures { result ≡ of.itemNumbers (Item.At a) }
+    ensures { result ≡ of.item_numbers (Item.At a) }
 {
     [
         7,
@@ -113,7 +113,7 @@ fn at_numbers(a: AtTest) -> [u64; NUMBERS]
 }
 
 fn byte_numbers(a: ByteTest) -> [u64; NUMBERS]
-    ensures { result ≡ of.itemNumbers (Item.Byte a) }
+    ensures { result ≡ of.item_numbers (Item.Byte a) }
 {
     let width = a.width;
     let operator = a.operator;
@@ -131,7 +131,7 @@ fn byte_numbers(a: ByteTest) -> [u64; NUMBERS]
 }
 
 fn pattern_numbers(p: Pattern) -> [u64; NUMBERS]
-    ensures { result ≡ of.itemNumbers (Item.Pattern p) }
+    ensures { result ≡ of.item_numbers (Item.Pattern p) }
 {
     let context = p.context;
     let distance = p.distance;
@@ -151,7 +151,7 @@ fn pattern_numbers(p: Pattern) -> [u64; NUMBERS]
 
 // The numbers of an item.
 pub fn item_numbers(i: Item) -> [u64; NUMBERS]
-    ensures { result ≡ of.itemNumbers i }
+    ensures { result ≡ of.item_numbers i }
 {
     match i {
         Item::Unused => [0; NUMBERS],
@@ -169,7 +169,7 @@ pub fn item_numbers(i: Item) -> [u64; NUMBERS]
 
 // The offset of an item's distance; 0 where there is none.
 pub fn item_offset(i: Item) -> i32
-    ensures { result ≡ of.itemOffset i }
+    ensures { result ≡ of.item_offset i }
 {
     match i {
         Item::Pattern(p) => {

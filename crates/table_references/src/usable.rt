@@ -3,14 +3,14 @@ ghost use Rattle.std.specs.Prelude.{◌≡◌, ◌+◌, pos};
 ghost use Rattle.std.specs.Int.Signed.{le_z};
 ghost use Rattle.definitions.specs.declared.packets.Start.{Start};
 ghost use Rattle.definitions.specs.Starts.{start_at};
-ghost use Rattle.definitions.specs.References.{contextNumber, referenceNumber, lastAfter, lastIn, referenceUsable, reverseUsable, distanceUsable, withinUsable, referencesAlike, usable};
+ghost use Rattle.definitions.specs.References.{context_number, reference_number, last_after, last_in, reference_usable, reverse_usable, distance_usable, within_usable, references_alike, usable};
 
 use definitions::packets::{LastMatch, Match};
 use definitions::table::{Context, Distance, DistanceValue, Pattern, Reference, Within};
 
 // Which case it is, so that two can be compared.
 pub fn context_number(c: Context) -> u8
-    ensures { result ≡ contextNumber c }
+    ensures { result ≡ context_number c }
 {
     match c {
         Context::Packet => 0,
@@ -25,7 +25,7 @@ pub fn context_number(c: Context) -> u8
 
 // The same of a reference.
 pub fn reference_number(r: Reference) -> u8
-    ensures { result ≡ referenceNumber r }
+    ensures { result ≡ reference_number r }
 {
     match r {
         Reference::Match => 0,
@@ -36,7 +36,7 @@ pub fn reference_number(r: Reference) -> u8
 
 // The last positive pattern, after `p` that ends at a place: a negated one moves no reference.
 pub fn last_ending(last: LastMatch, p: Pattern, end: usize) -> LastMatch
-    ensures { (s : Start) → end ≡ s.at + p.len → result ≡ lastAfter last p s }
+    ensures { (s : Start) → end ≡ s.at + p.len → result ≡ last_after last p s }
 {
     if p.negated {
         return last;
@@ -47,14 +47,14 @@ pub fn last_ending(last: LastMatch, p: Pattern, end: usize) -> LastMatch
 
 // The same where it plays no part at which start `p` lies.
 pub fn last_after(last: LastMatch, p: Pattern) -> LastMatch
-    ensures { result ≡ lastAfter last p (start_at 0) }
+    ensures { result ≡ last_after last p (start_at 0) }
 {
     last_ending(last, p, p.len)
 }
 
 // The last positive pattern, if there is one, stands in the context.
 fn last_in(last: LastMatch, c: Context) -> bool
-    ensures { result ≡ lastIn last c }
+    ensures { result ≡ last_in last c }
 {
     match last {
         LastMatch::None => true,
@@ -68,7 +68,7 @@ fn last_in(last: LastMatch, c: Context) -> bool
 }
 
 fn reference_usable(last: LastMatch, c: Context, r: Reference) -> bool
-    ensures { result ≡ referenceUsable last c r }
+    ensures { result ≡ reference_usable last c r }
 {
     match r {
         Reference::Match => last_in(last, c),
@@ -84,7 +84,7 @@ fn not_negative(offset: i32) -> bool
 }
 
 fn reverse_usable(d: DistanceValue) -> bool
-    ensures { result ≡ reverseUsable d }
+    ensures { result ≡ reverse_usable d }
 {
     if !d.reverse {
         return true;
@@ -97,7 +97,7 @@ fn reverse_usable(d: DistanceValue) -> bool
 }
 
 fn distance_usable(last: LastMatch, c: Context, distance: Distance) -> bool
-    ensures { result ≡ distanceUsable last c distance }
+    ensures { result ≡ distance_usable last c distance }
 {
     match distance {
         Distance::Unset => true,
@@ -113,7 +113,7 @@ fn distance_usable(last: LastMatch, c: Context, distance: Distance) -> bool
 }
 
 fn within_usable(last: LastMatch, c: Context, within: Within) -> bool
-    ensures { result ≡ withinUsable last c within }
+    ensures { result ≡ within_usable last c within }
 {
     match within {
         Within::Unset => true,
@@ -125,7 +125,7 @@ fn within_usable(last: LastMatch, c: Context, within: Within) -> bool
 }
 
 fn same_reference(d: DistanceValue, within: Within) -> bool
-    ensures { result ≡ referencesAlike (Distance.Given d) within }
+    ensures { result ≡ references_alike (Distance.Given d) within }
 {
     match within {
         Within::Unset => true,
@@ -140,7 +140,7 @@ fn same_reference(d: DistanceValue, within: Within) -> bool
 }
 
 fn references_alike(distance: Distance, within: Within) -> bool
-    ensures { result ≡ referencesAlike distance within }
+    ensures { result ≡ references_alike distance within }
 {
     match distance {
         Distance::Unset => true,

@@ -1,8 +1,8 @@
 // The addresses of a slot.
 ghost use Rattle.std.specs.Prelude.{◌≡◌, ◌≤◌, take, drop};
-ghost use Rattle.definitions.specs.Limits.{maxAddresses};
+ghost use Rattle.definitions.specs.Limits.{max_addresses};
 ghost use Rattle.definitions.specs.Lists.{all?};
-ghost use Rattle.definitions.specs.WellFormed.{addressFits, addressUnused};
+ghost use Rattle.definitions.specs.WellFormed.{address_fits, address_unused};
 
 use definitions::limits::ADDRESSES;
 use definitions::table::Address;
@@ -10,8 +10,8 @@ use table_limits::{address_fits, address_unused};
 
 // The first addresses of a slot are addresses.
 pub fn addresses_fit(list: [Address; ADDRESSES], n: usize) -> bool
-    requires { n ≤ maxAddresses }
-    ensures { result ≡ all? addressFits (take n list) }
+    requires { n ≤ max_addresses }
+    ensures { result ≡ all? address_fits (take n list) }
 {
     let mut i = 0;
     while i < n {
@@ -26,7 +26,7 @@ pub fn addresses_fit(list: [Address; ADDRESSES], n: usize) -> bool
 
 // A slot's addresses are not in use, from a place on.
 pub fn addresses_unused(list: [Address; ADDRESSES], from: usize) -> bool
-    ensures { result ≡ all? addressUnused (drop from list) }
+    ensures { result ≡ all? address_unused (drop from list) }
 {
     let mut i = from;
     while i < ADDRESSES {

@@ -1,13 +1,13 @@
 // One item, by the limits of its kind.
 ghost use Rattle.std.specs.Prelude.{◌≡◌};
-ghost use Rattle.definitions.specs.WellFormed.{itemFits};
+ghost use Rattle.definitions.specs.WellFormed.{item_fits};
 
 use definitions::table::Item;
 use table_limits::{count_fits, field_fits, number_fits, pattern_fits};
 
 // The item that a slot in use holds.
 pub fn item_fits(it: Item) -> bool
-    ensures { result ≡ itemFits it }
+    ensures { result ≡ item_fits it }
 {
     match it {
         Item::Unused => false,

@@ -4,7 +4,7 @@ mod items;
 
 ghost use Rattle.std.specs.Prelude.{◌≡◌};
 ghost use Rattle.definitions.specs.Items.{kind_of};
-ghost use Rattle.definitions.specs.WellFormed.{addressCount, slotFits, isUnused, slotUnused};
+ghost use Rattle.definitions.specs.WellFormed.{address_count, slot_fits, is_unused, slot_unused};
 
 use crate::addresses::{addresses_fit, addresses_unused};
 use crate::items::item_fits;
@@ -12,7 +12,7 @@ use definitions::table::{Item, Slot};
 
 // How many of a slot's addresses are in use.
 fn address_count(it: Item) -> usize
-    ensures { result ≡ addressCount (kind_of it) }
+    ensures { result ≡ address_count (kind_of it) }
 {
     let Item::Address(a) = it else {
         return 0;
@@ -22,7 +22,7 @@ fn address_count(it: Item) -> usize
 
 // A slot in use.
 pub fn slot_fits(slot: Slot) -> bool
-    ensures { result ≡ slotFits slot }
+    ensures { result ≡ slot_fits slot }
 {
     let it = slot.item;
     if !item_fits(it) {
@@ -38,7 +38,7 @@ pub fn slot_fits(slot: Slot) -> bool
 
 // No item.
 fn is_unused(it: Item) -> bool
-    ensures { result ≡ isUnused (kind_of it) }
+    ensures { result ≡ is_unused (kind_of it) }
 {
     let Item::Unused = it else {
         return false;
@@ -48,7 +48,7 @@ fn is_unused(it: Item) -> bool
 
 // A slot that is not in use.
 pub fn slot_unused(slot: Slot) -> bool
-    ensures { result ≡ slotUnused slot }
+    ensures { result ≡ slot_unused slot }
 {
     let it = slot.item;
     if !is_unused(it) {

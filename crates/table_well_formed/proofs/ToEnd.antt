@@ -1,7 +1,7 @@
 -- The walk over the slots in use: with each slot that may be passed, what is counted and what is still to come make the same answer; a slot that
 -- may not be passed makes it false.
 use mathlib.Core.Path.{◌≡◌, refl, ap, sym, ◌∙◌}
-use mathlib.Core.Bool.{Bool, true, false, ◌&&◌, and-true, and-false}
+use mathlib.Core.Bool.{Bool, true, false, ◌&&◌, and_true, and-false}
 use mathlib.Core.List.{List, [], ◌∷◌}
 use Prim.Native.Nat.{ℕ, suc, ◌+◌, ◌-◌, ◌≤◌, ◌<◌}
 use native.Mathlib.Omega.{arith}
@@ -13,20 +13,20 @@ use Rattle.forms.proofs.Bools.{by_cases, both_left, both_right}
 use Rattle.definitions.specs.declared.packets.LastMatch.{LastMatch}
 use Rattle.definitions.specs.declared.table.Pattern.{Pattern}
 use Rattle.definitions.specs.declared.table.Slot.{Slot}
-use Rattle.definitions.specs.Limits.{maxPatterns, maxTests}
+use Rattle.definitions.specs.Limits.{max_patterns, max_tests}
 use Rattle.definitions.specs.Lists.{all?}
-use Rattle.definitions.specs.Items.{Kind, unused, addressed, patterned, plainTest, kind_of, patternFirst, patternsOf}
+use Rattle.definitions.specs.Items.{Kind, unused, addressed, patterned, plain_test, kind_of, pattern_first, patterns_of}
 use Rattle.definitions.specs.Starts.{start_at}
-use Rattle.definitions.specs.References.{lastAfter, usable, usableRun}
-use Rattle.definitions.specs.WellFormed.{slotFits, bytes_of}
-use Rattle.list_laws.proofs.Firsts.{first-here, first_out}
+use Rattle.definitions.specs.References.{last_after, usable, usable_run}
+use Rattle.definitions.specs.WellFormed.{slot_fits, bytes_of}
+use Rattle.list_laws.proofs.Firsts.{first_here, first_out}
 use Rattle.table_items.specs.declared.Passed.{Passed}
-use Rattle.table_items.specs.Passing.{nonePassed, mayFollow, kindPasses, mayPass, pastKind, pastItem, endsWell}
-use Rattle.table_well_formed.specs.ItemsTest.{slotsFit}
+use Rattle.table_items.specs.Passing.{none_passed, may_follow, kind_passes, may_pass, past_kind, past_item, ends_well}
+use Rattle.table_well_formed.specs.ItemsTest.{slots_fit}
 
 -- counting down from a number decides whether it is the sum
-sum-short : (left n m : ℕ) → left < n → eqb left (n + m) ≡ false
-sum-short left n m h = ne_eqb left (n + m) (λ e. omega (arith, e))
+sum_short : (left n m : ℕ) → left < n → eqb left (n + m) ≡ false
+sum_short left n m h = ne_eqb left (n + m) (λ e. omega (arith, e))
 
 sum_less : (left n m : ℕ) → n ≤ left → eqb left (n + m) ≡ eqb (left - n) m
 sum_less left n m h =
@@ -36,111 +36,111 @@ sum_less left n m h =
 
 -- one pattern more: the patterns from it on are usable where it is and those after it are
 module _ (last : LastMatch) (p : Pattern) (ps : List Pattern) where
-  run_on : usable last p ≡ true → eqb (usableRun last (p ∷ ps)) (length (p ∷ ps)) ≡ eqb (usableRun (lastAfter last p (start_at 0)) ps) (length ps)
-  unfolding usableRun
+  run_on : usable last p ≡ true → eqb (usable_run last (p ∷ ps)) (length (p ∷ ps)) ≡ eqb (usable_run (last_after last p (start_at 0)) ps) (length ps)
+  unfolding usable_run
   run_on t =
-      let n = usableRun (lastAfter last p (start_at 0)) ps in
+      let n = usable_run (last_after last p (start_at 0)) ps in
       let one : 1 + n ≡ suc n = omega arith in
       rw t (ap (λ (k : ℕ). eqb k (suc (length ps))) one ∙ eqb-suc-suc n (length ps))
 
-  run-not : usable last p ≡ false → eqb (usableRun last (p ∷ ps)) (length (p ∷ ps)) ≡ false
-  unfolding usableRun
-  run-not f = rw f (eqb-zero-suc (length ps))
+  run_not : usable last p ≡ false → eqb (usable_run last (p ∷ ps)) (length (p ∷ ps)) ≡ false
+  unfolding usable_run
+  run_not f = rw f (eqb-zero-suc (length ps))
 
 -- what the walk will end with, where the patterns ps are still to come
 counts : ℕ → ℕ → Bool → Bool → Bool
-counts count patterns spent run = leb patterns maxPatterns && (leb (count - patterns) maxTests && (spent && run))
+counts count patterns spent run = leb patterns max_patterns && (leb (count - patterns) max_tests && (spent && run))
 
 ending : ℕ → Passed → List Pattern → Bool
-ending count w ps = counts count (w.patterns + length ps) (eqb w.left (bytes_of ps)) (eqb (usableRun w.last ps) (length ps))
+ending count w ps = counts count (w.patterns + length ps) (eqb w.left (bytes_of ps)) (eqb (usable_run w.last ps) (length ps))
 
-not-spent : (count patterns : ℕ) (run : Bool) → counts count patterns false run ≡ false
+not_spent : (count patterns : ℕ) (run : Bool) → counts count patterns false run ≡ false
 unfolding counts
-not-spent count patterns run = simp and-false
+not_spent count patterns run = simp and-false
 
-not-run : (count patterns : ℕ) (spent : Bool) → counts count patterns spent false ≡ false
+not_run : (count patterns : ℕ) (spent : Bool) → counts count patterns spent false ≡ false
 unfolding counts
-not-run count patterns spent = simp and-false
+not_run count patterns spent = simp and-false
 
 module _ (count : ℕ) (w : Passed) (ps : List Pattern) where
-  pattern-on : (p : Pattern) → mayFollow w p ≡ true → ending count w (p ∷ ps) ≡ ending count (pastKind w (patterned p)) ps
+  pattern_on : (p : Pattern) → may_follow w p ≡ true → ending count w (p ∷ ps) ≡ ending count (past_kind w (patterned p)) ps
   unfolding ending bytes_of
-  pattern-on p t =
+  pattern_on p t =
       let few = leb-true p.len w.left (both_left (leb p.len w.left) _ t) in
       let more : w.patterns + suc (length ps) ≡ w.patterns + 1 + length ps = omega arith in
       cc (more, sum_less w.left p.len (bytes_of ps) few, run_on w.last p ps (both_right (leb p.len w.left) _ t))
 
-  pattern-not : (p : Pattern) → mayFollow w p ≡ false → ending count w (p ∷ ps) ≡ false
+  pattern_not : (p : Pattern) → may_follow w p ≡ false → ending count w (p ∷ ps) ≡ false
   unfolding ending bytes_of
-  pattern-not p f =
+  pattern_not p f =
       by_cases (leb p.len w.left)
-      (λ t. rw (run-not w.last p ps (rw t at f)) (not-run _ _ _))
-      (λ n. rw (sum-short w.left p.len (bytes_of ps) (leb-false _ _ n)) (not-spent _ _ _))
+      (λ t. rw (run_not w.last p ps (rw t at f)) (not_run _ _ _))
+      (λ n. rw (sum_short w.left p.len (bytes_of ps) (leb-false _ _ n)) (not_spent _ _ _))
 
-  kind-on : (k : Kind) → kindPasses w k ≡ true → ending count w (patternFirst k ps) ≡ ending count (pastKind w k) ps
-  kind-on unused t = refl
-  kind-on (addressed a) t = refl
-  kind-on (patterned p) t = pattern-on p t
-  kind-on plainTest t = refl
+  kind_on : (k : Kind) → kind_passes w k ≡ true → ending count w (pattern_first k ps) ≡ ending count (past_kind w k) ps
+  kind_on unused t = refl
+  kind_on (addressed a) t = refl
+  kind_on (patterned p) t = pattern_on p t
+  kind_on plain_test t = refl
 
-  kind-not : (k : Kind) → kindPasses w k ≡ false → ending count w (patternFirst k ps) ≡ false
-  kind-not unused f = cc
-  kind-not (addressed a) f = cc
-  kind-not (patterned p) f = pattern-not p f
-  kind-not plainTest f = cc
+  kind_not : (k : Kind) → kind_passes w k ≡ false → ending count w (pattern_first k ps) ≡ false
+  kind_not unused f = cc
+  kind_not (addressed a) f = cc
+  kind_not (patterned p) f = pattern_not p f
+  kind_not plain_test f = cc
 
 -- the walk's answer, where the slots sls are still to come
 pub answer : ℕ → Passed → List Slot → Bool
-answer count w sls = all? slotFits sls && ending count w (patternsOf sls)
+answer count w sls = all? slot_fits sls && ending count w (patterns_of sls)
 
 module _ (count : ℕ) where
-  walk-in : (used : ℕ) (sls : List Slot) → answer count (nonePassed used) sls ≡ slotsFit count used sls
-  unfolding answer slotsFit ending counts
-  walk-in used sls = rw zero-add
+  walk_in : (used : ℕ) (sls : List Slot) → answer count (none_passed used) sls ≡ slots_fit count used sls
+  unfolding answer slots_fit ending counts
+  walk_in used sls = rw zero-add
 
-  walk-out : (w : Passed) → answer count w [] ≡ endsWell w count
-  unfolding answer ending counts all? patternsOf bytes_of usableRun
-  walk-out w = rw (add-zero, and-true)
+  walk_out : (w : Passed) → answer count w [] ≡ ends_well w count
+  unfolding answer ending counts all? patterns_of bytes_of usable_run
+  walk_out w = rw (add-zero, and_true)
 
   module _ (w : Passed) (sl : Slot) (sls : List Slot) where
-    walk-on : mayPass w sl ≡ true → answer count w (sl ∷ sls) ≡ answer count (pastItem w sl) sls
-    unfolding answer all? patternsOf
-    walk-on t = rw (both_left (slotFits sl) _ t, kind-on count w (patternsOf sls) (kind_of sl.item) (both_right (slotFits sl) _ t))
+    walk_on : may_pass w sl ≡ true → answer count w (sl ∷ sls) ≡ answer count (past_item w sl) sls
+    unfolding answer all? patterns_of
+    walk_on t = rw (both_left (slot_fits sl) _ t, kind_on count w (patterns_of sls) (kind_of sl.item) (both_right (slot_fits sl) _ t))
 
-    walk-not : mayPass w sl ≡ false → answer count w (sl ∷ sls) ≡ false
-    unfolding answer all? patternsOf
-    walk-not f =
-        by_cases (slotFits sl)
-        (λ t. rw (t, kind-not count w (patternsOf sls) (kind_of sl.item) (rw t at f)) (and-false (all? slotFits sls)))
+    walk_not : may_pass w sl ≡ false → answer count w (sl ∷ sls) ≡ false
+    unfolding answer all? patterns_of
+    walk_not f =
+        by_cases (slot_fits sl)
+        (λ t. rw (t, kind_not count w (patterns_of sls) (kind_of sl.item) (rw t at f)) (and-false (all? slot_fits sls)))
         (λ n. rw n)
 
 -- what the loop keeps at the place i, where `count` of the items are in use
 pub record Walked (items : List Slot) (count used i : ℕ) (w : Passed) : Type 0 where
   pub inside : i ≤ count
   pub few : w.patterns ≤ i
-  pub same : slotsFit count used (take count items) ≡ answer count w (drop i (take count items))
+  pub same : slots_fit count used (take count items) ≡ answer count w (drop i (take count items))
 
-past-few : (w : Passed) (k : Kind) → (pastKind w k).patterns ≤ w.patterns + 1
-past-few w unused = omega arith
-past-few w (addressed a) = omega arith
-past-few w (patterned p) = omega arith
-past-few w plainTest = omega arith
+past_few : (w : Passed) (k : Kind) → (past_kind w k).patterns ≤ w.patterns + 1
+past_few w unused = omega arith
+past_few w (addressed a) = omega arith
+past_few w (patterned p) = omega arith
+past_few w plain_test = omega arith
 
 module _ (items : List Slot) (count used : ℕ) where
-  pub walked-in : Walked items count used 0 (nonePassed used)
-  walked-in = record { inside = omega arith; few = omega arith; same = sym (walk-in count used (take count items)) }
+  pub walked_in : Walked items count used 0 (none_passed used)
+  walked_in = record { inside = omega arith; few = omega arith; same = sym (walk_in count used (take count items)) }
 
   module _ (i : ℕ) (w : Passed) (k : Walked items count used i w) where
-    pub walked-out : count ≤ i → slotsFit count used (take count items) ≡ endsWell w count
-    walked-out h = k.same ∙ ap (answer count w) (first_out items count i h) ∙ walk-out count w
+    pub walked_out : count ≤ i → slots_fit count used (take count items) ≡ ends_well w count
+    walked_out h = k.same ∙ ap (answer count w) (first_out items count i h) ∙ walk_out count w
 
     module _ (d : Slot) (h : i < count) (g : count ≤ length items) where
-      pub walked_on : mayPass w (get_or items i d) ≡ true → Walked items count used (i + 1) (pastItem w (get_or items i d))
+      pub walked_on : may_pass w (get_or items i d) ≡ true → Walked items count used (i + 1) (past_item w (get_or items i d))
       walked_on t = record {
         inside = omega arith;
-        few = omega (arith, k.few, past-few w (kind_of (get_or items i d).item));
-        same = k.same ∙ ap (answer count w) (first-here items count i d h g) ∙ walk-on count w (get_or items i d) _ t;
+        few = omega (arith, k.few, past_few w (kind_of (get_or items i d).item));
+        same = k.same ∙ ap (answer count w) (first_here items count i d h g) ∙ walk_on count w (get_or items i d) _ t;
       }
 
-      pub walked-not : mayPass w (get_or items i d) ≡ false → slotsFit count used (take count items) ≡ false
-      walked-not f = k.same ∙ ap (answer count w) (first-here items count i d h g) ∙ walk-not count w (get_or items i d) _ f
+      pub walked-not : may_pass w (get_or items i d) ≡ false → slots_fit count used (take count items) ≡ false
+      walked-not f = k.same ∙ ap (answer count w) (first_here items count i d h g) ∙ walk_not count w (get_or items i d) _ f

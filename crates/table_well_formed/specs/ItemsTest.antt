@@ -3,20 +3,20 @@ use Rattle.std.specs.Prelude.{ℕ, ◌-◌, Bool, ◌&&◌, List, length, take, 
 use Rattle.definitions.specs.declared.packets.LastMatch.TheVariants.{None}
 use Rattle.definitions.specs.declared.table.Pattern.{Pattern}
 use Rattle.definitions.specs.declared.table.Slot.{Slot}
-use Rattle.definitions.specs.Limits.{maxPatterns, maxTests, maxItems}
+use Rattle.definitions.specs.Limits.{max_patterns, max_tests, max_items}
 use Rattle.definitions.specs.Lists.{all?}
-use Rattle.definitions.specs.Items.{patternsOf}
-use Rattle.definitions.specs.References.{usableRun}
-use Rattle.definitions.specs.WellFormed.{slotFits, slotUnused, bytes_of}
+use Rattle.definitions.specs.Items.{patterns_of}
+use Rattle.definitions.specs.References.{usable_run}
+use Rattle.definitions.specs.WellFormed.{slot_fits, slot_unused, bytes_of}
 
 -- the patterns, the slots in use, and all slots, where so many are in use, and so many bytes
-abbrev pub patternsFit : ℕ → ℕ → List Pattern → Bool
-patternsFit count used ps =
-    leb (length ps) maxPatterns
-    && (leb (count - length ps) maxTests && (eqb used (bytes_of ps) && eqb (usableRun None ps) (length ps)))
+abbrev pub patterns_fit : ℕ → ℕ → List Pattern → Bool
+patterns_fit count used ps =
+    leb (length ps) max_patterns
+    && (leb (count - length ps) max_tests && (eqb used (bytes_of ps) && eqb (usable_run None ps) (length ps)))
 
-unfoldable pub slotsFit : ℕ → ℕ → List Slot → Bool
-slotsFit count used sls = all? slotFits sls && patternsFit count used (patternsOf sls)
+unfoldable pub slots_fit : ℕ → ℕ → List Slot → Bool
+slots_fit count used sls = all? slot_fits sls && patterns_fit count used (patterns_of sls)
 
-unfoldable pub itemsWell : List Slot → ℕ → ℕ → Bool
-itemsWell items count used = leb count maxItems && (slotsFit count used (take count items) && all? slotUnused (drop count items))
+unfoldable pub items_well : List Slot → ℕ → ℕ → Bool
+items_well items count used = leb count max_items && (slots_fit count used (take count items) && all? slot_unused (drop count items))

@@ -1,10 +1,10 @@
 // Whether a table is one that some text reads as: what refusal 20 goes by. Any numbers may stand in the table.
 ghost use Rattle.std.specs.Prelude.{◌≡◌, ℕ, ◌≤◌};
 ghost use Rattle.definitions.specs.declared.table.Flow.{Flow};
-ghost use Rattle.definitions.specs.Limits.{maxByte};
-ghost use Rattle.definitions.specs.Tables.{tableWith};
-ghost use Rattle.definitions.specs.WellFormed.{wellFormed};
-ghost use Rattle.table_well_formed.specs.ItemsTest.{itemsWell};
+ghost use Rattle.definitions.specs.Limits.{max_byte};
+ghost use Rattle.definitions.specs.Tables.{table_with};
+ghost use Rattle.definitions.specs.WellFormed.{well_formed};
+ghost use Rattle.table_well_formed.specs.ItemsTest.{items_well};
 
 use definitions::limits::{ITEMS, NAME_BYTES};
 use definitions::table::Slot;
@@ -14,7 +14,7 @@ use table_slots::slot_unused;
 
 // The slots in use, then those after them, then what those passed come to. Nothing called here takes the array: it would be copied at each call.
 fn items_fit(items: [Slot; ITEMS], count: usize, used: usize) -> bool
-    ensures { result ≡ itemsWell items count used }
+    ensures { result ≡ items_well items count used }
 {
     if ITEMS < count {
         return false;
@@ -48,7 +48,7 @@ pub fn well_formed(
     bytes: &[u8],
     used: usize,
 ) -> bool
-    ensures { (protocol : ℕ) (flow : Flow) → protocol ≤ maxByte → result ≡ wellFormed (tableWith name len protocol flow bytes.now used items count) }
+    ensures { (protocol : ℕ) (flow : Flow) → protocol ≤ max_byte → result ≡ well_formed (table_with name len protocol flow bytes.now used items count) }
 {
     if !name_fits(name, len) {
         return false;

@@ -4,10 +4,10 @@ use mathlib.Core.List.{List}
 use Prim.Native.Nat.{ℕ, ◌<◌}
 use lib.ListN.{take}
 use Rattle.definitions.specs.declared.answers.Refusal.TheVariants.{TextLength}
-use Rattle.definitions.specs.Limits.{documentLimits}
-use Rattle.definitions.specs.Lines.{refusedLine, line_of}
-use Rattle.text_lines.proofs.AnswerTexts.{too_long}
-use Rattle.line_stream.proofs.Keeping.{kept-beyond}
+use Rattle.definitions.specs.Limits.{document_limits}
+use Rattle.definitions.specs.Lines.{refused_line, line_of}
+use Rattle.text_lines.proofs.AnswerTexts.{too_long_lem}
+use Rattle.line_stream.proofs.Keeping.{kept_beyond}
 
-pub kept_line : (m : ℕ) (s : List ℕ) → documentLimits.text < m → line_of documentLimits (take m s) ≡ line_of documentLimits s
-kept_line = kept-beyond (line_of documentLimits) documentLimits.text (refusedLine TextLength 0) too_long
+pub kept_line : (m : ℕ) (s : List ℕ) → document_limits.text < m → line_of document_limits (take m s) ≡ line_of document_limits s
+kept_line = kept_beyond (line_of document_limits) document_limits.text (refused_line TextLength 0) too_long_lem

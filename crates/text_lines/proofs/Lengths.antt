@@ -14,65 +14,65 @@ use Rattle.definitions.specs.declared.answers.ReadOutcome.{ReadOutcome}
 use Rattle.definitions.specs.declared.answers.ReadOutcome.TheVariants as outcome
 use Rattle.definitions.specs.declared.answers.Check.{Check}
 use Rattle.definitions.specs.declared.answers.Check.TheVariants as check
-use Rattle.definitions.specs.Limits.{documentLimits}
+use Rattle.definitions.specs.Limits.{document_limits}
 use Rattle.definitions.specs.Refusals.{read_place}
 use Rattle.definitions.specs.Reading.{read}
-use Rattle.definitions.specs.Canonical.{decimal, canonicalText}
-use Rattle.definitions.specs.WellFormed.{wellFormed}
-use Rattle.definitions.specs.Writing.{writingCheck}
-use Rattle.definitions.specs.Lines.{canonicalLine, lineBy, line_of}
-use Rattle.laws.proofs.Places.{place-most}
-use Rattle.laws.proofs.Digits.{decimal-most}
-use Rattle.line_refusals.proofs.Lengths.{refused-most}
+use Rattle.definitions.specs.Canonical.{decimal, canonical_text}
+use Rattle.definitions.specs.WellFormed.{well_formed}
+use Rattle.definitions.specs.Writing.{writing_check}
+use Rattle.definitions.specs.Lines.{canonical_line, line_by, line_of}
+use Rattle.laws.proofs.Places.{place_most}
+use Rattle.laws.proofs.Digits.{decimal_most}
+use Rattle.line_refusals.proofs.Lengths.{refused_most}
 use Rattle.line_stream.specs.declared.Begun.{Begun}
 use Rattle.line_stream.specs.declared.Fed.{Fed}
-use Rattle.line_stream.specs.Stream.{maxLineNumber, lineAnswer, Feeds}
-use Rattle.line_stream.proofs.Running.{goes_on}
+use Rattle.line_stream.specs.Stream.{max_line_number, line_answer, Feeds}
+use Rattle.line_stream.proofs.Running.{goes_on_lem}
 
 -- ---- the answer to a text
 
-abbrev isFine : Check → Bool
-isFine check.Pass = true
-isFine (check.Refuse r) = false
+abbrev is_fine : Check → Bool
+is_fine check.Pass = true
+is_fine (check.Refuse r) = false
 
 -- how long a canonical text may be
 abbrev most : ℕ
-most = documentLimits.canonical
+most = document_limits.canonical
 
 -- a canonical text that is written is not beyond the limit
-fine-short : (t : Table) → writingCheck documentLimits t most ≡ check.Pass → length (canonicalText t) ≤ most
-unfolding writingCheck
-fine-short t e =
-    by_cases (ltb most (length (canonicalText t)))
+fine_short : (t : Table) → writing_check document_limits t most ≡ check.Pass → length (canonical_text t) ≤ most
+unfolding writing_check
+fine_short t e =
+    by_cases (ltb most (length (canonical_text t)))
     (λ l.
-    by_cases (not (wellFormed t))
-    (λ n. absurd (false≢true (ap isFine (rw n at e))))
-    (λ w. absurd (false≢true (ap isFine (rw (w, l) at e)))))
-    (λ f. ltb-false most (length (canonicalText t)) f)
+    by_cases (not (well_formed t))
+    (λ n. absurd (false≢true (ap is_fine (rw n at e))))
+    (λ w. absurd (false≢true (ap is_fine (rw (w, l) at e)))))
+    (λ f. ltb-false most (length (canonical_text t)) f)
 
-canonical-most : (t : Table) (d : Check) → (d ≡ check.Pass → length (canonicalText t) ≤ most) → length (canonicalLine d t) ≤ 3 + most
-canonical-most t check.Pass h = omega (arith, length-append (text "ok\t") (canonicalText t), h refl)
-canonical-most t (check.Refuse r) h = omega (arith, refused-most r 0 (omega arith))
+canonical_most : (t : Table) (d : Check) → (d ≡ check.Pass → length (canonical_text t) ≤ most) → length (canonical_line d t) ≤ 3 + most
+canonical_most t check.Pass h = omega (arith, length-append (text "ok\t") (canonical_text t), h refl)
+canonical_most t (check.Refuse r) h = omega (arith, refused_most r 0 (omega arith))
 
-outcome-most : (o : ReadOutcome) (t : Table) → read_place o ≤ documentLimits.text → length (lineBy documentLimits o t) ≤ 3 + most
-outcome-most outcome.Accepted t h = canonical-most t (writingCheck documentLimits t most) (fine-short t)
-outcome-most (outcome.Refused r p) t h = omega (arith, refused-most r p (omega (arith, h)))
+outcome_most : (o : ReadOutcome) (t : Table) → read_place o ≤ document_limits.text → length (line_by document_limits o t) ≤ 3 + most
+outcome_most outcome.Accepted t h = canonical_most t (writing_check document_limits t most) (fine_short t)
+outcome_most (outcome.Refused r p) t h = omega (arith, refused_most r p (omega (arith, h)))
 
-line-most : (s : List ℕ) → length (line_of documentLimits s) ≤ 3 + most
+line_most : (s : List ℕ) → length (line_of document_limits s) ≤ 3 + most
 unfolding line_of
-line-most s = outcome-most (read documentLimits s).outcome (read documentLimits s).table (place-most documentLimits s)
+line_most s = outcome_most (read document_limits s).outcome (read document_limits s).table (place_most document_limits s)
 
 -- ---- with its number, and in a feed
 
 -- a line number of 20 digits, tab, `ok`, tab, canonical text, LF
-abbrev pub maxAnswer : ℕ
-maxAnswer = 25 + most
+abbrev pub max_answer : ℕ
+max_answer = 25 + most
 
-pub answer-most : (n : ℕ) (s : List ℕ) → n ≤ maxLineNumber → length (lineAnswer (line_of documentLimits) n s) ≤ maxAnswer
-answer-most n s h =
-    let tail = line_of documentLimits s ++ text "\n" in
-    omega (arith, length-append (decimal n) (9 ∷ tail), length-append (line_of documentLimits s) (text "\n"), decimal-most n (omega (arith, h)), line-most s)
+pub answer_most : (n : ℕ) (s : List ℕ) → n ≤ max_line_number → length (line_answer (line_of document_limits) n s) ≤ max_answer
+answer_most n s h =
+    let tail = line_of document_limits s ++ text "\n" in
+    omega (arith, length-append (decimal n) (9 ∷ tail), length-append (line_of document_limits s) (text "\n"), decimal_most n (omega (arith, h)), line_most s)
 
-pub always_takes : {input line out line' out' : List ℕ} {b : Begun} {r : Fed} → maxAnswer ≤ length out → b.number ≤ maxLineNumber → 0 < length input
-    → Feeds (line_of documentLimits) input line out b line' out' r → 0 < r.taken
-always_takes room counts some f = goes_on (line_of documentLimits) maxAnswer answer-most room (omega arith) counts some f
+pub always_takes : {input line out line' out' : List ℕ} {b : Begun} {r : Fed} → max_answer ≤ length out → b.number ≤ max_line_number → 0 < length input
+    → Feeds (line_of document_limits) input line out b line' out' r → 0 < r.taken
+always_takes room counts some f = goes_on_lem (line_of document_limits) max_answer answer_most room (omega arith) counts some f

@@ -1,7 +1,7 @@
 // The answer to a text, put into a lent buffer: its canonical text, or a refusal and its place.
 ghost use Rattle.std.specs.Prelude.{◌++◌, take};
 ghost use Rattle.forms.specs.Bytes.{text};
-ghost use Rattle.definitions.specs.Limits.{documentLimits};
+ghost use Rattle.definitions.specs.Limits.{document_limits};
 ghost use Rattle.definitions.specs.Lines.{line_of};
 ghost use Rattle.write_bytes.specs.Puts.{Puts};
 
@@ -22,7 +22,7 @@ fn put_ok(out: &mut [u8], at: usize, canonical: &[u8], n: usize) -> usize
 
 // THE ANSWER to a text, without its number and the LF.
 pub fn answer_text(out: &mut [u8], at: usize, s: &[u8]) -> usize
-    ensures { Puts out.old at (line_of documentLimits s.now) out.new result }
+    ensures { Puts out.old at (line_of document_limits s.now) out.new result }
 {
     let reading = read(s);
     let outcome = reading.outcome;

@@ -2,10 +2,10 @@
 pub mod answers;
 
 ghost use Rattle.std.specs.Prelude.{take};
-ghost use Rattle.definitions.specs.Limits.{documentLimits};
+ghost use Rattle.definitions.specs.Limits.{document_limits};
 ghost use Rattle.definitions.specs.Lines.{line_of};
 ghost use Rattle.write_bytes.specs.Puts.{Puts};
-ghost use Rattle.line_stream.specs.Stream.{lastLine, Feeds};
+ghost use Rattle.line_stream.specs.Stream.{last_line, Feeds};
 ghost use Rattle.line_stream.specs.Whole.{WholeLines, WholeLast};
 
 use crate::answers::answer_text;
@@ -17,8 +17,8 @@ pub const LINE_BYTES: usize = TEXT_BYTES + 1;
 
 // Takes bytes of the input until all are taken, or an answer has no room in the output.
 pub fn feed(input: &[u8], line: &mut [u8; LINE_BYTES], out: &mut [u8], begun: Begun) -> Fed
-    ensures feeds { Feeds (line_of documentLimits) input.now line.old out.old begun line.new out.new result }
-    ensures whole { WholeLines (line_of documentLimits) input.now line.old begun line.new out.new result }
+    ensures feeds { Feeds (line_of document_limits) input.now line.old out.old begun line.new out.new result }
+    ensures whole { WholeLines (line_of document_limits) input.now line.old begun line.new out.new result }
 {
     let mut t = first_line(input, line, out, begun);
     while t.waits {
@@ -31,8 +31,8 @@ pub fn feed(input: &[u8], line: &mut [u8; LINE_BYTES], out: &mut [u8], begun: Be
 
 // After the last byte: the answer to a line that lacks its LF. The answer is how many bytes it has, more than the buffer's if it has no room.
 pub fn finish(line: &[u8; LINE_BYTES], out: &mut [u8], begun: Begun) -> usize
-    ensures puts { Puts out.old 0 (lastLine (line_of documentLimits) begun.number (take begun.len line.now)) out.new result }
-    ensures whole { WholeLast (line_of documentLimits) line.now out.old begun out.new result }
+    ensures puts { Puts out.old 0 (last_line (line_of document_limits) begun.number (take begun.len line.now)) out.new result }
+    ensures whole { WholeLast (line_of document_limits) line.now out.old begun out.new result }
 {
     let t = last_line(line, out, begun);
     if t.waits {

@@ -1,7 +1,7 @@
 // Canonical text of byte_test: the value in decimal, `relative` and `little` where they are said.
 ghost use Rattle.std.specs.Prelude.{[]};
 ghost use Rattle.definitions.specs.declared.table.Item.TheVariants as item;
-ghost use Rattle.definitions.specs.Canonical.{comparisonText, testText};
+ghost use Rattle.definitions.specs.Canonical.{comparison_text, test_text};
 ghost use Rattle.write_bytes.specs.Puts.{Puts};
 
 use definitions::table::ByteTest;
@@ -11,7 +11,7 @@ use write_keywords::{byte_operator_keyword, put_keyword};
 
 // What a byte test compares: byte count, operator and value, each with its comma.
 fn put_comparison(out: &mut [u8], at: usize, t: ByteTest) -> usize
-    ensures { Puts out.old at (comparisonText t) out.new result }
+    ensures { Puts out.old at (comparison_text t) out.new result }
 {
     let width = t.width;
     let operator = t.operator;
@@ -25,7 +25,7 @@ fn put_comparison(out: &mut [u8], at: usize, t: ByteTest) -> usize
 
 // The option that compares the number of some bytes, the value in decimal.
 pub fn put_byte_test(out: &mut [u8], at: usize, t: ByteTest) -> usize
-    ensures { Puts out.old at (testText (item.Byte t) []) out.new result }
+    ensures { Puts out.old at (test_text (item.Byte t) []) out.new result }
 {
     let a1 = put_word(out, at, b" --byte_test ");
     let a2 = put_comparison(out, a1, t);

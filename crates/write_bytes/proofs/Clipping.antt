@@ -11,28 +11,28 @@ use borrow.Author.Tests.{leb-true, leb-false}
 use Rattle.forms.proofs.Bools.{by_cases}
 use Rattle.write_bytes.specs.Clipped.{at_most}
 
-pub at-most-le : (n most : ℕ) → at_most n most ≤ most
+pub at_most_le : (n most : ℕ) → at_most n most ≤ most
 unfolding at_most
-at-most-le n most = by_cases (leb n most) (λ t. rw t (leb-true n most t)) (λ f. rw f (le_refl most))
+at_most_le n most = by_cases (leb n most) (λ t. rw t (leb-true n most t)) (λ f. rw f (le_refl most))
 
-take-most : {A : Type 0} (n : ℕ) (l : List A) → take (at_most n (length l)) l ≡ take n l
+take_most : {A : Type 0} (n : ℕ) (l : List A) → take (at_most n (length l)) l ≡ take n l
 unfolding at_most
-take-most n l =
+take_most n l =
     by_cases (leb n (length l))
     (λ t. rw t)
     (λ f. rw f (take-length l ∙ sym (take_all n l (omega (arith, leb-false n (length l) f)))))
 
-pub taken-most : {A : Type 0} (n : ℕ) (l : List A) {most r : ℕ} → length l ≡ most → r ≡ at_most n most → take n l ≡ take r l
-taken-most n l e d = rw (d, sym e) (sym (take-most n l))
+pub taken_most : {A : Type 0} (n : ℕ) (l : List A) {most r : ℕ} → length l ≡ most → r ≡ at_most n most → take n l ≡ take r l
+taken_most n l e d = rw (d, sym e) (sym (take_most n l))
 
 -- as a part of a slice has it
-pub part-most : {A : Type 0} (n : ℕ) (l : List A) {most r : ℕ} → length l ≡ most → r ≡ at_most n most → take n l ≡ take (r - 0) (drop 0 l)
-part-most n l {r = r} e d = taken-most n l e d ∙ ap (λ (k : ℕ). take k l) (sym (sub-zero r))
+pub part_most : {A : Type 0} (n : ℕ) (l : List A) {most r : ℕ} → length l ≡ most → r ≡ at_most n most → take n l ≡ take (r - 0) (drop 0 l)
+part_most n l {r = r} e d = taken_most n l e d ∙ ap (λ (k : ℕ). take k l) (sym (sub-zero r))
 
 -- and drops what the number drops
-pub drop-most : {A : Type 0} (n : ℕ) (l : List A) → drop (at_most n (length l)) l ≡ drop n l
+pub drop_most : {A : Type 0} (n : ℕ) (l : List A) → drop (at_most n (length l)) l ≡ drop n l
 unfolding at_most
-drop-most n l =
+drop_most n l =
     by_cases (leb n (length l))
     (λ t. rw t)
     (λ f.

@@ -3,12 +3,12 @@ use Rattle.std.specs.Prelude.{ℕ, suc, ◌≡◌, List, [], ◌∷◌, ltb, set
 use Rattle.forms.specs.Bytes.{if◌then◌else◌}
 
 -- so many bytes are counted; whoever writes takes that many for too many
-abbrev pub maxCounted : ℕ
-maxCounted = 4294967295
+abbrev pub max_counted : ℕ
+max_counted = 4294967295
 
 -- the place after one byte more
 unfoldable pub counted : ℕ → ℕ
-counted at = if ltb at maxCounted then suc at else at
+counted at = if ltb at max_counted then suc at else at
 
 -- the buffer and the next place after some bytes; past the buffer's end none is kept
 unfoldable pub puts : List ℕ → ℕ → List ℕ → List ℕ × ℕ

@@ -2,8 +2,8 @@
 pub mod limits;
 
 ghost use Rattle.std.specs.Prelude.{[], ◌∷◌, ◌+◌, ◌≤◌, length, take, ◌≡◌};
-ghost use Rattle.definitions.specs.Canonical.{decimal, textIf};
-ghost use Rattle.write_bytes.specs.Puts.{maxCounted, counted, Puts};
+ghost use Rattle.definitions.specs.Canonical.{decimal, text_if};
+ghost use Rattle.write_bytes.specs.Puts.{max_counted, counted, Puts};
 
 use crate::limits::at_most;
 
@@ -30,7 +30,7 @@ pub fn put(out: &mut [u8], at: usize, b: u8) -> usize
 
 // A word that has room: no place is looked at before it is written.
 fn put_whole(out: &mut [u8], at: usize, w: &[u8]) -> usize
-    requires { (at + length w.now ≤ length out.old) × (at + length w.now ≤ maxCounted) }
+    requires { (at + length w.now ≤ length out.old) × (at + length w.now ≤ max_counted) }
     ensures { Puts out.old at w.now out.new result }
 {
     let mut i = 0;
@@ -83,7 +83,7 @@ pub fn put_front(out: &mut [u8], at: usize, w: &[u8], n: usize) -> usize
 
 // A word, if it is wanted.
 pub fn put_if(out: &mut [u8], at: usize, wanted: bool, w: &[u8]) -> usize
-    ensures { Puts out.old at (textIf wanted w.now) out.new result }
+    ensures { Puts out.old at (text_if wanted w.now) out.new result }
 {
     if wanted {
         return put_word(out, at, w);

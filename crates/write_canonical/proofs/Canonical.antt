@@ -7,32 +7,32 @@ use Rattle.forms.specs.Bytes.{text}
 use Rattle.definitions.specs.declared.table.Table.{Table}
 use Rattle.definitions.specs.OptionValues.{Name, Protocol}
 use Rattle.definitions.specs.Items.{slots_of}
-use Rattle.definitions.specs.Canonical.{flowOption, slotOptions, canonicalOptions, optionText, optionsText, canonicalText}
-use Rattle.write_patterns.proofs.OptionTexts.{options-append}
+use Rattle.definitions.specs.Canonical.{flow_option, slot_options, canonical_options, option_text, options_text, canonical_text}
+use Rattle.write_patterns.proofs.OptionTexts.{options_append}
 
 module _ (t : Table) where
   abbrev name : List ℕ
-  name = optionText (Name (take t.len t.name))
+  name = option_text (Name (take t.len t.name))
 
   abbrev protocol : List ℕ
-  protocol = optionText (Protocol t.protocol)
+  protocol = option_text (Protocol t.protocol)
 
   abbrev flow : List ℕ
-  flow = optionsText (flowOption t.flow)
+  flow = options_text (flow_option t.flow)
 
   abbrev items : List ℕ
-  items = optionsText (slotOptions (slots_of t) t.bytes)
+  items = options_text (slot_options (slots_of t) t.bytes)
 
   abbrev rest : List ℕ
-  rest = optionsText (flowOption t.flow ++ slotOptions (slots_of t) t.bytes)
+  rest = options_text (flow_option t.flow ++ slot_options (slots_of t) t.bytes)
 
-  pub canonical-parts : canonicalText t ≡ text "F-SBID(" ++ (name ++ (protocol ++ (flow ++ (items ++ text " )"))))
-  unfolding canonicalText canonicalOptions optionsText
-  canonical-parts =
+  pub canonical_parts : canonical_text t ≡ text "F-SBID(" ++ (name ++ (protocol ++ (flow ++ (items ++ text " )"))))
+  unfolding canonical_text canonical_options options_text
+  canonical_parts =
       ap (λ (x : List ℕ). text "F-SBID(" ++ x)
       (append_assoc name (protocol ++ rest) (text " )")
       ∙ ap (λ (x : List ℕ). name ++ x)
       (append_assoc protocol rest (text " )")
       ∙ ap (λ (x : List ℕ). protocol ++ x)
-      (ap (λ (x : List ℕ). x ++ text " )") (options-append (flowOption t.flow) (slotOptions (slots_of t) t.bytes))
+      (ap (λ (x : List ℕ). x ++ text " )") (options_append (flow_option t.flow) (slot_options (slots_of t) t.bytes))
       ∙ append_assoc flow items (text " )"))))

@@ -1,7 +1,7 @@
 // Canonical text of a table, put into a lent buffer: its options between the opening and the end.
 ghost use Rattle.std.specs.Prelude.{ℕ};
-ghost use Rattle.definitions.specs.Tables.{tableWith};
-ghost use Rattle.definitions.specs.Canonical.{canonicalText};
+ghost use Rattle.definitions.specs.Tables.{table_with};
+ghost use Rattle.definitions.specs.Canonical.{canonical_text};
 ghost use Rattle.write_bytes.specs.Puts.{Puts};
 
 use definitions::limits::{ITEMS, NAME_BYTES};
@@ -21,7 +21,7 @@ pub fn put_canonical(
     count: usize,
     bytes: &[u8],
 ) -> usize
-    ensures { (used : ℕ) → Puts out.old 0 (canonicalText (tableWith name len protocol flow bytes.now used items count)) out.new result }
+    ensures { (used : ℕ) → Puts out.old 0 (canonical_text (table_with name len protocol flow bytes.now used items count)) out.new result }
 {
     let a1 = put_word(out, 0, b"F-SBID(");
     let a2 = put_name(out, a1, name, len);

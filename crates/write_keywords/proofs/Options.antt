@@ -4,21 +4,21 @@ use Rattle.definitions.specs.declared.table.Flow.{Flow}
 use Rattle.definitions.specs.declared.table.Flow.TheVariants as flow
 use Rattle.definitions.specs.declared.table.Context.{Context}
 use Rattle.definitions.specs.declared.table.Context.TheVariants as context
-use Rattle.definitions.specs.Canonical.{flowOption, contextOption, modifierText, optionText, optionsText}
-use Rattle.write_keywords.specs.Keywords.{flowKeyword, contextKeyword}
+use Rattle.definitions.specs.Canonical.{flow_option, context_option, modifier_text, option_text, options_text}
+use Rattle.write_keywords.specs.Keywords.{flow_keyword, context_keyword}
 
-pub flow-option : (f : Flow) → optionsText (flowOption f) ≡ flowKeyword f
-unfolding optionsText optionText
-flow-option flow.Any = refl
-flow-option flow.FromClient = refl
-flow-option flow.FromServer = refl
+pub flow_option_lem : (f : Flow) → options_text (flow_option f) ≡ flow_keyword f
+unfolding options_text option_text
+flow_option_lem flow.Any = refl
+flow_option_lem flow.FromClient = refl
+flow_option_lem flow.FromServer = refl
 
-pub context-option : (c : Context) → optionsText (contextOption c) ≡ contextKeyword c
-unfolding optionsText optionText modifierText
-context-option context.Packet = refl
-context-option context.Uri = refl
-context-option context.Header = refl
-context-option context.Body = refl
-context-option context.Banner = refl
-context-option context.Host = refl
-context-option context.File = refl
+pub context_option_lem : (c : Context) → options_text (context_option c) ≡ context_keyword c
+unfolding options_text option_text modifier_text
+context_option_lem context.Packet = refl
+context_option_lem context.Uri = refl
+context_option_lem context.Header = refl
+context_option_lem context.Body = refl
+context_option_lem context.Banner = refl
+context_option_lem context.Host = refl
+context_option_lem context.File = refl

@@ -4,7 +4,7 @@ use Rattle.forms.specs.Bytes.{text}
 use Rattle.definitions.specs.declared.table.Flow.{Flow}
 use Rattle.definitions.specs.declared.table.Context.{Context}
 use Rattle.definitions.specs.OptionValues.{OptionValue}
-use Rattle.definitions.specs.Canonical.{flowOption, contextOption, textIf, flowText, contextText, valuedText}
+use Rattle.definitions.specs.Canonical.{flow_option, context_option, text_if, flow_text, context_text, valued_text}
 use Rattle.write_keywords.specs.declared.Keyword.{Keyword}
 
 abbrev pub keywords : List ℕ
@@ -31,8 +31,8 @@ abbrev pub given : List OptionValue → Bool
 given [] = false
 given (e ∷ es) = true
 
-abbrev pub flowKeyword : Flow → List ℕ
-flowKeyword f = textIf (given (flowOption f)) (valuedText (text "flow") (flowText f))
+abbrev pub flow_keyword : Flow → List ℕ
+flow_keyword f = text_if (given (flow_option f)) (valued_text (text "flow") (flow_text f))
 
-abbrev pub contextKeyword : Context → List ℕ
-contextKeyword c = textIf (given (contextOption c)) (valuedText (text "context") (contextText c))
+abbrev pub context_keyword : Context → List ℕ
+context_keyword c = text_if (given (context_option c)) (valued_text (text "context") (context_text c))

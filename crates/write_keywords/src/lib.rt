@@ -1,6 +1,6 @@
 // Keywords, as canonical text has them; what it leaves out is empty. They stand in one table, and one function puts any of them.
-ghost use Rattle.definitions.specs.Canonical.{sideName, numberName, orderText, fieldName, operatorText, byteOperatorText, sizeFieldText, referenceText};
-ghost use Rattle.write_keywords.specs.Keywords.{Listed, spelled, Spells, flowKeyword, contextKeyword};
+ghost use Rattle.definitions.specs.Canonical.{side_name, number_name, order_text, field_name, operator_text, byte_operator_text, size_field_text, reference_text};
+ghost use Rattle.write_keywords.specs.Keywords.{Listed, spelled, Spells, flow_keyword, context_keyword};
 ghost use Rattle.write_bytes.specs.Puts.{Puts};
 
 use definitions::table::{
@@ -32,7 +32,7 @@ pub fn put_keyword(out: &mut [u8], at: usize, k: Keyword) -> usize
 
 // The option flow, empty where none is given.
 pub fn flow_keyword(f: Flow) -> Keyword
-    ensures { Spells result (flowKeyword f) }
+    ensures { Spells result (flow_keyword f) }
 {
     match f {
         Flow::Any => Keyword(0, 0),
@@ -43,7 +43,7 @@ pub fn flow_keyword(f: Flow) -> Keyword
 
 // The name of the option that tests a side's address.
 pub fn side_keyword(s: Side) -> Keyword
-    ensures { Spells result (sideName s) }
+    ensures { Spells result (side_name s) }
 {
     match s {
         Side::Source => Keyword(0, 8),
@@ -53,7 +53,7 @@ pub fn side_keyword(s: Side) -> Keyword
 
 // The name of the option that tests a number. A table with an ip_id is refused before it comes here.
 pub fn number_field_keyword(f: NumberField) -> Keyword
-    ensures { Spells result (numberName f) }
+    ensures { Spells result (number_name f) }
 {
     match f {
         NumberField::IpId => Keyword(16, 21),
@@ -65,7 +65,7 @@ pub fn number_field_keyword(f: NumberField) -> Keyword
 
 // The sign before a number; equal is left out.
 pub fn order_keyword(o: Order) -> Keyword
-    ensures { Spells result (orderText o) }
+    ensures { Spells result (order_text o) }
 {
     match o {
         Order::Equal => Keyword(0, 0),
@@ -76,7 +76,7 @@ pub fn order_keyword(o: Order) -> Keyword
 
 // The name of the option that tests a field of the header.
 pub fn header_field_keyword(f: HeaderField) -> Keyword
-    ensures { Spells result (fieldName f) }
+    ensures { Spells result (field_name f) }
 {
     match f {
         HeaderField::TotalLength => Keyword(43, 58),
@@ -88,7 +88,7 @@ pub fn header_field_keyword(f: HeaderField) -> Keyword
 
 // The operator of a field test.
 pub fn operator_keyword(o: Operator) -> Keyword
-    ensures { Spells result (operatorText o) }
+    ensures { Spells result (operator_text o) }
 {
     match o {
         Operator::Equal => Keyword(81, 82),
@@ -102,7 +102,7 @@ pub fn operator_keyword(o: Operator) -> Keyword
 
 // The operator of a byte test.
 pub fn byte_operator_keyword(o: ByteOperator) -> Keyword
-    ensures { Spells result (byteOperatorText o) }
+    ensures { Spells result (byte_operator_text o) }
 {
     match o {
         ByteOperator::Greater => Keyword(84, 85),
@@ -114,7 +114,7 @@ pub fn byte_operator_keyword(o: ByteOperator) -> Keyword
 
 // The part whose size is tested, after a comma; the payload is left out.
 pub fn size_field_keyword(f: SizeField) -> Keyword
-    ensures { Spells result (sizeFieldText f) }
+    ensures { Spells result (size_field_text f) }
 {
     match f {
         SizeField::Payload => Keyword(0, 0),
@@ -126,7 +126,7 @@ pub fn size_field_keyword(f: SizeField) -> Keyword
 
 // What a place is counted from, after a comma; the last match is left out.
 pub fn reference_keyword(r: Reference) -> Keyword
-    ensures { Spells result (referenceText r) }
+    ensures { Spells result (reference_text r) }
 {
     match r {
         Reference::Match => Keyword(0, 0),
@@ -137,7 +137,7 @@ pub fn reference_keyword(r: Reference) -> Keyword
 
 // The option context; packet is left out.
 pub fn context_keyword(c: Context) -> Keyword
-    ensures { Spells result (contextKeyword c) }
+    ensures { Spells result (context_keyword c) }
 {
     match c {
         Context::Packet => Keyword(0, 0),

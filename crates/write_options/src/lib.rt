@@ -2,8 +2,8 @@
 ghost use Rattle.std.specs.Prelude.{◌≡◌, ◌≤◌, take};
 ghost use Rattle.definitions.specs.OptionValues.{Name, Protocol};
 ghost use Rattle.definitions.specs.Items.{kind_of};
-ghost use Rattle.definitions.specs.Canonical.{itemOptions, slotOptions, optionText, optionsText};
-ghost use Rattle.write_options.specs.Parts.{placeAfter};
+ghost use Rattle.definitions.specs.Canonical.{item_options, slot_options, option_text, options_text};
+ghost use Rattle.write_options.specs.Parts.{place_after};
 ghost use Rattle.write_bytes.specs.Puts.{Puts};
 
 use definitions::limits::{ITEMS, NAME_BYTES};
@@ -18,7 +18,7 @@ use write_tests::{
 
 // The option name: the first `len` bytes of the name, between quotes.
 pub fn put_name(out: &mut [u8], at: usize, name: [u8; NAME_BYTES], len: usize) -> usize
-    ensures { Puts out.old at (optionText (Name (take len name))) out.new result }
+    ensures { Puts out.old at (option_text (Name (take len name))) out.new result }
 {
     let a1 = put_word(out, at, b" --name \"");
     let a2 = put_front(out, a1, &name[..], len);
@@ -28,7 +28,7 @@ pub fn put_name(out: &mut [u8], at: usize, name: [u8; NAME_BYTES], len: usize) -
 
 // The option protocol, as a number.
 pub fn put_protocol(out: &mut [u8], at: usize, p: u8) -> usize
-    ensures { Puts out.old at (optionText (Protocol p)) out.new result }
+    ensures { Puts out.old at (option_text (Protocol p)) out.new result }
 {
     let a1 = put_word(out, at, b" --protocol ");
     let a2 = put_decimal(out, a1, p as u64);
@@ -37,7 +37,7 @@ pub fn put_protocol(out: &mut [u8], at: usize, p: u8) -> usize
 
 // An item's options; `b` are the pattern bytes from its own on.
 fn put_slot(out: &mut [u8], at: usize, slot: Slot, b: &[u8]) -> usize
-    ensures { Puts out.old at (optionsText (itemOptions (kind_of slot.item) slot b.now)) out.new result }
+    ensures { Puts out.old at (options_text (item_options (kind_of slot.item) slot b.now)) out.new result }
 {
     let item = slot.item;
     let addresses = slot.addresses;
@@ -58,7 +58,7 @@ fn put_slot(out: &mut [u8], at: usize, slot: Slot, b: &[u8]) -> usize
 // Where the next item's pattern bytes start.
 fn place_after(slot: Slot, from: usize, len: usize) -> usize
     requires { from ≤ len }
-    ensures { result ≡ placeAfter (kind_of slot.item) from len }
+    ensures { result ≡ place_after (kind_of slot.item) from len }
 {
     let item = slot.item;
     let Item::Pattern(p) = item else {
@@ -75,7 +75,7 @@ pub fn put_items(
     count: usize,
     bytes: &[u8],
 ) -> usize
-    ensures { Puts out.old at (optionsText (slotOptions (take count items) bytes.now)) out.new result }
+    ensures { Puts out.old at (options_text (slot_options (take count items) bytes.now)) out.new result }
 {
     let n = at_most(count, ITEMS);
     let mut next = at;

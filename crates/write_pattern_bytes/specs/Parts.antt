@@ -1,10 +1,10 @@
 -- One byte of a pattern's text, as the code goes about it. Section "House text".
 use Rattle.std.specs.Prelude.{ℕ, ◌/◌, ◌%◌, Bool, not, List, [], ◌∷◌, ◌++◌}
 use Rattle.forms.specs.Bytes.{if◌then◌else◌, text}
-use Rattle.definitions.specs.Canonical.{textIf, hexDigit}
+use Rattle.definitions.specs.Canonical.{text_if, hex_digit}
 
 -- plain or not; `opened` tells whether a block is open before it
-unfoldable pub byteText : Bool → Bool → ℕ → List ℕ
-byteText opened plain b =
-    if plain then textIf opened (text "|") ++ (b ∷ [])
-    else textIf (not opened) (text "|") ++ (hexDigit (b / 16) ∷ hexDigit (b % 16) ∷ [])
+unfoldable pub byte_text : Bool → Bool → ℕ → List ℕ
+byte_text opened plain b =
+    if plain then text_if opened (text "|") ++ (b ∷ [])
+    else text_if (not opened) (text "|") ++ (hex_digit (b / 16) ∷ hex_digit (b % 16) ∷ [])

@@ -1,7 +1,7 @@
 // The bytes of a pattern: plain ones as themselves, the rest in hex, neighbours in one block.
 ghost use Rattle.std.specs.Prelude.{◌≡◌, false, ◌<◌};
-ghost use Rattle.definitions.specs.Canonical.{hexDigit, patternText};
-ghost use Rattle.write_pattern_bytes.specs.Parts.{byteText};
+ghost use Rattle.definitions.specs.Canonical.{hex_digit, pattern_text};
+ghost use Rattle.write_pattern_bytes.specs.Parts.{byte_text};
 ghost use Rattle.write_bytes.specs.Puts.{Puts};
 
 use scan_bytes::bytes::is_plain;
@@ -10,14 +10,14 @@ use write_bytes::{put, put_if};
 // 0 to 9, A to F.
 fn hex_digit(d: u8) -> u8
     requires { d < 16 }
-    ensures { result ≡ hexDigit d }
+    ensures { result ≡ hex_digit d }
 {
     if d < 10 { b'0' + d } else { b'A' - 10 + d }
 }
 
 // One byte; `opened` tells whether a block of hex is open before it.
 fn put_byte(out: &mut [u8], at: usize, opened: bool, plain: bool, b: u8) -> usize
-    ensures { Puts out.old at (byteText opened plain b) out.new result }
+    ensures { Puts out.old at (byte_text opened plain b) out.new result }
 {
     if plain {
         let a1 = put_if(out, at, opened, b"|");
@@ -32,7 +32,7 @@ fn put_byte(out: &mut [u8], at: usize, opened: bool, plain: bool, b: u8) -> usiz
 
 // The bytes of a pattern, as they stand between its quotes.
 pub fn put_bytes(out: &mut [u8], at: usize, b: &[u8]) -> usize
-    ensures { Puts out.old at (patternText false b.now) out.new result }
+    ensures { Puts out.old at (pattern_text false b.now) out.new result }
 {
     let mut next = at;
     let mut opened = false;

@@ -1,7 +1,7 @@
 // Canonical text of a pattern and its modifiers.
 ghost use Rattle.std.specs.Prelude.{◌≡◌, nat_abs};
 ghost use Rattle.definitions.specs.OptionValues as entry;
-ghost use Rattle.definitions.specs.Canonical.{decimalℤ, distanceOption, withinOption, patternOptions, modifierText, optionText, optionsText};
+ghost use Rattle.definitions.specs.Canonical.{decimalℤ, distance_option, within_option, pattern_options, modifier_text, option_text, options_text};
 ghost use Rattle.write_bytes.specs.Puts.{Puts};
 
 use definitions::table::{Distance, DistanceValue, Pattern, Within, WithinValue};
@@ -33,7 +33,7 @@ fn put_signed(out: &mut [u8], at: usize, z: i32) -> usize
 
 // The option distance.
 fn put_distance_value(out: &mut [u8], at: usize, d: DistanceValue) -> usize
-    ensures { Puts out.old at (modifierText (entry.Distance d)) out.new result }
+    ensures { Puts out.old at (modifier_text (entry.Distance d)) out.new result }
 {
     let reference = d.reference;
     let a1 = put_word(out, at, b" --distance ");
@@ -45,7 +45,7 @@ fn put_distance_value(out: &mut [u8], at: usize, d: DistanceValue) -> usize
 
 // The option within.
 fn put_within_value(out: &mut [u8], at: usize, w: WithinValue) -> usize
-    ensures { Puts out.old at (modifierText (entry.Within w)) out.new result }
+    ensures { Puts out.old at (modifier_text (entry.Within w)) out.new result }
 {
     let reference = w.reference;
     let a1 = put_word(out, at, b" --within ");
@@ -56,7 +56,7 @@ fn put_within_value(out: &mut [u8], at: usize, w: WithinValue) -> usize
 
 // The option distance, if given.
 fn put_distance(out: &mut [u8], at: usize, d: Distance) -> usize
-    ensures { Puts out.old at (optionsText (distanceOption d)) out.new result }
+    ensures { Puts out.old at (options_text (distance_option d)) out.new result }
 {
     match d {
         Distance::Unset => at,
@@ -66,7 +66,7 @@ fn put_distance(out: &mut [u8], at: usize, d: Distance) -> usize
 
 // The option within, if given.
 fn put_within(out: &mut [u8], at: usize, w: Within) -> usize
-    ensures { Puts out.old at (optionsText (withinOption w)) out.new result }
+    ensures { Puts out.old at (options_text (within_option w)) out.new result }
 {
     match w {
         Within::Unset => at,
@@ -76,7 +76,7 @@ fn put_within(out: &mut [u8], at: usize, w: Within) -> usize
 
 // The option pattern, negated or not, its bytes between quotes.
 fn put_quoted(out: &mut [u8], at: usize, negated: bool, b: &[u8]) -> usize
-    ensures { Puts out.old at (optionText (entry.Pattern negated b.now)) out.new result }
+    ensures { Puts out.old at (option_text (entry.Pattern negated b.now)) out.new result }
 {
     let a1 = put_word(out, at, b" --pattern ");
     let a2 = put_if(out, a1, negated, b"!");
@@ -88,7 +88,7 @@ fn put_quoted(out: &mut [u8], at: usize, negated: bool, b: &[u8]) -> usize
 
 // A pattern, whose bytes stand at the front of `b`, and after it context, no_case, distance and within.
 pub fn put_pattern(out: &mut [u8], at: usize, p: Pattern, b: &[u8]) -> usize
-    ensures { Puts out.old at (optionsText (patternOptions p b.now)) out.new result }
+    ensures { Puts out.old at (options_text (pattern_options p b.now)) out.new result }
 {
     let context = p.context;
     let distance = p.distance;

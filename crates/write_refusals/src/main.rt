@@ -1,7 +1,7 @@
 // Shows the writer's answers that no text can bring about: 20, for a table that was edited, and 22, for a buffer that is too short. Each line is the number,
 // the bytes written, and the buffer afterwards, which was all dots.
 ghost use Rattle.std.specs.Prelude.{◌≡◌};
-ghost use Rattle.definitions.specs.Refusals.{writeNumber, writeLength};
+ghost use Rattle.definitions.specs.Refusals.{write_number, write_length};
 
 use definitions::answers::Writing;
 use definitions::limits::{ITEMS, NAME_BYTES, PATTERN_BYTES};
@@ -19,7 +19,7 @@ const SHOWN: usize = 128;
 
 // 0 where nothing is refused.
 fn write_number(w: Writing) -> u64
-    ensures { result ≡ writeNumber w }
+    ensures { result ≡ write_number w }
 {
     match w {
         Writing::Written(_) => 0,
@@ -29,7 +29,7 @@ fn write_number(w: Writing) -> u64
 
 // How many bytes are written.
 fn write_length(w: Writing) -> usize
-    ensures { result ≡ writeLength w }
+    ensures { result ≡ write_length w }
 {
     match w {
         Writing::Written(n) => n,

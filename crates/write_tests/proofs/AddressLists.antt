@@ -10,44 +10,44 @@ use lib.Seq.{length-take-le}
 use lib.Dec.{ltb}
 use borrow.Author.Tests.{lt-ltb, le-ltb}
 use Rattle.forms.specs.Bytes.{text}
-use Rattle.list_laws.proofs.Firsts.{first-here, first_out}
+use Rattle.list_laws.proofs.Firsts.{first_here, first_out}
 use Rattle.definitions.specs.declared.table.Address.{Address}
-use Rattle.definitions.specs.Canonical.{textIf, addressText, addressesText, bracketed}
+use Rattle.definitions.specs.Canonical.{text_if, address_text, addresses_text, bracketed}
 
 -- addresses from the one at place i of a list on: a comma before each but the first
 unfoldable pub list_from : ℕ → List Address → List ℕ
 list_from i [] = []
-list_from i (a ∷ l) = textIf (ltb 0 i) (text ",") ++ (addressText a ++ list_from (suc i) l)
+list_from i (a ∷ l) = text_if (ltb 0 i) (text ",") ++ (address_text a ++ list_from (suc i) l)
 
-list-later : (i : ℕ) (a : Address) (l : List Address) → textIf (ltb 0 (suc i)) (text ",") ++ addressesText (a ∷ l) ≡ list_from (suc i) (a ∷ l)
-unfolding addressesText list_from
-list-later i a [] = rw (lt-ltb 0 (suc i) (omega arith)) (ap (λ (x : List ℕ). text "," ++ x) (sym (append-nil (addressText a))))
-list-later i a (b ∷ l) =
+list_later : (i : ℕ) (a : Address) (l : List Address) → text_if (ltb 0 (suc i)) (text ",") ++ addresses_text (a ∷ l) ≡ list_from (suc i) (a ∷ l)
+unfolding addresses_text list_from
+list_later i a [] = rw (lt-ltb 0 (suc i) (omega arith)) (ap (λ (x : List ℕ). text "," ++ x) (sym (append-nil (address_text a))))
+list_later i a (b ∷ l) =
     rw (lt-ltb 0 (suc i) (omega arith))
-    (ap (λ (x : List ℕ). text "," ++ (addressText a ++ x))
-    (ap (λ (t : Bool). textIf t (text ",") ++ addressesText (b ∷ l)) (sym (lt-ltb 0 (suc (suc i)) (omega arith))) ∙ list-later (suc i) b l))
+    (ap (λ (x : List ℕ). text "," ++ (address_text a ++ x))
+    (ap (λ (t : Bool). text_if t (text ",") ++ addresses_text (b ∷ l)) (sym (lt-ltb 0 (suc (suc i)) (omega arith))) ∙ list_later (suc i) b l))
 
-pub list-is : (l : List Address) → addressesText l ≡ list_from 0 l
-unfolding addressesText list_from
-list-is [] = refl
-list-is (a ∷ []) = sym (append-nil (addressText a))
-list-is (a ∷ (b ∷ l)) =
-    ap (λ (x : List ℕ). addressText a ++ x)
-    (ap (λ (t : Bool). textIf t (text ",") ++ addressesText (b ∷ l)) (sym (lt-ltb 0 1 (omega arith))) ∙ list-later 0 b l)
+pub list_is : (l : List Address) → addresses_text l ≡ list_from 0 l
+unfolding addresses_text list_from
+list_is [] = refl
+list_is (a ∷ []) = sym (append-nil (address_text a))
+list_is (a ∷ (b ∷ l)) =
+    ap (λ (x : List ℕ). address_text a ++ x)
+    (ap (λ (t : Bool). text_if t (text ",") ++ addresses_text (b ∷ l)) (sym (lt-ltb 0 1 (omega arith))) ∙ list_later 0 b l)
 
 -- one more of the n addresses in use
 pub list_on : (l : List Address) (n i : ℕ) (d : Address) → i < n → n ≤ length l
-    → list_from i (drop i (take n l)) ≡ textIf (ltb 0 i) (text ",") ++ (addressText (get_or l i d) ++ list_from (i + 1) (drop (i + 1) (take n l)))
+    → list_from i (drop i (take n l)) ≡ text_if (ltb 0 i) (text ",") ++ (address_text (get_or l i d) ++ list_from (i + 1) (drop (i + 1) (take n l)))
 unfolding list_from
 list_on l n i d h long =
-    rw (first-here l n i d h long, add-one i)
+    rw (first_here l n i d h long, add-one i)
 
-pub list-end : (l : List Address) (n i : ℕ) → n ≤ i → list_from i (drop i (take n l)) ≡ []
+pub list_end : (l : List Address) (n i : ℕ) → n ≤ i → list_from i (drop i (take n l)) ≡ []
 unfolding list_from
-list-end l n i h = rw (first_out l n i h)
+list_end l n i h = rw (first_out l n i h)
 
-pub brackets : (l : List Address) (n : ℕ) → n ≤ length l → 1 < n → bracketed (take n l) ≡ text "[" ++ (addressesText (take n l) ++ text "]")
+pub brackets : (l : List Address) (n : ℕ) → n ≤ length l → 1 < n → bracketed (take n l) ≡ text "[" ++ (addresses_text (take n l) ++ text "]")
 brackets l n long h = rw (lt-ltb 1 (length (take n l)) (omega (arith, h, length-take-le n l long)))
 
-pub no-brackets : (l : List Address) (n : ℕ) → n ≤ 1 → bracketed (take n l) ≡ addressesText (take n l)
-no-brackets l n h = rw (le-ltb 1 (length (take n l)) (omega (arith, h, length-take n l)))
+pub no_brackets : (l : List Address) (n : ℕ) → n ≤ 1 → bracketed (take n l) ≡ addresses_text (take n l)
+no_brackets l n h = rw (le-ltb 1 (length (take n l)) (omega (arith, h, length-take n l)))

@@ -1,7 +1,7 @@
 // Lists of addresses, in brackets only for two or more.
 ghost use Rattle.std.specs.Prelude.{◌≤◌, take};
-ghost use Rattle.definitions.specs.Limits.{maxAddresses};
-ghost use Rattle.definitions.specs.Canonical.{addressesText, bracketed};
+ghost use Rattle.definitions.specs.Limits.{max_addresses};
+ghost use Rattle.definitions.specs.Canonical.{addresses_text, bracketed};
 ghost use Rattle.write_bytes.specs.Puts.{Puts};
 
 use definitions::limits::ADDRESSES;
@@ -12,8 +12,8 @@ use write_values::put_address;
 
 // The first `n` addresses, a comma between two.
 fn put_list(out: &mut [u8], at: usize, list: [Address; ADDRESSES], n: usize) -> usize
-    requires { n ≤ maxAddresses }
-    ensures { Puts out.old at (addressesText (take n list)) out.new result }
+    requires { n ≤ max_addresses }
+    ensures { Puts out.old at (addresses_text (take n list)) out.new result }
 {
     let mut next = at;
     let mut i = 0;

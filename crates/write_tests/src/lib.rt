@@ -3,7 +3,7 @@ mod addresses;
 
 ghost use Rattle.std.specs.Prelude.{[], take};
 ghost use Rattle.definitions.specs.declared.table.Item.TheVariants as item;
-ghost use Rattle.definitions.specs.Canonical.{testText};
+ghost use Rattle.definitions.specs.Canonical.{test_text};
 ghost use Rattle.write_bytes.specs.Puts.{Puts};
 
 use crate::addresses::put_bracketed;
@@ -23,7 +23,7 @@ pub fn put_address_test(
     t: AddressTest,
     list: [Address; ADDRESSES],
 ) -> usize
-    ensures { Puts out.old at (testText (item.Address t) (take t.count list)) out.new result }
+    ensures { Puts out.old at (test_text (item.Address t) (take t.count list)) out.new result }
 {
     let side = t.side;
     let a1 = put_word(out, at, b" --");
@@ -36,7 +36,7 @@ pub fn put_address_test(
 
 // The option that tests a number for equality.
 pub fn put_number_test(out: &mut [u8], at: usize, t: NumberTest) -> usize
-    ensures { Puts out.old at (testText (item.Number t) []) out.new result }
+    ensures { Puts out.old at (test_text (item.Number t) []) out.new result }
 {
     let field = t.field;
     let a1 = put_word(out, at, b" --");
@@ -48,7 +48,7 @@ pub fn put_number_test(out: &mut [u8], at: usize, t: NumberTest) -> usize
 
 // The option that compares the time to live.
 pub fn put_ttl_test(out: &mut [u8], at: usize, t: TtlTest) -> usize
-    ensures { Puts out.old at (testText (item.Ttl t) []) out.new result }
+    ensures { Puts out.old at (test_text (item.Ttl t) []) out.new result }
 {
     let order = t.order;
     let a1 = put_word(out, at, b" --ip_ttl ");
@@ -59,7 +59,7 @@ pub fn put_ttl_test(out: &mut [u8], at: usize, t: TtlTest) -> usize
 
 // The option that compares a field of the header, masked or not.
 pub fn put_field_test(out: &mut [u8], at: usize, t: FieldTest) -> usize
-    ensures { Puts out.old at (testText (item.Field t) []) out.new result }
+    ensures { Puts out.old at (test_text (item.Field t) []) out.new result }
 {
     let field = t.field;
     let operator = t.operator;
@@ -75,7 +75,7 @@ pub fn put_field_test(out: &mut [u8], at: usize, t: FieldTest) -> usize
 
 // The option that compares the size of a part of the packet.
 pub fn put_size_test(out: &mut [u8], at: usize, t: SizeTest) -> usize
-    ensures { Puts out.old at (testText (item.Size t) []) out.new result }
+    ensures { Puts out.old at (test_text (item.Size t) []) out.new result }
 {
     let order = t.order;
     let field = t.field;
@@ -88,7 +88,7 @@ pub fn put_size_test(out: &mut [u8], at: usize, t: SizeTest) -> usize
 
 // The option that asks for a byte at a place, counted from the last match if relative.
 pub fn put_at_test(out: &mut [u8], at: usize, t: AtTest) -> usize
-    ensures { Puts out.old at (testText (item.At t) []) out.new result }
+    ensures { Puts out.old at (test_text (item.At t) []) out.new result }
 {
     let a1 = put_word(out, at, b" --data_at ");
     let a2 = put_decimal(out, a1, t.number as u64);

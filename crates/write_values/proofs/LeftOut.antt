@@ -6,19 +6,19 @@ use borrow.Author.Tests.{eq-eqb, ne_eqb}
 use Rattle.forms.specs.Bytes.{text}
 use Rattle.definitions.specs.declared.table.Address.{Address}
 use Rattle.definitions.specs.declared.table.FieldTest.{FieldTest}
-use Rattle.definitions.specs.Limits.{maxPrefix}
-use Rattle.definitions.specs.Forms.{maxField}
-use Rattle.definitions.specs.Canonical.{decimal, octets, addressText}
-use Rattle.write_values.specs.Parts.{maskText}
+use Rattle.definitions.specs.Limits.{max_prefix}
+use Rattle.definitions.specs.Forms.{max_field}
+use Rattle.definitions.specs.Canonical.{decimal, octets, address_text}
+use Rattle.write_values.specs.Parts.{mask_text}
 
-pub prefix-full : (a : Address) → a.prefix ≡ maxPrefix → addressText a ≡ octets a.number
-prefix-full a e = rw (eq-eqb a.prefix maxPrefix e) (append-nil (octets a.number))
+pub prefix_full : (a : Address) → a.prefix ≡ max_prefix → address_text a ≡ octets a.number
+prefix_full a e = rw (eq-eqb a.prefix max_prefix e) (append-nil (octets a.number))
 
-pub prefix-given : (a : Address) → (a.prefix ≡ maxPrefix → ⊥) → addressText a ≡ octets a.number ++ (text "/" ++ decimal a.prefix)
-prefix-given a n = rw (ne_eqb a.prefix maxPrefix n)
+pub prefix_given : (a : Address) → (a.prefix ≡ max_prefix → ⊥) → address_text a ≡ octets a.number ++ (text "/" ++ decimal a.prefix)
+prefix_given a n = rw (ne_eqb a.prefix max_prefix n)
 
-pub mask_full : (f : FieldTest) (m : ℕ) → m ≡ maxField f.field → f.mask ≡ m → maskText f ≡ []
-mask_full f m e d = rw (eq-eqb f.mask (maxField f.field) (d ∙ e))
+pub mask_full : (f : FieldTest) (m : ℕ) → m ≡ max_field f.field → f.mask ≡ m → mask_text f ≡ []
+mask_full f m e d = rw (eq-eqb f.mask (max_field f.field) (d ∙ e))
 
-pub mask-given : (f : FieldTest) (m : ℕ) → m ≡ maxField f.field → (f.mask ≡ m → ⊥) → maskText f ≡ text "& " ++ (decimal f.mask ++ text " ")
-mask-given f m e n = rw (ne_eqb f.mask (maxField f.field) (λ d. n (d ∙ sym e)))
+pub mask_given : (f : FieldTest) (m : ℕ) → m ≡ max_field f.field → (f.mask ≡ m → ⊥) → mask_text f ≡ text "& " ++ (decimal f.mask ++ text " ")
+mask_given f m e n = rw (ne_eqb f.mask (max_field f.field) (λ d. n (d ∙ sym e)))

@@ -1,6 +1,6 @@
 // Values of tests as canonical text has them: an address and a mask. What it leaves out is empty.
-ghost use Rattle.definitions.specs.Canonical.{octets, addressText};
-ghost use Rattle.write_values.specs.Parts.{maskText};
+ghost use Rattle.definitions.specs.Canonical.{octets, address_text};
+ghost use Rattle.write_values.specs.Parts.{mask_text};
 ghost use Rattle.write_bytes.specs.Puts.{Puts};
 
 use definitions::limits::MAX_PREFIX;
@@ -23,7 +23,7 @@ fn put_octets(out: &mut [u8], at: usize, n: u32) -> usize
 
 // An address in dots, and its prefix after a slash; the prefix /32 is left out.
 pub fn put_address(out: &mut [u8], at: usize, a: Address) -> usize
-    ensures { Puts out.old at (addressText a) out.new result }
+    ensures { Puts out.old at (address_text a) out.new result }
 {
     let a1 = put_octets(out, at, a.number);
     if a.prefix == MAX_PREFIX {
@@ -35,7 +35,7 @@ pub fn put_address(out: &mut [u8], at: usize, a: Address) -> usize
 
 // The mask of a field test after `&`; a full mask is left out.
 pub fn put_mask(out: &mut [u8], at: usize, t: FieldTest) -> usize
-    ensures { Puts out.old at (maskText t) out.new result }
+    ensures { Puts out.old at (mask_text t) out.new result }
 {
     let field = t.field;
     if t.mask as u64 == field_most(field) {

@@ -1,12 +1,12 @@
 // Writing a table as canonical text into a lent buffer.
 ghost use Rattle.std.specs.Prelude.{◌≡◌, true, length};
-ghost use Rattle.definitions.specs.Limits.{documentLimits};
-ghost use Rattle.definitions.specs.WellFormed.{wellFormed};
-ghost use Rattle.definitions.specs.Canonical.{canonicalText};
-ghost use Rattle.definitions.specs.Writing.{writes, bufferAfter};
-ghost use Rattle.definitions.specs.AnswerNumbers.{writeNumbers, writeInNumbers};
+ghost use Rattle.definitions.specs.Limits.{document_limits};
+ghost use Rattle.definitions.specs.WellFormed.{well_formed};
+ghost use Rattle.definitions.specs.Canonical.{canonical_text};
+ghost use Rattle.definitions.specs.Writing.{writes, buffer_after};
+ghost use Rattle.definitions.specs.AnswerNumbers.{write_numbers, write_in_numbers};
 ghost use Rattle.write_bytes.specs.Clipped.{at_most};
-ghost use Rattle.write_bytes.specs.Puts.{maxCounted, Puts};
+ghost use Rattle.write_bytes.specs.Puts.{max_counted, Puts};
 
 use definitions::answers::{Refusal, Writing};
 use definitions::limits::CANONICAL_BYTES;
@@ -18,9 +18,9 @@ use write_canonical::put_canonical;
 // For a caller that knows its table to be well formed, as one that was read is: the canonical text is put into room of the length that it may have, which also
 // measures it; or 21.
 pub fn write_formed(t: Table, room: &mut [u8; CANONICAL_BYTES]) -> Writing
-    requires { wellFormed t ≡ true }
-    ensures answer { result ≡ writes documentLimits t room.old }
-    ensures put { Puts room.old 0 (canonicalText t) room.new (at_most (length (canonicalText t)) maxCounted) }
+    requires { well_formed t ≡ true }
+    ensures answer { result ≡ writes document_limits t room.old }
+    ensures put { Puts room.old 0 (canonical_text t) room.new (at_most (length (canonical_text t)) max_counted) }
 {
     let name = t.name;
     let flow = t.flow;
@@ -37,9 +37,9 @@ pub fn write_formed(t: Table, room: &mut [u8; CANONICAL_BYTES]) -> Writing
 // THE WRITER. Any table and any buffer: 20, 21 and 22 in this order, each leaving the buffer as it was; else the canonical text at its front, the
 // bytes after it untouched, and the text's length.
 pub fn write(t: Table, out: &mut [u8]) -> Writing
-    ensures answer { result ≡ writes documentLimits t out.old }
-    ensures buffer { out.new ≡ bufferAfter documentLimits t out.old }
-    ensures numbers { writeNumbers result ≡ writeInNumbers documentLimits t (length out.old) }
+    ensures answer { result ≡ writes document_limits t out.old }
+    ensures buffer { out.new ≡ buffer_after document_limits t out.old }
+    ensures numbers { write_numbers result ≡ write_in_numbers document_limits t (length out.old) }
 {
     let name = t.name;
     let items = t.items;

@@ -5,13 +5,13 @@ use native.Mathlib.Omega.{arith}
 use lib.ListN.{length, take, drop, length-take}
 use Rattle.write_bytes.specs.Puts.{puts}
 use Rattle.write_bytes.proofs.Putting.{same_length as same}
-use Rattle.block_answers.specs.AnswerBytes.{answerBytes}
+use Rattle.block_answers.specs.AnswerBytes.{answer_bytes}
 use Rattle.block_answers.proofs.Answers.{answer-on, answers-all}
 use Rattle.block_answers.proofs.put_answers.Statement.{statement}
 use Rattle.block_answers.proofs.put_answers.Tie as tie
 
 abbrev invariant-loop : tie.invariant-loop
-invariant-loop out₀ at numbers n next₀ i₀ out next i = (i ≤ length numbers) × (puts out₀ next₀ (answerBytes (take n numbers)) ≡ puts out next (answerBytes (drop i (take n numbers))))
+invariant-loop out₀ at numbers n next₀ i₀ out next i = (i ≤ length numbers) × (puts out₀ next₀ (answer_bytes (take n numbers)) ≡ puts out next (answer_bytes (drop i (take n numbers))))
 
 abbrev decreases-loop : tie.decreases-loop
 decreases-loop out₀ at numbers n next₀ i₀ out next i = length numbers - i

@@ -1,7 +1,7 @@
 -- The records that are answered are within what was read.
 use Prim.Native.Nat.{◌-◌}
 use native.Mathlib.Omega.{arith}
-use Rattle.blocks.proofs.Bytes.{answered-within}
+use Rattle.blocks.proofs.Bytes.{answered_within}
 use borrow.Author.Rules.{rules}
 use Rattle.blocks.proofs.decide.Statement.{statement}
 use Rattle.blocks.proofs.decide.Tie as tie
@@ -37,7 +37,7 @@ keep-rest-requires : tie.Need-keep-rest-requires
 keep-rest-requires c κs =
     let decided = c.before.before.before.before.before.before in
     let x = decided.before.before.before.before.before.before.args in
-    let most = answered-within (x.end - 0) x.block.now _ decided.decide-block.ensures.1 in
+    let most = answered_within (x.end - 0) x.block.now _ decided.decide-block.ensures.1 in
     (omega (arith, most), search rules)
 
 same-length-3 : tie.Need-same-length-3

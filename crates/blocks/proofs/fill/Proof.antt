@@ -1,6 +1,6 @@
 -- What is read is within the rest of the block.
 use native.Mathlib.Omega.{arith}
-use Rattle.blocks.proofs.Counts.{read-within}
+use Rattle.blocks.proofs.Counts.{read_within}
 use borrow.Author.Rules.{rules}
 use Rattle.blocks.proofs.fill.Statement.{statement}
 use Rattle.blocks.proofs.fill.Tie as tie
@@ -29,7 +29,7 @@ returns c = search rules
 add-t12 : tie.Need-overflow-add-t12
 add-t12 c =
     let read = c.before.before in
-    let most = read-within _ read.read.given.1 read.before.before.before.before.read_all.ensures in
+    let most = read_within _ read.read.given.1 read.before.before.before.before.read_all.ensures in
     omega (arith, most)
 
 enum_told : tie.Need-enum-told
@@ -47,7 +47,7 @@ same-length-2 c = search rules
 returns-2 : tie.Need-returns-2
 returns-2 c =
     let read = c.before.before in
-    let most = read-within _ read.read.given.1 read.before.before.before.before.read_all.ensures in
+    let most = read_within _ read.read.given.1 read.before.before.before.before.read_all.ensures in
     omega (arith, most)
 
 same-length-3 : tie.Need-same-length-3

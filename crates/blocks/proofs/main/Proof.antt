@@ -1,5 +1,5 @@
 -- What is read is within the room.
-use Rattle.blocks.proofs.Counts.{read-within}
+use Rattle.blocks.proofs.Counts.{read_within}
 use borrow.Author.Rules.{rules}
 use Rattle.blocks.proofs.main.Statement.{statement}
 use Rattle.blocks.proofs.main.Tie as tie
@@ -13,7 +13,7 @@ enum-known-file c = search rules
 run-book-requires : tie.Need-run-book-requires
 run-book-requires c κs =
     let file = c.before.before in
-    read-within 65537 file.file.given.1 file.before.before.read-book.ensures
+    read_within 65537 file.file.given.1 file.before.before.read-book.ensures
 
 enum_told : tie.Need-enum-told
 enum_told c = search rules

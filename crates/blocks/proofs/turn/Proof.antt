@@ -2,8 +2,8 @@
 use mathlib.Core.Path.{subst}
 use Prim.Native.Nat.{ℕ}
 use native.Mathlib.Omega.{arith}
-use Rattle.blocks.specs.Held.{heldWithin}
-use Rattle.blocks.proofs.Counts.{held-within}
+use Rattle.blocks.specs.Held.{HeldWithin}
+use Rattle.blocks.proofs.Counts.{held_within}
 use borrow.Author.Rules.{rules}
 use Rattle.blocks.proofs.turn.Statement.{statement}
 use Rattle.blocks.proofs.turn.Tie as tie
@@ -23,12 +23,12 @@ returns c = search rules
 decide-requires : tie.Need-decide-requires
 decide-requires c κs =
     let end = c.before.before.before in
-    let most = held-within _ end.end.given.1 end.before.before.fill.ensures in
+    let most = held_within _ end.end.given.1 end.before.before.fill.ensures in
     omega (arith, most)
 
 returns-2 : tie.Need-returns-2
 returns-2 c =
-    subst (λ (n : ℕ). heldWithin n c.decide.result) c.before.before.decide-arg.given.0.1 c.decide.ensures
+    subst (λ (n : ℕ). HeldWithin n c.decide.result) c.before.before.decide-arg.given.0.1 c.decide.ensures
 
 pub turn_spec : {M : Type 1} → statement M
 turn_spec =

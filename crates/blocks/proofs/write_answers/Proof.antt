@@ -4,7 +4,7 @@ use Prim.Native.Nat.{◌*◌, ◌≤◌}
 use native.Mathlib.Omega.{arith}
 use lib.ListN.{length}
 use lib.Seq.{length-take-le}
-use Rattle.write_bytes.specs.Puts.{maxCounted}
+use Rattle.write_bytes.specs.Puts.{max_counted}
 use Rattle.write_bytes.proofs.Putting.{same_length}
 use Rattle.block_answers.proofs.Lengths.{answers-within}
 use borrow.Author.Rules.{rules}
@@ -21,7 +21,7 @@ array-share-prefix-out : tie.Need-array-share-prefix-out
 array-share-prefix-out c =
     let put = c.before.put-answers.ensures in
     let x = c.before.before.before.before.args in
-    let few : 3 * length x.answers.now ≤ maxCounted = omega arith in
+    let few : 3 * length x.answers.now ≤ max_counted = omega arith in
     omega (arith, answers-within x.packets x.answers.now few put, same_length put)
 
 slice-aggregate-write-all : tie.Need-slice-aggregate-write-all

@@ -2,9 +2,9 @@
 use mathlib.Core.Path.{sym}
 use native.Mathlib.Omega.{arith}
 use lib.Seq.{length-take-le}
-use Rattle.definitions.specs.Limits.{documentLimits}
+use Rattle.definitions.specs.Limits.{document_limits}
 use Rattle.write_bytes.proofs.Putting.{same_length}
-use Rattle.book_answers.proofs.Lengths.{answer-within}
+use Rattle.book_answers.proofs.Lengths.{answer_within}
 use borrow.Author.Rules.{rules}
 use Rattle.book.proofs.write_answer.Statement.{statement}
 use Rattle.book.proofs.write_answer.Tie as tie
@@ -21,7 +21,7 @@ answer-book-requires c κs = tt
 array-share-prefix-out : tie.Need-array-share-prefix-out
 array-share-prefix-out c =
     let put = c.before.answer-book.ensures in
-    omega (arith, answer-within documentLimits _ put, same_length put)
+    omega (arith, answer_within document_limits _ put, same_length put)
 
 slice-aggregate-write-all : tie.Need-slice-aggregate-write-all
 slice-aggregate-write-all c = sym (length-take-le _ _ (array-share-prefix-out c.before))

@@ -4,7 +4,7 @@ use mathlib.Core.List.{◌++◌}
 use Rattle.forms.specs.Bytes.{text}
 use Rattle.definitions.specs.declared.books.Judgement.{Judgement}
 use Rattle.write_bytes.proofs.Putting.{then, told, same_length as same}
-use Rattle.book_answers.specs.BookAnswers.{judgementText, bookOutput}
+use Rattle.book_answers.specs.BookAnswers.{judgement_text, book_output}
 use Rattle.book_answers.proofs.answer_book.Statement.{statement}
 use Rattle.book_answers.proofs.answer_book.Tie as tie
 
@@ -18,12 +18,12 @@ put-requires : tie.Need-put-requires
 put-requires c κs = tt
 
 returns : tie.Need-returns
-unfolding bookOutput
+unfolding book_output
 returns c =
     let put = c.before.before in
     let judged = put.before.before.before.before in
     told
-    (ap (λ (j : Judgement). judgementText j ++ text "\n") (sym judged.before.judge.ensures.0))
+    (ap (λ (j : Judgement). judgement_text j ++ text "\n") (sym judged.before.judge.ensures.0))
     (then judged.put-judgement.ensures put.put.ensures)
 
 same_length : tie.Need-same-length

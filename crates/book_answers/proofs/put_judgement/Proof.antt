@@ -1,7 +1,7 @@
 -- Each arm puts its variant's text.
 use mathlib.Core.Path.{refl, ap}
 use Rattle.write_bytes.proofs.Putting.{then, told, same_length as same}
-use Rattle.book_answers.specs.BookAnswers.{judgementText}
+use Rattle.book_answers.specs.BookAnswers.{judgement_text}
 use borrow.Author.Rules.{rules}
 use Rattle.book_answers.proofs.put_judgement.Statement.{statement}
 use Rattle.book_answers.proofs.put_judgement.Tie as tie
@@ -25,17 +25,17 @@ put-refused-requires : tie.Need-put-refused-requires
 put-refused-requires c κs = tt
 
 returns : tie.Need-returns
-unfolding judgementText
+unfolding judgement_text
 returns c =
     let put = c.before.before in
     let word = put.before.before.before.before in
-    told (ap judgementText word.before.before.before.before.j.given.1) (then word.put_word.ensures put.put-decimal.ensures)
+    told (ap judgement_text word.before.before.before.before.j.given.1) (then word.put_word.ensures put.put-decimal.ensures)
 
 returns-2 : tie.Need-returns-2
-unfolding judgementText
+unfolding judgement_text
 returns-2 c =
     let put = c.before.before in
-    told (ap judgementText put.before.before.before.j2.given.1) put.Put-refused.ensures
+    told (ap judgement_text put.before.before.before.j2.given.1) put.Put-refused.ensures
 
 same_length : tie.Need-same-length
 same_length c = same (returns c)

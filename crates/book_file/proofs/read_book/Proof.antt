@@ -1,7 +1,7 @@
 -- The room that is lent has 65,537 bytes.
 use mathlib.Core.Path.{subst}
 use Prim.Native.Nat.{ℕ}
-use Rattle.book_file.specs.Counted.{countWithin}
+use Rattle.book_file.specs.Counted.{CountWithin}
 use borrow.Author.Rules.{rules}
 use Rattle.book_file.proofs.read_book.Statement.{statement}
 use Rattle.book_file.proofs.read_book.Tie as tie
@@ -42,7 +42,7 @@ close-requires c κs = tt
 returns-3 : tie.Need-returns-3
 returns-3 c =
     let read = c.before in
-    subst (λ (n : ℕ). countWithin n read.read_all.result) read.before.read-all-arg.given.0.1 read.read_all.ensures
+    subst (λ (n : ℕ). CountWithin n read.read_all.result) read.before.read-all-arg.given.0.1 read.read_all.ensures
 
 pub read-book-spec : {M : Type 1} → statement M
 read-book-spec =

@@ -1,7 +1,7 @@
 -- The words, one after the other.
 use mathlib.Core.Path.{sym, ◌∙◌}
-use Rattle.definitions.specs.Books.{isAction, actionOf}
-use Rattle.book_rules.specs.RuleLines.{parsedAction}
+use Rattle.definitions.specs.Books.{is_action, action_of}
+use Rattle.book_rules.specs.RuleLines.{parsed_action}
 use borrow.Author.Rules.{rules}
 use Rattle.book_rules.proofs.parse_action.Statement.{statement}
 use Rattle.book_rules.proofs.parse_action.Tie as tie
@@ -13,7 +13,7 @@ is-word-requires : tie.Need-is-word-requires
 is-word-requires c κs = search rules
 
 returns : tie.Need-returns
-unfolding parsedAction isAction actionOf
+unfolding parsed_action is_action action_of
 returns c = rw (sym c.before.is_IsWord.ensures ∙ c.if1.true)
 
 slice-aggregate-is-word-2 : tie.Need-slice-aggregate-is-word-2
@@ -23,13 +23,13 @@ is-word-requires-2 : tie.Need-is-word-requires-2
 is-word-requires-2 c κs = search rules
 
 returns-2 : tie.Need-returns-2
-unfolding parsedAction isAction actionOf
+unfolding parsed_action is_action action_of
 returns-2 c =
     let first = c.before.before.before in
     rw (sym first.before.is_IsWord.ensures ∙ first.if1.false, sym c.before.is-word2.ensures ∙ c.if2.true)
 
 returns-3 : tie.Need-returns-3
-unfolding parsedAction isAction actionOf
+unfolding parsed_action is_action action_of
 returns-3 c =
     let first = c.before.before.before in
     rw (sym first.before.is_IsWord.ensures ∙ first.if1.false, sym c.before.is-word2.ensures ∙ c.if2.false)

@@ -2,8 +2,8 @@
 use mathlib.Core.Path.{sym, ◌∙◌}
 use native.Mathlib.Omega.{arith}
 use borrow.Author.Tests.{not-true, not-false}
-use Rattle.book_rules.proofs.RuleNumbers.{number_fits}
-use Rattle.book_rules.proofs.RuleColumns.{text-le, no_end, few-tabs, no_number, no-state, no-action, one-rule}
+use Rattle.book_rules.proofs.RuleNumbers.{number_fits_lem}
+use Rattle.book_rules.proofs.RuleColumns.{text_le, no_end, few_tabs, no_number, no-state, no-action, one-rule}
 use borrow.Author.Rules.{rules}
 use Rattle.book_rules.proofs.parse_rule.Statement.{statement}
 use Rattle.book_rules.proofs.parse_rule.Tie as tie
@@ -30,7 +30,7 @@ returns-2 : tie.Need-returns-2
 returns-2 c =
     let ended = c.before.before in
     let parts = ended.before.before in
-    few-tabs _ (sym ended.before.contains.ensures ∙ not-false _ ended.if1.false)
+    few_tabs _ (sym ended.before.contains.ensures ∙ not-false _ ended.if1.false)
     _ _ parts.before.before.part-after.ensures parts.before.part-after2.ensures
     (sym c.before.contains2.ensures ∙ not-true _ c.if2.true)
 
@@ -113,7 +113,7 @@ cast-t16 : tie.Need-overflow-cast-t16
 cast-t16 c =
     let state = c.before.before.before.before.before.before.before.before in
     let parsed = state.before.before.before in
-    omega (arith, number_fits _ _ (sym parsed.before.before.parse-number.ensures ∙ parsed.number.given.1))
+    omega (arith, number_fits_lem _ _ (sym parsed.before.before.parse-number.ensures ∙ parsed.number.given.1))
 
 sub-t19 : tie.Need-overflow-sub-t19
 sub-t19 c =
@@ -121,7 +121,7 @@ sub-t19 c =
     let state = action.before.before.before.before.before in
     let number = state.before.before.before.before.before in
     let parts = number.before.before.before.before.before.before in
-    text-le _ _ _ _ parts.before.before.part-after.ensures parts.before.part-after2.ensures parts.part-after3.ensures
+    text_le _ _ _ _ parts.before.before.part-after.ensures parts.before.part-after2.ensures parts.part-after3.ensures
 
 part-before-requires-4 : tie.Need-part-before-requires-4
 part-before-requires-4 c κs = search rules

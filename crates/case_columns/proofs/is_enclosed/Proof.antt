@@ -1,7 +1,7 @@
 -- The opening bracket, then the closing one.
 use mathlib.Core.Path.{sym, ◌∙◌}
 use borrow.Author.Tests.{not-true, not-false}
-use Rattle.case_columns.proofs.Enclosed.{no-opening, late-opening, no-closing, last-closing}
+use Rattle.case_columns.proofs.Enclosed.{no_opening, late_opening, no-closing, last-closing}
 use borrow.Author.Rules.{rules}
 use Rattle.case_columns.proofs.is_enclosed.Statement.{statement}
 use Rattle.case_columns.proofs.is_enclosed.Tie as tie
@@ -10,7 +10,7 @@ contains-requires : tie.Need-contains-requires
 contains-requires c κs = search rules
 
 returns : tie.Need-returns
-returns c = no-opening _ (sym c.before.contains.ensures ∙ not-true _ c.if1.true)
+returns c = no_opening _ (sym c.before.contains.ensures ∙ not-true _ c.if1.true)
 
 part-before-requires : tie.Need-part-before-requires
 part-before-requires c κs = search rules
@@ -18,7 +18,7 @@ part-before-requires c κs = search rules
 returns-2 : tie.Need-returns-2
 returns-2 c =
     let opened = c.before.before in
-    late-opening _ (sym opened.before.contains.ensures ∙ not-false _ opened.if1.false) _ c.before.part-before.ensures c.if2.true
+    late_opening _ (sym opened.before.contains.ensures ∙ not-false _ opened.if1.false) _ c.before.part-before.ensures c.if2.true
 
 part-after-requires : tie.Need-part-after-requires
 part-after-requires c κs = search rules

@@ -1,7 +1,7 @@
 -- The brackets, then the starts between them.
 use mathlib.Core.Path.{sym, ◌∙◌}
 use borrow.Author.Tests.{not-true, not-false}
-use Rattle.case_columns.proofs.Queries.{not-enclosed, enclosed}
+use Rattle.case_columns.proofs.Queries.{not_enclosed, enclosed}
 use borrow.Author.Rules.{rules}
 use Rattle.case_columns.proofs.parse_next.Statement.{statement}
 use Rattle.case_columns.proofs.parse_next.Tie as tie
@@ -13,7 +13,7 @@ plain-query-requires : tie.Need-plain-query-requires
 plain-query-requires c κs = search rules
 
 returns : tie.Need-returns
-returns c = not-enclosed _ (sym c.before.before.is-enclosed.ensures ∙ not-true _ c.before.if1.true) _ c.plain-query.ensures
+returns c = not_enclosed _ (sym c.before.before.is-enclosed.ensures ∙ not-true _ c.before.if1.true) _ c.plain-query.ensures
 
 part-after-requires : tie.Need-part-after-requires
 part-after-requires c κs = search rules

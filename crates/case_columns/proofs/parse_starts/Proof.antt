@@ -6,7 +6,7 @@ use lib.ListN.{length}
 use borrow.Author.Rules.{rules}
 use Rattle.definitions.specs.declared.packets.Start.{Start}
 use Rattle.line_parts.proofs.PartsFrom.{part_in}
-use Rattle.case_columns.proofs.Starts.{Starting, no-starts, starting, starting-halt, starting-full, starting-on, starting-out}
+use Rattle.case_columns.proofs.Starts.{Starting, no_starts, starting, starting_halt, starting_full, starting_on, starting_out}
 use Rattle.case_columns.proofs.parse_starts.Statement.{statement}
 use Rattle.case_columns.proofs.parse_starts.Tie as tie
 
@@ -20,7 +20,7 @@ plain-query-requires : tie.Need-plain-query-requires invariant-loop decreases-lo
 plain-query-requires c κs = tt
 
 returns : tie.Need-returns invariant-loop decreases-loop
-returns c = no-starts _ c.before.if1.true _ c.plain-query.ensures
+returns c = no_starts _ c.before.if1.true _ c.plain-query.ensures
 
 loop-holds : tie.Need-loop-init invariant-loop decreases-loop
 loop-holds c = ([], starting _ c.if1.false)
@@ -53,7 +53,7 @@ returns-2 : tie.Need-returns-2 invariant-loop decreases-loop
 returns-2 c =
     let number = c.before.before.before in
     let test = number.before.before.before in
-    starting-halt _ _ _ _ _ test.before.loop.invariant.1 test.loop-test.true _ number.before.part-before.ensures _
+    starting_halt _ _ _ _ _ test.before.loop.invariant.1 test.loop-test.true _ number.before.part-before.ensures _
     number.parse-decimal.ensures c.before.enum_told.given.1 _ c.plain-query2.ensures
 
 plain-query-requires-3 : tie.Need-plain-query-requires-3 invariant-loop decreases-loop
@@ -63,7 +63,7 @@ returns-3 : tie.Need-returns-3 invariant-loop decreases-loop
 returns-3 c =
     let number = c.before.before.before.before.before in
     let test = number.before.before.before in
-    starting-full _ _ _ _ _ test.before.loop.invariant.1 test.loop-test.true _ number.before.part-before.ensures _
+    starting_full _ _ _ _ _ test.before.loop.invariant.1 test.loop-test.true _ number.before.part-before.ensures _
     number.parse-decimal.ensures c.before.if2.true _ c.plain-query3.ensures
 
 start-of-requires : tie.Need-start-of-requires invariant-loop decreases-loop
@@ -100,12 +100,12 @@ loop-again c =
     let number = c.before.before.before.before.before in
     let test = number.before.before.before in (
       _,
-      starting-on _ _ _ _ _ test.before.loop.invariant.1 test.loop-test.true _ number.before.part-before.ensures _
+      starting_on _ _ _ _ _ test.before.loop.invariant.1 test.loop-test.true _ number.before.part-before.ensures _
           number.parse-decimal.ensures _ c.before.before.before.n.given.1 c.before.if2.false _ c.start_of_lem.ensures,
     )
 
 returns-4 : tie.Need-returns-4 invariant-loop decreases-loop
-returns-4 c = starting-out _ _ _ _ _ c.before.loop.invariant.1 (omega arith)
+returns-4 c = starting_out _ _ _ _ _ c.before.loop.invariant.1 (omega arith)
 
 pub parse-starts-spec : {M : Type 1} → statement M
 parse-starts-spec =

@@ -1,7 +1,7 @@
 -- What is read is within each room.
 use mathlib.Core.Path.{subst}
 use borrow.Author.Rules.{rules}
-use Rattle.book_file.specs.Counted.{countWithin}
+use Rattle.book_file.specs.Counted.{CountWithin}
 use Rattle.compare.proofs.main.Statement.{statement}
 use Rattle.compare.proofs.main.Tie as tie
 
@@ -22,8 +22,8 @@ write-changes-requires c κs =
     let y = c.before.before.before in
     let x = y.before.before.before in
     let read = x.before.before in (
-      subst (countWithin 65537) x.x.given.1 read.before.before.read-book.ensures,
-      subst (countWithin 65537) y.y.given.1 read.read-book2.ensures,
+      subst (CountWithin 65537) x.x.given.1 read.before.before.read-book.ensures,
+      subst (CountWithin 65537) y.y.given.1 read.read-book2.ensures,
     )
 
 enum_told : tie.Need-enum-told

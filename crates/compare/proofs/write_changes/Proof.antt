@@ -3,9 +3,9 @@ use mathlib.Core.Path.{sym}
 use native.Mathlib.Omega.{arith}
 use lib.Seq.{length-take-le}
 use borrow.Author.Rules.{rules}
-use Rattle.definitions.specs.Limits.{documentLimits}
+use Rattle.definitions.specs.Limits.{document_limits}
 use Rattle.write_bytes.proofs.Putting.{same_length}
-use Rattle.compare_books.proofs.Lengths.{compare-within}
+use Rattle.compare_books.proofs.Lengths.{compare_within}
 use Rattle.compare.proofs.write_changes.Statement.{statement}
 use Rattle.compare.proofs.write_changes.Tie as tie
 
@@ -24,7 +24,7 @@ compare-requires c κs = tt
 array-share-prefix-out : tie.Need-array-share-prefix-out
 array-share-prefix-out c =
     let put = c.before.compare.ensures in
-    omega (arith, compare-within documentLimits _ _ put, same_length put)
+    omega (arith, compare_within document_limits _ _ put, same_length put)
 
 slice-aggregate-write-all : tie.Need-slice-aggregate-write-all
 slice-aggregate-write-all c = sym (length-take-le _ _ (array-share-prefix-out c.before))

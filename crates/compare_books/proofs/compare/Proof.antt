@@ -1,8 +1,8 @@
 -- The first book's refusal, the second's, or the lines of their rules.
 use borrow.Author.Rules.{rules}
 use Rattle.write_bytes.proofs.Putting.{told, same_length as same}
-use Rattle.compare_laws.specs.Comparisons.{refusedOutput}
-use Rattle.compare_books.proofs.Books.{first-told, second-told, both_told}
+use Rattle.compare_laws.specs.Comparisons.{refused_output}
+use Rattle.compare_books.proofs.Books.{first_told, second_told, both_told}
 use Rattle.compare_books.proofs.compare.Statement.{statement}
 use Rattle.compare_books.proofs.compare.Tie as tie
 
@@ -40,16 +40,16 @@ put-rules-requires : tie.Need-put-rules-requires
 put-rules-requires c κs = search rules
 
 returns : tie.Need-returns
-unfolding refusedOutput
+unfolding refused_output
 returns c =
     let put = c.before.before in
     let j = put.before.before.before.before in
     let x = j.before.before in
     let z = x.before.before.before.before.args in
-    told (first-told z.first.now z.second.now x.load.ensures _ _ j.j.given.1) put.put-refused-book.ensures
+    told (first_told z.first.now z.second.now x.load.ensures _ _ j.j.given.1) put.put-refused-book.ensures
 
 returns-2 : tie.Need-returns-2
-unfolding refusedOutput
+unfolding refused_output
 returns-2 c =
     let put = c.before.before in
     let k = put.before.before.before.before in
@@ -57,7 +57,7 @@ returns-2 c =
     let j = y.before in
     let x = j.before.before in
     let z = x.before.before.before.before.args in
-    told (second-told z.first.now z.second.now x.load.ensures _ j.enum_told.given.1 y.load2.ensures _ _ k.k.given.1)
+    told (second_told z.first.now z.second.now x.load.ensures _ j.enum_told.given.1 y.load2.ensures _ _ k.k.given.1)
     put.put-refused-book2.ensures
 
 returns-3 : tie.Need-returns-3

@@ -1,15 +1,15 @@
 -- Nothing where nothing differs; else the parts of the line, one after the other.
 use borrow.Author.Tests.{not-true, not-false}
 use borrow.Author.Rules.{rules}
-use Rattle.write_bytes.proofs.Putting.{then, told, none-put, same_length as same}
-use Rattle.compare_lines.proofs.Differing.{nothing-changed, something-changed}
+use Rattle.write_bytes.proofs.Putting.{then, told, none_put, same_length as same}
+use Rattle.compare_lines.proofs.Differing.{nothing_changed, something_changed}
 use Rattle.compare_lines.proofs.put_changed.Statement.{statement}
 use Rattle.compare_lines.proofs.put_changed.Tie as tie
 
 returns : tie.Need-returns
 returns c =
     let x = c.before.before.args in
-    told (nothing-changed x.number x.state x.action x.table (not-true _ c.if1.true)) none-put
+    told (nothing_changed x.number x.state x.action x.table (not-true _ c.if1.true)) none_put
 
 slice-aggregate-put-word : tie.Need-slice-aggregate-put-word
 slice-aggregate-put-word c = search rules
@@ -37,7 +37,7 @@ returns-2 c =
     let number = tab.before.before.before.before in
     let word = number.before.before.before.before in
     let x = word.before.before.before.before.before.args in
-    told (something-changed x.number x.state x.action x.table (not-false _ word.before.before.before.if1.false))
+    told (something_changed x.number x.state x.action x.table (not-false _ word.before.before.before.if1.false))
     (then word.put_word.ensures
     (then number.put-decimal.ensures (then tab.put.ensures (then words.put-differing.ensures lf.put2.ensures))))
 

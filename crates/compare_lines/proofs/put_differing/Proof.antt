@@ -1,7 +1,7 @@
 -- The words that are wanted, each after its comma.
 use borrow.Author.Rules.{rules}
 use Rattle.write_bytes.proofs.Putting.{then, told, same_length as same}
-use Rattle.compare_lines.proofs.Differing.{words-parted}
+use Rattle.compare_lines.proofs.Differing.{words_parted}
 use Rattle.compare_lines.proofs.put_differing.Statement.{statement}
 use Rattle.compare_lines.proofs.put_differing.Tie as tie
 
@@ -43,7 +43,7 @@ returns c =
     let comma = action.before.before.before.before.before in
     let state = comma.before.before.before.before.before in
     let x = state.before.before.before.before.args in
-    told (words-parted x.state x.action x.table)
+    told (words_parted x.state x.action x.table)
     (then state.put_if.ensures (then comma.put-if2.ensures (then action.put-if3.ensures (then comma2.put-if4.ensures last.put-if5.ensures))))
 
 same_length : tie.Need-same-length

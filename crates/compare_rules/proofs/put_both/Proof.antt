@@ -1,9 +1,9 @@
 -- The line by what was found to differ.
 use borrow.Author.Rules.{rules}
 use Rattle.write_bytes.proofs.Putting.{told, same_length as same}
-use Rattle.definitions.specs.LoadedBooks.{ruleAt}
-use Rattle.compare_laws.specs.Comparisons.{readRule}
-use Rattle.compare_rules.specs.LoadedRules.{readAt}
+use Rattle.definitions.specs.LoadedBooks.{rule_at}
+use Rattle.compare_laws.specs.Comparisons.{read_rule}
+use Rattle.compare_rules.specs.LoadedRules.{read_at}
 use Rattle.compare_rules.proofs.LoadedRules.{both_by}
 use Rattle.compare_rules.proofs.put_both.Statement.{statement}
 use Rattle.compare_rules.proofs.put_both.Tie as tie
@@ -21,13 +21,13 @@ put-changed-requires : tie.Need-put-changed-requires
 put-changed-requires c κs = search rules
 
 returns : tie.Need-returns
-unfolding readRule ruleAt
+unfolding read_rule rule_at
 returns c =
     let put = c.before.before in
     let table = put.before.before in
     let x = table.before.before.before.before.before.before.args in
     told
-    (both_by (readAt x.first.now x.a) (readAt x.second.now x.b) table.before.before.states-differ.ensures
+    (both_by (read_at x.first.now x.a) (read_at x.second.now x.b) table.before.before.states-differ.ensures
     table.before.actions-differ.ensures table.texts-differ.ensures)
     put.put-changed.ensures
 

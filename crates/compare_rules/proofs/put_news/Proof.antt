@@ -4,8 +4,8 @@ use Prim.Native.Nat.{◌-◌}
 use native.Mathlib.Omega.{arith}
 use lib.ListN.{length-map}
 use Rattle.write_bytes.proofs.Putting.{same_length as same}
-use Rattle.compare_rules.proofs.LoadedRules.{in-room}
-use Rattle.compare_rules.proofs.Merging.{Ending, ending-on, ended}
+use Rattle.compare_rules.proofs.LoadedRules.{in_room}
+use Rattle.compare_rules.proofs.Merging.{Ending, ending_on, ended}
 use Rattle.compare_rules.proofs.put_news.Statement.{statement}
 use Rattle.compare_rules.proofs.put_news.Tie as tie
 
@@ -27,7 +27,7 @@ loop-holds c =
     }
 
 element-copy-out-y : tie.Need-element-copy-out-y invariant-loop decreases-loop
-element-copy-out-y c = in-room c.before.loop.invariant.used _ c.loop-test.true
+element-copy-out-y c = in_room c.before.loop.invariant.used _ c.loop-test.true
 
 mul-y : tie.Need-overflow-mul-y invariant-loop decreases-loop
 mul-y c = omega (arith, element-copy-out-y c)
@@ -45,7 +45,7 @@ loop-again : tie.Need-loop-preserved invariant-loop decreases-loop
 loop-again c =
     let put = c.before.before in
     let test = put.before.before.before in
-    ending-on test.before.loop.invariant _ test.loop-test.true put.put-new.ensures
+    ending_on test.before.loop.invariant _ test.loop-test.true put.put-new.ensures
 
 returns : tie.Need-returns invariant-loop decreases-loop
 returns c = ended c.before.loop.invariant c.loop-test.false

@@ -4,7 +4,7 @@ use Prim.Native.Nat.{◌+◌, ◌-◌}
 use native.Mathlib.Omega.{arith}
 use lib.ListN.{length-map}
 use Rattle.write_bytes.proofs.Putting.{same_length as same}
-use Rattle.compare_rules.proofs.LoadedRules.{in-room}
+use Rattle.compare_rules.proofs.LoadedRules.{in_room}
 use Rattle.compare_rules.proofs.Merging.{Merging, merged, old-alone, old-on, new-on, both-on}
 use Rattle.compare_rules.proofs.put_rules.Statement.{statement}
 use Rattle.compare_rules.proofs.put_rules.Tie as tie
@@ -26,13 +26,13 @@ loop-holds c =
     let n = c.before in
     let s = n.before.before.before.before in
     record {
-      ofFirst = record { counted = n.at_most.ensures; long = sym (length-map s.args.t4.list _) ∙ s.well-formed.1.1.1.0.1.1.1.0.1.0.1 };
-      ofSecond = record { counted = c.at-most2.ensures; long = sym (length-map s.args.t6.list _) ∙ s.well-formed.1.1.1.1.1.0.1.1.1.0.1.0.1 };
+      of_first = record { counted = n.at_most.ensures; long = sym (length-map s.args.t4.list _) ∙ s.well-formed.1.1.1.0.1.1.1.0.1.0.1 };
+      of_second = record { counted = c.at-most2.ensures; long = sym (length-map s.args.t6.list _) ∙ s.well-formed.1.1.1.1.1.0.1.1.1.0.1.0.1 };
       left = record { is = refl };
     }
 
 element-copy-out-x : tie.Need-element-copy-out-x invariant-loop decreases-loop
-element-copy-out-x c = in-room c.before.loop.invariant.ofFirst _ c.loop-test.true
+element-copy-out-x c = in_room c.before.loop.invariant.ofFirst _ c.loop-test.true
 
 mul-x : tie.Need-overflow-mul-x invariant-loop decreases-loop
 mul-x c = omega (arith, element-copy-out-x c)
@@ -54,7 +54,7 @@ loop-again c =
     old-alone _ _ _ _ _ _ _ _ test.before.loop.invariant _ test.loop-test.true none.if1.true put.put-old.ensures
 
 element-copy-out-y : tie.Need-element-copy-out-y invariant-loop decreases-loop
-element-copy-out-y c = in-room c.before.before.before.loop.invariant.ofSecond _ c.if1.false
+element-copy-out-y c = in_room c.before.before.before.loop.invariant.ofSecond _ c.if1.false
 
 mul-y : tie.Need-overflow-mul-y invariant-loop decreases-loop
 mul-y c = omega (arith, element-copy-out-y c)

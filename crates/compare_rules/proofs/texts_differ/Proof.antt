@@ -2,8 +2,8 @@
 use mathlib.Core.Path.{ap, ap₂, ◌∙◌}
 use mathlib.Core.Bool.{not}
 use borrow.Author.Rules.{rules}
-use Rattle.table_equality.specs.SameTables.{sameTable}
-use Rattle.compare_rules.proofs.LoadedRules.{table-read}
+use Rattle.table_equality.specs.SameTables.{same_table}
+use Rattle.compare_rules.proofs.LoadedRules.{table_read}
 use Rattle.compare_rules.proofs.texts_differ.Statement.{statement}
 use Rattle.compare_rules.proofs.texts_differ.Tie as tie
 
@@ -29,9 +29,9 @@ returns c =
     let x = a.before.before.before.before.args in
     ap not
     (c.same-table.ensures
-    ∙ ap₂ sameTable
-    (table-read x.first.now x.a a.read.ensures.0 a.before.text_at.ensures)
-    (table-read x.second.now x.b b.read2.ensures.0 b.before.text-at2.ensures))
+    ∙ ap₂ same_table
+    (table_read x.first.now x.a a.read.ensures.0 a.before.text_at.ensures)
+    (table_read x.second.now x.b b.read2.ensures.0 b.before.text-at2.ensures))
 
 pub texts-differ-spec : {M : Type 1} → statement M
 texts-differ-spec =

@@ -1,8 +1,8 @@
 -- The last line is answered as any other, or there is none.
 use borrow.Author.Rules.{rules}
-use Rattle.decision_lines.specs.DecisionLines.{decisionAnswer}
-use Rattle.line_stream.proofs.Finish.{one-waits, none-waits}
-use Rattle.decision_lines.proofs.Whole.{finish-whole}
+use Rattle.decision_lines.specs.DecisionLines.{decision_answer}
+use Rattle.line_stream.proofs.Finish.{one_waits, none_waits}
+use Rattle.decision_lines.proofs.Whole.{finish_whole}
 use Rattle.decision_lines.proofs.finish.Statement.{statement}
 use Rattle.decision_lines.proofs.finish.Tie as tie
 
@@ -29,8 +29,8 @@ returns c =
     let test = kept.before.before.before in
     let last = test.before.before.before in
     let answer = answered.answer-decision.ensures in
-    let put = one-waits decisionAnswer last.last_Line.ensures test.if1.true kept.kept.ensures answer ended.end_line.ensures in
-    (put, finish-whole _ put last.before.before.last-line-arg.given.0)
+    let put = one_waits decision_answer last.last_Line.ensures test.if1.true kept.kept.ensures answer ended.end_line.ensures in
+    (put, finish_whole _ put last.before.before.last-line-arg.given.0)
 
 same-length-2 : tie.Need-same-length-2
 same-length-2 c = search rules
@@ -38,8 +38,8 @@ same-length-2 c = search rules
 returns-2 : tie.Need-returns-2
 returns-2 c =
     let last = c.before.before.before in
-    let put = none-waits decisionAnswer last.last_Line.ensures c.if1.false in
-    (put, finish-whole _ put last.before.before.last-line-arg.given.0)
+    let put = none_waits decision_answer last.last_Line.ensures c.if1.false in
+    (put, finish_whole _ put last.before.before.last-line-arg.given.0)
 
 pub finish_spec : {M : Type 1} → statement M
 finish_spec =

@@ -1,6 +1,6 @@
 -- The six tests in a row are the definitions' test of any of them.
 use Rattle.laws.proofs.Numbers.{fields_told}
-use Rattle.fields.proofs.Mapped.{check-of-six}
+use Rattle.fields.proofs.Mapped.{check_of_six}
 use Rattle.fields.proofs.fields_check.Statement.{statement}
 use Rattle.fields.proofs.fields_check.Tie as tie
 
@@ -23,12 +23,12 @@ field-passes-requires-6 : tie.Need-field-passes-requires-6
 field-passes-requires-6 c κs = tt
 
 returns : tie.Need-returns
-returns c = fields_told _ _ _ (check-of-six _ _ _ _ _ _ _ _ _ _ c.before.before.before.before.before.before.field-passes.ensures
+returns c = fields_told _ _ _ (check_of_six _ _ _ _ _ _ _ _ _ _ c.before.before.before.before.before.before.field-passes.ensures
     c.before.before.before.before.before.field-passes2.ensures c.before.before.before.before.field-passes3.ensures
     c.before.before.before.field-passes4.ensures c.before.before.field-passes5.ensures c.before.field-passes6.ensures c.if1.true)
 
 returns-2 : tie.Need-returns-2
-returns-2 c = fields_told _ _ _ (check-of-six _ _ _ _ _ _ _ _ _ _ c.before.before.before.before.before.before.field-passes.ensures
+returns-2 c = fields_told _ _ _ (check_of_six _ _ _ _ _ _ _ _ _ _ c.before.before.before.before.before.before.field-passes.ensures
     c.before.before.before.before.before.field-passes2.ensures c.before.before.before.before.field-passes3.ensures
     c.before.before.before.field-passes4.ensures c.before.before.field-passes5.ensures c.before.field-passes6.ensures c.if1.false)
 

@@ -1,6 +1,6 @@
 -- The book's refusal, or what its rules decide.
 use borrow.Author.Rules.{rules}
-use Rattle.guard.proofs.Books.{decision-told, book-refused, book-accepted}
+use Rattle.guard.proofs.Books.{decision_told, book_refused, book_accepted}
 use Rattle.guard.proofs.decide.Statement.{statement}
 use Rattle.guard.proofs.decide.Tie as tie
 
@@ -21,16 +21,16 @@ returns c =
     let j = c.before in
     let l = j.before.before in
     let x = l.before.before.before.before.args in
-    decision-told x.p.now x.decoded.now x.dir x.m x.book.now
-    (book-refused x.p.now x.decoded.now x.dir x.m x.book.now l.load.ensures _ _ j.judgement.given.1)
+    decision_told x.p.now x.decoded.now x.dir x.m x.book.now
+    (book_refused x.p.now x.decoded.now x.dir x.m x.book.now l.load.ensures _ _ j.judgement.given.1)
 
 returns-2 : tie.Need-returns-2
 returns-2 c =
     let t = c.before in
     let l = t.before.before in
     let x = l.before.before.before.before.args in
-    decision-told x.p.now x.decoded.now x.dir x.m x.book.now
-    (book-accepted x.p.now x.decoded.now x.dir x.m x.book.now l.load.ensures _ t.enum_told.given.1 c.decide_by.ensures)
+    decision_told x.p.now x.decoded.now x.dir x.m x.book.now
+    (book_accepted x.p.now x.decoded.now x.dir x.m x.book.now l.load.ensures _ t.enum_told.given.1 c.decide_by.ensures)
 
 pub decide-spec : {M : Type 1} → statement M
 decide-spec =

@@ -7,9 +7,9 @@ use native.Mathlib.Omega.{arith}
 use lib.ListN.{length, take, length-map}
 use lib.Seq.{length_front}
 use borrow.Author.Tests.{not-true}
-use Rattle.definitions.specs.Limits.{maxRules}
+use Rattle.definitions.specs.Limits.{max_rules}
 use Rattle.guard_numbers.specs.OpenNumbers.{closed}
-use Rattle.guard_blocks.proofs.Blocks.{Resolving, counted-room, counted-all, still-room, resolving-on, whole_length, block_closed}
+use Rattle.guard_blocks.proofs.Blocks.{Resolving, counted_room, counted_all_lem, still_room, resolving_on, whole_length, block_closed}
 use Rattle.guard_blocks.proofs.decide_block.Statement.{statement}
 use Rattle.guard_blocks.proofs.decide_block.Tie as tie
 
@@ -17,7 +17,7 @@ abbrev invariant-loop : tie.invariant-loop
 invariant-loop book block out₀ rules answered packets i₀ out i = Resolving book block rules packets out₀ out i
 
 abbrev decreases-loop : tie.decreases-loop
-decreases-loop book block out₀ rules answered packets i₀ out i = maxRules - i
+decreases-loop book block out₀ rules answered packets i₀ out i = max_rules - i
 
 count-records-requires : tie.Need-count-records-requires invariant-loop decreases-loop
 count-records-requires c κs = tt
@@ -26,7 +26,7 @@ open-all-requires : tie.Need-open-all-requires invariant-loop decreases-loop
 open-all-requires c κs =
     let n = c.before in
     let x = n.before.before.before.before.args in
-    counted-room x.block.now x.out.now n.count-records.ensures
+    counted_room x.block.now x.out.now n.count-records.ensures
 
 loop-holds : tie.Need-loop-init invariant-loop decreases-loop
 loop-holds c = record { same = refl; answer = refl }
@@ -37,7 +37,7 @@ any-open-requires c κs =
     let o = l.before.before.before in
     let n = o.before.before in
     let x = n.before.before.before.before.args in
-    still-room x.block.now x.out.now n.count-records.ensures o.open-all.ensures l.loop.invariant
+    still_room x.block.now x.out.now n.count-records.ensures o.open-all.ensures l.loop.invariant
 
 mul-rule : tie.Need-overflow-mul-rule invariant-loop decreases-loop
 mul-rule c = omega arith
@@ -51,8 +51,8 @@ decide-rule-requires c κs =
     let o = l.before.before.before in
     let n = o.before.before in
     let x = n.before.before.before.before.args in (
-      counted-all x.block.now x.out.now n.count-records.ensures,
-      still-room x.block.now x.out.now n.count-records.ensures o.open-all.ensures l.loop.invariant,
+      counted_all_lem x.block.now x.out.now n.count-records.ensures,
+      still_room x.block.now x.out.now n.count-records.ensures o.open-all.ensures l.loop.invariant,
     )
 
 add-i : tie.Need-overflow-add-i invariant-loop decreases-loop
@@ -69,8 +69,8 @@ loop-again c =
     let l = i.before in
     let a = l.before.before.before.before.before.before.before.before.before in
     let x = a.args in
-    let long : length x.t2.list ≡ maxRules = sym (length-map x.t2.list _) ∙ a.well-formed.1.0.1.1.1.0.1.0.1 in
-    resolving-on l.loop.invariant _ (omega (arith, e.if1.false)) (omega (arith, i.loop-test.true, long)) d.decide-rule.ensures.0 d.decide-rule.ensures.1
+    let long : length x.t2.list ≡ max_rules = sym (length-map x.t2.list _) ∙ a.well-formed.1.0.1.1.1.0.1.0.1 in
+    resolving_on l.loop.invariant _ (omega (arith, e.if1.false)) (omega (arith, i.loop-test.true, long)) d.decide-rule.ensures.0 d.decide-rule.ensures.1
 
 close-all-requires : tie.Need-close-all-requires invariant-loop decreases-loop
 close-all-requires c κs =
@@ -78,7 +78,7 @@ close-all-requires c κs =
     let o = l.before.before.before in
     let n = o.before.before in
     let x = n.before.before.before.before.args in
-    still-room x.block.now x.out.now n.count-records.ensures o.open-all.ensures l.loop.invariant
+    still_room x.block.now x.out.now n.count-records.ensures o.open-all.ensures l.loop.invariant
 
 same_length : tie.Need-same-length invariant-loop decreases-loop
 same_length c =
@@ -100,7 +100,7 @@ returns c =
     let n = o.before.before in
     let a = n.before.before.before.before in
     let x = a.args in
-    let long : length x.t2.list ≡ maxRules = sym (length-map x.t2.list _) ∙ a.well-formed.1.0.1.1.1.0.1.0.1 in (
+    let long : length x.t2.list ≡ max_rules = sym (length-map x.t2.list _) ∙ a.well-formed.1.0.1.1.1.0.1.0.1 in (
       k.close-all.ensures
           ∙ block_closed x.block.now x.out.now n.count-records.ensures o.open-all.ensures l.loop.invariant
           (⊎_elim

@@ -2,11 +2,11 @@
 use mathlib.Core.Path.{◌≡◌, sym, ◌∙◌}
 use native.Mathlib.Omega.{arith}
 use borrow.Author.Tests.{not-true, not-false}
-use Rattle.definitions.specs.LoadedBooks.{ruleAt}
-use Rattle.definitions.specs.Blocks.{recordsUpTo}
-use Rattle.rule_book.proofs.RulesFrom.{source-read}
-use Rattle.guard.proofs.Rules.{read-formed}
-use Rattle.guard_blocks.proofs.Rules.{off-kept, unread-kept, read-decides}
+use Rattle.definitions.specs.LoadedBooks.{rule_at}
+use Rattle.definitions.specs.Blocks.{records_up_to}
+use Rattle.rule_book.proofs.RulesFrom.{source_read}
+use Rattle.guard.proofs.Rules.{read_formed}
+use Rattle.guard_blocks.proofs.Rules.{off_kept, unread_kept, read_decides}
 use borrow.Author.Rules.{rules}
 use Rattle.guard_blocks.proofs.decide_rule.Statement.{statement}
 use Rattle.guard_blocks.proofs.decide_rule.Tie as tie
@@ -18,13 +18,13 @@ is-on-requires : tie.Need-is-on-requires
 is-on-requires c κs = tt
 
 returns : tie.Need-returns
-unfolding ruleAt
+unfolding rule_at
 returns c =
     let o = c.before in
     let n = o.before.answer-number in
     let x = o.before.before.before.before.before.args in (
       omega (arith, n.ensures.0, n.ensures.1),
-      off-kept (ruleAt x.book.now x.rule) (recordsUpTo x.packets x.block.now) x.out.now (sym o.is-on.ensures ∙ not-true _ c.if1.true),
+      off_kept (rule_at x.book.now x.rule) (records_up_to x.packets x.block.now) x.out.now (sym o.is-on.ensures ∙ not-true _ c.if1.true),
     )
 
 text-at-requires : tie.Need-text-at-requires
@@ -40,7 +40,7 @@ decide-table-requires : tie.Need-decide-table-requires
 decide-table-requires c κs =
     let r = c.before.before.before in
     let a = r.before.before.before.before.before.before.before.before in
-    (read-formed _ r.read.result r.read.ensures.0 c.before.enum_told.given.1, a.requires)
+    (read_formed _ r.read.result r.read.ensures.0 c.before.enum_told.given.1, a.requires)
 
 enum-told-2 : tie.Need-enum-told-2
 enum-told-2 c = search rules
@@ -49,7 +49,7 @@ same_length : tie.Need-same-length
 same_length c = search rules
 
 returns-2 : tie.Need-returns-2
-unfolding ruleAt
+unfolding rule_at
 returns-2 c =
     let d = c.before.before in
     let r = d.before.before.before.before in
@@ -57,11 +57,11 @@ returns-2 c =
     let o = t.before.before in
     let n = o.before.answer-number in
     let x = o.before.before.before.before.before.args in
-    let rule = ruleAt x.book.now x.rule in (
+    let rule = rule_at x.book.now x.rule in (
       omega (arith, n.ensures.0, n.ensures.1),
       d.decide-table.ensures
-          ∙ read-decides rule (recordsUpTo x.packets x.block.now) x.out.now r.read.result
-          (source-read x.book.now x.rule r.read.ensures.0 t.text_at.ensures) (sym o.is-on.ensures ∙ not-false _ t.before.if1.false)
+          ∙ read_decides rule (records_up_to x.packets x.block.now) x.out.now r.read.result
+          (source_read x.book.now x.rule r.read.ensures.0 t.text_at.ensures) (sym o.is-on.ensures ∙ not-false _ t.before.if1.false)
           n.ensures.0,
     )
 
@@ -72,10 +72,10 @@ returns-3 c =
     let o = t.before.before in
     let n = o.before.answer-number in
     let x = o.before.before.before.before.before.args in
-    let rule = ruleAt x.book.now x.rule in (
+    let rule = rule_at x.book.now x.rule in (
       omega (arith, n.ensures.0, n.ensures.1),
-      unread-kept rule (recordsUpTo x.packets x.block.now) x.out.now r.read.result
-          (source-read x.book.now x.rule r.read.ensures.0 t.text_at.ensures) _ _ c.enum-told2.given.1,
+      unread_kept rule (records_up_to x.packets x.block.now) x.out.now r.read.result
+          (source_read x.book.now x.rule r.read.ensures.0 t.text_at.ensures) _ _ c.enum-told2.given.1,
     )
 
 pub decide-rule-spec : {M : Type 1} → statement M

@@ -3,18 +3,18 @@ use mathlib.Core.Path.{◌≡◌, ap, ◌∙◌}
 use mathlib.Core.List.{List}
 use Prim.Native.Nat.{ℕ}
 use native.Mathlib.Omega.{arith}
-use Rattle.definitions.specs.Blocks.{recordOf}
-use Rattle.matcher.specs.PassedOver.{mayMeet}
-use Rattle.guard_blocks.proofs.Records.{head-within, packet-within, packet-is}
+use Rattle.definitions.specs.Blocks.{record_of}
+use Rattle.matcher.specs.PassedOver.{may_meet}
+use Rattle.guard_blocks.proofs.Records.{head_within, packet_within, packet_is}
 use borrow.Author.Rules.{rules}
 use Rattle.guard_blocks.proofs.may_meet.Statement.{statement}
 use Rattle.guard_blocks.proofs.may_meet.Tie as tie
 
 number-at-requires : tie.Need-number-at-requires
-number-at-requires c κs = omega (arith, head-within c.before.args.s.now c.before.requires)
+number-at-requires c κs = omega (arith, head_within c.before.args.s.now c.before.requires)
 
 add-end : tie.Need-overflow-add-end
-add-end c = let a = c.before.before in omega (arith, packet-within a.args.s.now c.number_at.ensures a.requires)
+add-end c = let a = c.before.before in omega (arith, packet_within a.args.s.now c.number_at.ensures a.requires)
 
 sub-may-meet : tie.Need-overflow-sub-may-meet
 sub-may-meet c = search rules
@@ -23,10 +23,10 @@ part-may-meet-start : tie.Need-slice-bounds-may-meet-start
 part-may-meet-start c = search rules
 
 part-may-meet-end : tie.Need-slice-bounds-may-meet-end
-part-may-meet-end c = let a = c.before.before in omega (arith, packet-within a.args.s.now c.number_at.ensures a.requires)
+part-may-meet-end c = let a = c.before.before in omega (arith, packet_within a.args.s.now c.number_at.ensures a.requires)
 
 record-direction-requires : tie.Need-record-direction-requires
-record-direction-requires c κs = let a = c.before.before.before in head-within a.args.s.now a.requires
+record-direction-requires c κs = let a = c.before.before.before in head_within a.args.s.now a.requires
 
 may-meet-requires : tie.Need-may-meet-requires
 may-meet-requires c κs = tt
@@ -37,8 +37,8 @@ returns c =
     let n = d.before.before in
     let x = n.before.before.args in
     c.may-meet.ensures
-    ∙ ap (λ (p : List ℕ). mayMeet x.protocol x.flow p d.record-direction.result) (packet-is x.s.now n.number_at.ensures)
-    ∙ ap (mayMeet x.protocol x.flow (recordOf x.s.now).packet) d.record-direction.ensures
+    ∙ ap (λ (p : List ℕ). may_meet x.protocol x.flow p d.record-direction.result) (packet_is x.s.now n.number_at.ensures)
+    ∙ ap (may_meet x.protocol x.flow (record_of x.s.now).packet) d.record-direction.ensures
 
 pub may-meet-spec : {M : Type 1} → statement M
 may-meet-spec =

@@ -5,7 +5,7 @@ use Prim.Native.Nat.{ℕ, ◌+◌, ◌-◌, ◌≤◌, ◌<◌}
 use native.Mathlib.Omega.{arith}
 use lib.ListN.{length}
 use Rattle.guard_numbers.specs.OpenNumbers.{closed}
-use Rattle.guard_numbers.proofs.Tests.{closed-open, closed-other}
+use Rattle.guard_numbers.proofs.Tests.{closed_open, closed_other}
 use Rattle.guard_numbers.proofs.Fronts.{front, front_length, front-set, front_kept}
 use Rattle.guard_numbers.proofs.close_all.Statement.{statement}
 use Rattle.guard_numbers.proofs.close_all.Tie as tie
@@ -44,8 +44,8 @@ loop-again c =
     let here : l.i < length x.out.now = omega arith in
     let new : c.if1.out ≡ front closed (l.i + 1) x.out.now =
     ⊎_elim
-    (λ w. w.1 ∙ front-set closed l.i x.out.now here l.out l.invariant.2 0 (closed-open _ w.0.taken))
-    (λ w. w.1 ∙ front_kept closed l.i x.out.now here l.out l.invariant.2 (closed-other _ w.0.left))
+    (λ w. w.1 ∙ front-set closed l.i x.out.now here l.out l.invariant.2 0 (closed_open _ w.0.taken))
+    (λ w. w.1 ∙ front_kept closed l.i x.out.now here l.out l.invariant.2 (closed_other _ w.0.left))
     c.if1.branch in
     (omega arith, ap length new ∙ front_length closed (l.i + 1) x.out.now, new)
 

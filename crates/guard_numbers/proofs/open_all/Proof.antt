@@ -3,13 +3,13 @@ use mathlib.Core.Path.{◌≡◌, refl, ap, ◌∙◌}
 use Prim.Native.Nat.{ℕ, ◌-◌, ◌≤◌}
 use native.Mathlib.Omega.{arith}
 use lib.ListN.{length, length-set}
-use Rattle.guard_numbers.specs.OpenNumbers.{openNumber}
-use Rattle.guard_numbers.proofs.Fronts.{front, front-set, front-const}
+use Rattle.guard_numbers.specs.OpenNumbers.{open_number}
+use Rattle.guard_numbers.proofs.Fronts.{front, front-set, front_const}
 use Rattle.guard_numbers.proofs.open_all.Statement.{statement}
 use Rattle.guard_numbers.proofs.open_all.Tie as tie
 
 abbrev invariant-loop : tie.invariant-loop
-invariant-loop out₀ n i₀ out i = (i ≤ n) × (length out ≡ length out₀) × (out ≡ front (λ _. openNumber) i out₀)
+invariant-loop out₀ n i₀ out i = (i ≤ n) × (length out ≡ length out₀) × (out ≡ front (λ _. open_number) i out₀)
 
 abbrev decreases-loop : tie.decreases-loop
 decreases-loop out₀ n i₀ out i = n - i
@@ -33,8 +33,8 @@ loop-again : tie.Need-loop-preserved invariant-loop decreases-loop
 loop-again c =
     let l = c.before.loop in (
       omega arith,
-      length-set l.out l.i openNumber ∙ l.invariant.1,
-      front-set (λ _. openNumber) l.i c.before.before.args.out.now (omega arith) l.out l.invariant.2 openNumber refl,
+      length-set l.out l.i open_number ∙ l.invariant.1,
+      front-set (λ _. open_number) l.i c.before.before.args.out.now (omega arith) l.out l.invariant.2 open_number refl,
     )
 
 same_length : tie.Need-same-length invariant-loop decreases-loop
@@ -46,8 +46,8 @@ returns c =
     let l = c.before.loop in
     let all : l.i ≡ x.n = omega arith in
     l.invariant.2
-    ∙ ap (λ (i : ℕ). front (λ _. openNumber) i x.out.now) all
-    ∙ front-const openNumber x.n x.out.now c.before.before.requires
+    ∙ ap (λ (i : ℕ). front (λ _. open_number) i x.out.now) all
+    ∙ front_const open_number x.n x.out.now c.before.before.requires
 
 pub open-all-spec : {M : Type 1} → statement M
 open-all-spec =

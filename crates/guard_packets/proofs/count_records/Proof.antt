@@ -1,6 +1,6 @@
 -- The invariant is `Counted`: what is counted, with what is still to come, is what the block holds. Each way out of the loop leaves nothing to come.
 use Prim.Native.Nat.{◌-◌}
-use Rattle.guard_packets.proofs.Counts.{Counted, counted_none, counted-all, counted-headless, counted-short, counted-on}
+use Rattle.guard_packets.proofs.Counts.{Counted, counted_none, counted_all_lem, counted_headless, counted_short, counted-on}
 use borrow.Author.Rules.{rules}
 use Rattle.guard_packets.proofs.count_records.Statement.{statement}
 use Rattle.guard_packets.proofs.count_records.Tie as tie
@@ -41,13 +41,13 @@ loop-again c =
     counted-on turn.before.loop.invariant c.before.record-length.ensures turn.loop-test.true c.if2.false
 
 returns : tie.Need-returns invariant-loop decreases-loop
-returns c = counted-all c.before.loop.invariant c.loop-test.false
+returns c = counted_all_lem c.before.loop.invariant c.loop-test.false
 
 returns-2 : tie.Need-returns-2 invariant-loop decreases-loop
-returns-2 c = counted-headless c.before.before.before.loop.invariant c.if1.true
+returns-2 c = counted_headless c.before.before.before.loop.invariant c.if1.true
 
 returns-3 : tie.Need-returns-3 invariant-loop decreases-loop
-returns-3 c = counted-short c.before.before.before.before.before.loop.invariant c.before.record-length.ensures c.if2.true
+returns-3 c = counted_short c.before.before.before.before.before.loop.invariant c.before.record-length.ensures c.if2.true
 
 pub count-records-spec : {M : Type 1} → statement M
 count-records-spec =

@@ -1,5 +1,5 @@
 -- Field by field, as the callee has them.
-use Rattle.definitions.specs.Blocks.{recordFields}
+use Rattle.definitions.specs.Blocks.{record_fields}
 use borrow.Author.Rules.{rules}
 use Rattle.guard_packets.proofs.record_fields.Statement.{statement}
 use Rattle.guard_packets.proofs.record_fields.Tie as tie
@@ -23,7 +23,7 @@ record-field-requires-6 : tie.Need-record-field-requires-6
 record-field-requires-6 c κs = search rules
 
 returns : tie.Need-returns
-unfolding recordFields
+unfolding record_fields
 returns c =
     let first = c.before.before.before in
     rw (

@@ -2,7 +2,7 @@
 use mathlib.Core.Path.{refl}
 use borrow.Author.Rules.{rules}
 use Rattle.line_io.specs.Blocks.{going, failed, filled}
-use Rattle.line_io.proofs.Taken.{fills-less}
+use Rattle.line_io.proofs.Taken.{fills_less}
 use Rattle.line_io.proofs.fill.Statement.{statement}
 use Rattle.line_io.proofs.fill.Tie as tie
 
@@ -10,7 +10,7 @@ sub-next : tie.Need-overflow-sub-next
 sub-next c = search rules
 
 returns : tie.Need-returns
-returns c = let r = going c.if1.true refl refl in (r, fills-less c.before.before.before.before.requires r)
+returns c = let r = going c.if1.true refl refl in (r, fills_less c.before.before.before.before.requires r)
 
 read-requires : tie.Need-read-requires
 read-requires c κs = search rules
@@ -24,7 +24,7 @@ same_length c = search rules
 returns-2 : tie.Need-returns-2
 returns-2 c =
     let r = failed c.before.before.before.before.before.before.if1.false c.unread.ensures in
-    (r, fills-less c.before.before.before.before.before.before.before.before.before.before.requires r)
+    (r, fills_less c.before.before.before.before.before.before.before.before.before.before.requires r)
 
 count-requires : tie.Need-count-requires
 count-requires c κs = search rules
@@ -35,7 +35,7 @@ same-length-2 c = search rules
 returns-3 : tie.Need-returns-3
 returns-3 c =
     let r = filled c.count.result c.before.before.before.before.before.before.before.if1.false c.count.ensures.0.0 refl in
-    (r, fills-less c.before.before.before.before.before.before.before.before.before.before.before.requires r)
+    (r, fills_less c.before.before.before.before.before.before.before.before.before.before.before.requires r)
 
 pub fill_spec : {M : Type 1} → statement M
 fill_spec =

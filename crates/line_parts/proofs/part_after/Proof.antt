@@ -2,7 +2,7 @@ use Prim.Native.Nat.{◌+◌}
 use mathlib.Core.Path.{◌∙◌}
 use native.Mathlib.Omega.{arith}
 use borrow.Author.Rules.{part_to_end}
-use Rattle.line_parts.proofs.Delimiters.{find-le, after_is, after_none}
+use Rattle.line_parts.proofs.Delimiters.{find_le, after_is, after_none}
 use borrow.Author.Rules.{rules}
 use Rattle.line_parts.proofs.part_after.Statement.{statement}
 use Rattle.line_parts.proofs.part_after.Tie as tie
@@ -28,10 +28,10 @@ returns c =
     part_to_end c.before.before.before.before.args.s.now (found.result + 1) ∙ after_is _ _ _ found.ensures
 
 sub-result-2 : tie.Need-overflow-sub-result-2
-sub-result-2 c = omega (arith, c.before.find.ensures, find-le c.before.before.before.args.d c.before.before.before.args.s.now)
+sub-result-2 c = omega (arith, c.before.find.ensures, find_le c.before.before.before.args.d c.before.before.before.args.s.now)
 
 part-result-start-2 : tie.Need-slice-bounds-result-start-2
-part-result-start-2 c = omega (arith, c.before.find.ensures, find-le c.before.before.before.args.d c.before.before.before.args.s.now)
+part-result-start-2 c = omega (arith, c.before.find.ensures, find_le c.before.before.before.args.d c.before.before.before.args.s.now)
 
 part-result-end-2 : tie.Need-slice-bounds-result-end-2
 part-result-end-2 c = search rules

@@ -2,7 +2,7 @@
 use mathlib.Core.Path.{refl, sym}
 use native.Mathlib.Omega.{arith}
 use lib.ListN.{length}
-use Rattle.write_bytes.proofs.Clipping.{at-most-le, part-most}
+use Rattle.write_bytes.proofs.Clipping.{at_most_le, part_most}
 use borrow.Author.Rules.{rules}
 use Rattle.line_stream.proofs.kept.Statement.{statement}
 use Rattle.line_stream.proofs.kept.Tie as tie
@@ -19,10 +19,10 @@ part-result-start c = search rules
 part-result-end : tie.Need-slice-bounds-result-end
 part-result-end c =
     let args = c.before.before.args in
-    omega (arith, c.at_most.ensures, at-most-le args.begun.len (length args.line.now))
+    omega (arith, c.at_most.ensures, at_most_le args.begun.len (length args.line.now))
 
 returns : tie.Need-returns
-returns c = sym (part-most _ _ refl c.before.at_most.ensures)
+returns c = sym (part_most _ _ refl c.before.at_most.ensures)
 
 pub kept-spec : {M : Type 1} → statement M
 kept-spec =

@@ -1,5 +1,5 @@
 -- LF has room and the next line is taken, or the feed ends here.
-use Rattle.line_stream.proofs.Taking.{nexts-room, nexts-full}
+use Rattle.line_stream.proofs.Taking.{nexts_room, nexts_full}
 use borrow.Author.Rules.{rules}
 use Rattle.line_stream.proofs.next_line.Statement.{statement}
 use Rattle.line_stream.proofs.next_line.Tie as tie
@@ -31,13 +31,13 @@ returns c =
     let number = next.before.before.before.before in
     let test = number.before in
     let ended = test.before.before.before.before in
-    nexts-room ended.end_line.ensures test.before.has_room.ensures test.if1.true number.next-number.ensures next.take-line.ensures
+    nexts_room ended.end_line.ensures test.before.has_room.ensures test.if1.true number.next-number.ensures next.take-line.ensures
 
 same-length-3 : tie.Need-same-length-3
 same-length-3 c = search rules
 
 returns-2 : tie.Need-returns-2
-returns-2 c = nexts-full c.before.before.before.before.end_line.ensures c.before.has_room.ensures c.if1.false
+returns-2 c = nexts_full c.before.before.before.before.end_line.ensures c.before.has_room.ensures c.if1.false
 
 pub next-line-spec : {M : Type 1} → statement M
 next-line-spec =

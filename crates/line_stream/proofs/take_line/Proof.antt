@@ -1,6 +1,6 @@
 -- Up to the next LF, or to the end.
-use Rattle.line_stream.proofs.Parts.{line-within}
-use Rattle.line_stream.proofs.Taking.{takes-line, takes-end}
+use Rattle.line_stream.proofs.Parts.{line_within}
+use Rattle.line_stream.proofs.Taking.{takes_line, takes_end}
 use native.Mathlib.Omega.{arith}
 use borrow.Author.Rules.{rules}
 use Rattle.line_stream.proofs.take_line.Statement.{statement}
@@ -18,7 +18,7 @@ part-keep-part-start c = search rules
 part-keep-part-end : tie.Need-slice-bounds-keep-part-end
 part-keep-part-end c =
     let start = c.before.before.before.before.before in
-    omega (arith, c.before.lf-from.ensures, line-within start.args.input.now start.args.from start.requires)
+    omega (arith, c.before.lf-from.ensures, line_within start.args.input.now start.args.from start.requires)
 
 keep-part-requires : tie.Need-keep-part-requires
 keep-part-requires c κs = search rules
@@ -37,7 +37,7 @@ returns c =
     let opened = c.before.before in
     let test = opened.before.before in
     let kept = test.before.before.before in
-    takes-line _ _ _ _ kept.before.before.before.lf-from.ensures kept.keep-part.ensures test.if1.true opened.open-line.ensures
+    takes_line _ _ _ _ kept.before.before.before.lf-from.ensures kept.keep-part.ensures test.if1.true opened.open-line.ensures
 
 same-length-3 : tie.Need-same-length-3
 same-length-3 c = search rules
@@ -45,7 +45,7 @@ same-length-3 c = search rules
 returns-2 : tie.Need-returns-2
 returns-2 c =
     let kept = c.before.before.before in
-    takes-end _ _ _ _ kept.before.before.before.lf-from.ensures kept.keep-part.ensures c.if1.false
+    takes_end _ _ _ _ kept.before.before.before.lf-from.ensures kept.keep-part.ensures c.if1.false
 
 pub take-line-spec : {M : Type 1} → statement M
 take-line-spec =

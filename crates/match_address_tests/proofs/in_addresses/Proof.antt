@@ -4,17 +4,17 @@ use Prim.Native.Nat.{◌-◌, ◌≤◌, ◌<◌}
 use native.Mathlib.Omega.{arith}
 use lib.ListN.{length, take, drop}
 use borrow.Author.Rules.{rules}
-use Rattle.definitions.specs.Limits.{maxAddresses}
-use Rattle.definitions.specs.Tests.{inAddresses}
-use Rattle.match_address_tests.proofs.Among.{among_none, among-out, among-more, among-found}
+use Rattle.definitions.specs.Limits.{max_addresses}
+use Rattle.definitions.specs.Tests.{in_addresses}
+use Rattle.match_address_tests.proofs.Among.{among_none, among_out, among_more, among_found}
 use Rattle.match_address_tests.proofs.in_addresses.Statement.{statement}
 use Rattle.match_address_tests.proofs.in_addresses.Tie as tie
 
 abbrev invariant-loop : tie.invariant-loop
-invariant-loop x count addresses i₀ i = (i ≤ maxAddresses) × (inAddresses x (take count addresses) ≡ inAddresses x (drop i (take count addresses)))
+invariant-loop x count addresses i₀ i = (i ≤ max_addresses) × (in_addresses x (take count addresses) ≡ in_addresses x (drop i (take count addresses)))
 
 abbrev decreases-loop : tie.decreases-loop
-decreases-loop x count addresses i₀ i = maxAddresses - i
+decreases-loop x count addresses i₀ i = max_addresses - i
 
 loop-holds : tie.Need-loop-init invariant-loop decreases-loop
 loop-holds c = (omega arith, refl)
@@ -39,7 +39,7 @@ returns-2 c =
     let a = c.before.before.before.before.before.before.args in
     let l = c.before.before.before.before.before.loop in
     let long : l.i < length a.t2 = omega arith in
-    sym (l.invariant.1 ∙ among-found a.x a.count a.t2 l.i _ (omega arith) long (sym c.before.same-bits.ensures ∙ c.if2.true))
+    sym (l.invariant.1 ∙ among_found a.x a.count a.t2 l.i _ (omega arith) long (sym c.before.same-bits.ensures ∙ c.if2.true))
 
 add-i : tie.Need-overflow-add-i invariant-loop decreases-loop
 add-i c = omega arith
@@ -52,14 +52,14 @@ loop-again c =
     let a = c.before.before.before.before.before.before.args in
     let l = c.before.before.before.before.before.loop in
     let long : l.i < length a.t2 = omega arith in
-    (omega arith, l.invariant.1 ∙ among-more a.x a.count a.t2 l.i _ (omega arith) long (sym c.before.same-bits.ensures ∙ c.if2.false))
+    (omega arith, l.invariant.1 ∙ among_more a.x a.count a.t2 l.i _ (omega arith) long (sym c.before.same-bits.ensures ∙ c.if2.false))
 
 returns-3 : tie.Need-returns-3 invariant-loop decreases-loop
 returns-3 c =
     let a = c.before.before.args in
     let l = c.before.loop in
     let long : length a.t2 ≤ l.i = omega arith in
-    sym (l.invariant.1 ∙ among-out a.x a.count a.t2 l.i long)
+    sym (l.invariant.1 ∙ among_out a.x a.count a.t2 l.i long)
 
 pub in-addresses-spec : {M : Type 1} → statement M
 in-addresses-spec =

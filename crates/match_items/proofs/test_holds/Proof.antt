@@ -1,5 +1,5 @@
 -- Each arm rewrites with the constructor matched and with what its callee ensures.
-use Rattle.definitions.specs.Tests.{testHolds}
+use Rattle.definitions.specs.Tests.{test_holds}
 use Rattle.match_items.proofs.test_holds.Statement.{statement}
 use Rattle.match_items.proofs.test_holds.Tie as tie
 
@@ -58,43 +58,43 @@ enum-told-3 : tie.Need-enum-told-3
 enum-told-3 c = c.match.keys10
 
 returns : tie.Need-returns
-unfolding testHolds
+unfolding test_holds
 returns c = rw c.enum_told.given.1
 
 returns-2 : tie.Need-returns-2
-unfolding testHolds
+unfolding test_holds
 returns-2 c = rw c.before.before.item.given.1 c.address-holds.ensures
 
 returns-3 : tie.Need-returns-3
-unfolding testHolds
+unfolding test_holds
 returns-3 c = rw c.before.enum-told2.given.1 c.same-ip.ensures
 
 returns-4 : tie.Need-returns-4
-unfolding testHolds
+unfolding test_holds
 returns-4 c = rw c.before.before.item2.given.1 c.number-holds.ensures
 
 returns-5 : tie.Need-returns-5
-unfolding testHolds
+unfolding test_holds
 returns-5 c = rw c.before.before.item3.given.1 c.ttl-holds.ensures
 
 returns-6 : tie.Need-returns-6
-unfolding testHolds
+unfolding test_holds
 returns-6 c = rw c.before.before.item4.given.1 c.field-holds.ensures
 
 returns-7 : tie.Need-returns-7
-unfolding testHolds
+unfolding test_holds
 returns-7 c = rw c.before.before.item5.given.1 (c.size_holds.ensures c.before.before.before.before.before.before.args.f)
 
 returns-8 : tie.Need-returns-8
-unfolding testHolds
+unfolding test_holds
 returns-8 c = rw c.before.before.item6.given.1 (c.at-holds.ensures c.before.before.before.before.before.before.args.f)
 
 returns-9 : tie.Need-returns-9
-unfolding testHolds
+unfolding test_holds
 returns-9 c = rw c.before.before.item7.given.1 (c.byte-holds.ensures c.before.before.before.before.before.before.args.f)
 
 returns-10 : tie.Need-returns-10
-unfolding testHolds
+unfolding test_holds
 returns-10 c = rw c.enum-told3.given.1
 
 pub test-holds-spec : {M : Type 1} → statement M

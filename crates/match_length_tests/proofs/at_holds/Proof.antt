@@ -1,7 +1,7 @@
 -- Each return goes by whether the field is present, and hands on what the callees ensure.
 use mathlib.Core.Path.{sym, ◌∙◌}
 use borrow.Author.Tests.{not-true, not-false}
-use Rattle.match_length_tests.proofs.Presence.{at-absent, at-present}
+use Rattle.match_length_tests.proofs.Presence.{at_absent, at_present}
 use Rattle.match_length_tests.proofs.at_holds.Statement.{statement}
 use Rattle.match_length_tests.proofs.at_holds.Tie as tie
 
@@ -15,7 +15,7 @@ returns : tie.Need-returns
 returns c = λ f.
     let a = c.before.before.before.before.before.args in
     let k = c.before.before.at-context in
-    at-absent f a.payload.now a.decoded.now a.m k.result a.t a.last k.ensures (sym c.before.is-present.ensures
+    at_absent f a.payload.now a.decoded.now a.m k.result a.t a.last k.ensures (sym c.before.is-present.ensures
     ∙ not-true _ c.if1.true)
 
 at-start-requires : tie.Need-at-start-requires
@@ -34,7 +34,7 @@ returns-2 : tie.Need-returns-2
 returns-2 c = λ f.
     let a = c.before.before.before.before.before.before.before.before.before.args in
     let k = c.before.before.before.before.before.before.at-context in
-    at-present f a.payload.now a.decoded.now a.m k.result a.t a.last k.ensures
+    at_present f a.payload.now a.decoded.now a.m k.result a.t a.last k.ensures
     (sym c.before.before.before.before.before.is-present.ensures ∙ not-false _ c.before.before.before.before.if1.false)
     c.before.before.field-length.result c.before.of_word.result c.before.before.before.at-start.result c.data-follows.result
     c.before.before.field-length.ensures c.before.of_word.ensures c.before.before.before.at-start.ensures c.data-follows.ensures

@@ -1,7 +1,7 @@
 -- Each return goes by whether the field is present, and hands on what the callees ensure.
 use mathlib.Core.Path.{sym, ◌∙◌}
 use borrow.Author.Tests.{not-true, not-false}
-use Rattle.match_length_tests.proofs.Presence.{size-absent, size-present}
+use Rattle.match_length_tests.proofs.Presence.{size_absent, size_present}
 use Rattle.match_length_tests.proofs.size_holds.Statement.{statement}
 use Rattle.match_length_tests.proofs.size_holds.Tie as tie
 
@@ -15,7 +15,7 @@ returns : tie.Need-returns
 returns c = λ f.
     let a = c.before.before.before.before.before.args in
     let k = c.before.before.size-context in
-    size-absent f a.payload.now a.decoded.now a.m k.result a.t k.ensures (sym c.before.is-present.ensures ∙ not-true _ c.if1.true)
+    size_absent f a.payload.now a.decoded.now a.m k.result a.t k.ensures (sym c.before.is-present.ensures ∙ not-true _ c.if1.true)
 
 field-length-requires : tie.Need-field-length-requires
 field-length-requires c κs = tt
@@ -30,7 +30,7 @@ returns-2 : tie.Need-returns-2
 returns-2 c = λ f.
     let a = c.before.before.before.before.before.before.before.before.args in
     let k = c.before.before.before.before.before.size-context in
-    size-present f a.payload.now a.decoded.now a.m k.result a.t k.ensures (sym c.before.before.before.before.is-present.ensures
+    size_present f a.payload.now a.decoded.now a.m k.result a.t k.ensures (sym c.before.before.before.before.is-present.ensures
     ∙ not-false _ c.before.before.before.if1.false)
     c.before.before.field-length.result c.before.of_word.result c.order-holds.result c.before.before.field-length.ensures
     c.before.of_word.ensures c.order-holds.ensures

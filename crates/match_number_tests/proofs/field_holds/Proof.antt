@@ -1,5 +1,5 @@
 -- A number is the same when it is made wider, so one comparison serves each field.
-use Rattle.definitions.specs.Tests.{fieldHolds}
+use Rattle.definitions.specs.Tests.{field_holds}
 use Rattle.match_number_tests.proofs.field_holds.Statement.{statement}
 use Rattle.match_number_tests.proofs.field_holds.Tie as tie
 
@@ -16,7 +16,7 @@ operator-holds-requires : tie.Need-operator-holds-requires
 operator-holds-requires c κs = tt
 
 returns : tie.Need-returns
-unfolding fieldHolds
+unfolding field_holds
 returns c = simp (
   c.operator-holds.ensures,
   c.before.of-word2.ensures,

@@ -1,5 +1,5 @@
 -- Each arm rewrites with the constructor matched and with what its callee ensures.
-use Rattle.definitions.specs.Tests.{numberHolds}
+use Rattle.definitions.specs.Tests.{number_holds}
 use Rattle.match_number_tests.proofs.number_holds.Statement.{statement}
 use Rattle.match_number_tests.proofs.number_holds.Tie as tie
 
@@ -25,19 +25,19 @@ byte-equals-requires : tie.Need-byte-equals-requires
 byte-equals-requires c κs = tt
 
 returns : tie.Need-returns
-unfolding numberHolds
+unfolding number_holds
 returns c = rw c.before.before.enum_told.given.1
 
 returns-2 : tie.Need-returns-2
-unfolding numberHolds
+unfolding number_holds
 returns-2 c = rw c.before.enum-told2.given.1 c.port-holds.ensures
 
 returns-3 : tie.Need-returns-3
-unfolding numberHolds
+unfolding number_holds
 returns-3 c = rw c.before.enum-told3.given.1 c.port-holds2.ensures
 
 returns-4 : tie.Need-returns-4
-unfolding numberHolds
+unfolding number_holds
 returns-4 c = rw c.before.enum-told4.given.1 c.byte-equals.ensures
 
 pub number-holds-spec : {M : Type 1} → statement M

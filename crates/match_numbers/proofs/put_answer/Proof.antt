@@ -5,11 +5,11 @@ use mathlib.Core.List.{List, ◌∷◌, ◌++◌, map}
 use Prim.Native.Nat.{ℕ, ◌+◌}
 use lib.ListN.{length, take, drop, length-set, length-map}
 use borrow.Author.Rules.{rules}
-use Rattle.definitions.specs.Limits.{maxPatterns}
-use Rattle.definitions.specs.Starts.{startNumber}
-use Rattle.definitions.specs.Refusals.{foundNumber}
-use Rattle.match_numbers.specs.Numbers.{numbersOfOne}
-use Rattle.match_numbers.proofs.Storing.{three-and-more}
+use Rattle.definitions.specs.Limits.{max_patterns}
+use Rattle.definitions.specs.Starts.{start_number}
+use Rattle.definitions.specs.Refusals.{found_number}
+use Rattle.match_numbers.specs.Numbers.{numbers_of_one}
+use Rattle.match_numbers.proofs.Storing.{three_and_more}
 use Rattle.match_numbers.proofs.put_answer.Statement.{statement}
 use Rattle.match_numbers.proofs.put_answer.Tie as tie
 
@@ -60,15 +60,15 @@ returns c =
     let a = p.before.before.before.before.before.before.before in
     let x = a.args in
     let h = x.a.placement in
-    let starts = map startNumber h.starts in
+    let starts = map start_number h.starts in
     let g = a.well-formed.1.1.0 in
-    let long : length h.starts ≡ maxPatterns = sym (length-map h.starts _) ∙ g.1.1.1.0.1.1.1.0.1.0.1 in
-    let n : 3 + length starts ≡ numbersOfOne = omega (arith, length-map h.starts startNumber, long) in
-    let written : ℕ → ℕ → List ℕ = λ u v. take x.at x.out.now ++ (u ∷ v ∷ h.count ∷ starts) ++ drop (x.at + numbersOfOne) x.out.now in
+    let long : length h.starts ≡ max_patterns = sym (length-map h.starts _) ∙ g.1.1.1.0.1.1.1.0.1.0.1 in
+    let n : 3 + length starts ≡ numbers_of_one = omega (arith, length-map h.starts start_number, long) in
+    let written : ℕ → ℕ → List ℕ = λ u v. take x.at x.out.now ++ (u ∷ v ∷ h.count ∷ starts) ++ drop (x.at + numbers_of_one) x.out.now in
     p.put-starts.ensures
-    ∙ three-and-more x.out.now x.at number.result one.result h.count numbersOfOne starts n a.requires
+    ∙ three_and_more x.out.now x.at number.result one.result h.count numbers_of_one starts n a.requires
     ∙ ap (λ (u : ℕ). written u one.result) number.ensures
-    ∙ ap (λ (u : ℕ). written (foundNumber x.a.found) u) one.ensures
+    ∙ ap (λ (u : ℕ). written (found_number x.a.found) u) one.ensures
 
 pub put-answer-spec : {M : Type 1} → statement M
 put-answer-spec =

@@ -5,22 +5,22 @@ use Prim.Native.Nat.{◌+◌, ◌-◌, ◌≤◌}
 use native.Mathlib.Omega.{arith}
 use lib.ListN.{length, drop, length-set, length-map}
 use lib.Seq.{sets}
-use Rattle.definitions.specs.Limits.{maxPatterns}
-use Rattle.definitions.specs.Starts.{startNumber}
-use Rattle.match_numbers.proofs.Storing.{stores-none, stores-start, stores-all}
+use Rattle.definitions.specs.Limits.{max_patterns}
+use Rattle.definitions.specs.Starts.{start_number}
+use Rattle.match_numbers.proofs.Storing.{stores_none, stores_start, stores_all}
 use Rattle.match_numbers.proofs.put_starts.Statement.{statement}
 use Rattle.match_numbers.proofs.put_starts.Tie as tie
 
 abbrev invariant-loop : tie.invariant-loop
 invariant-loop out₀ at starts j₀ out j =
-    (length out ≡ length out₀) × (j ≤ maxPatterns)
-    × (sets out₀ at (map startNumber starts) ≡ sets out (at + j) (drop j (map startNumber starts)))
+    (length out ≡ length out₀) × (j ≤ max_patterns)
+    × (sets out₀ at (map start_number starts) ≡ sets out (at + j) (drop j (map start_number starts)))
 
 abbrev decreases-loop : tie.decreases-loop
-decreases-loop out₀ at starts j₀ out j = maxPatterns - j
+decreases-loop out₀ at starts j₀ out j = max_patterns - j
 
 loop-holds : tie.Need-loop-init invariant-loop decreases-loop
-loop-holds c = (refl, omega arith, stores-none c.before.args.out.now c.before.args.at (map startNumber c.before.args.t3))
+loop-holds c = (refl, omega arith, stores_none c.before.args.out.now c.before.args.at (map start_number c.before.args.t3))
 
 mul-start-number : tie.Need-overflow-mul-start-number invariant-loop decreases-loop
 mul-start-number c = omega arith
@@ -50,8 +50,8 @@ loop-again : tie.Need-loop-preserved invariant-loop decreases-loop
 loop-again c =
     let x = c.before.before.before.before.before.args in
     let l = c.before.before.before.loop in
-    let n : length x.t3 ≡ maxPatterns = omega arith in
-    let stored = stores-start l.out x.at x.t3 l.j c.start-number.result (omega arith) c.start-number.ensures in
+    let n : length x.t3 ≡ max_patterns = omega arith in
+    let stored = stores_start l.out x.at x.t3 l.j c.start-number.result (omega arith) c.start-number.ensures in
     (length-set l.out _ _ ∙ l.invariant.0, omega arith, l.invariant.2 ∙ stored)
 
 same_length : tie.Need-same-length invariant-loop decreases-loop
@@ -61,8 +61,8 @@ returns : tie.Need-returns invariant-loop decreases-loop
 returns c =
     let x = c.before.before.before.args in
     let l = c.before.loop in
-    let n : length x.t3 ≡ maxPatterns = omega arith in
-    sym (l.invariant.2 ∙ stores-all l.out x.at (map startNumber x.t3) l.j (omega (arith, n, length-map x.t3 startNumber)))
+    let n : length x.t3 ≡ max_patterns = omega arith in
+    sym (l.invariant.2 ∙ stores_all l.out x.at (map start_number x.t3) l.j (omega (arith, n, length-map x.t3 start_number)))
 
 pub put-starts-spec : {M : Type 1} → statement M
 put-starts-spec =

@@ -1,9 +1,9 @@
 -- Refusal 35 where the test of the fields says so; else the search has the first of the list.
 use lib.ListN.{replicate}
-use Rattle.definitions.specs.Limits.{maxPatterns}
+use Rattle.definitions.specs.Limits.{max_patterns}
 use Rattle.definitions.specs.Starts.{start_at}
-use Rattle.search.specs.Searching.{searchedTable}
-use Rattle.match_placements.proofs.Answering.{first-refused, first_found}
+use Rattle.search.specs.Searching.{searched_table}
+use Rattle.match_placements.proofs.Answering.{first_refused, first_found}
 use Rattle.match_placements.proofs.first_in.Statement.{statement}
 use Rattle.match_placements.proofs.first_in.Tie as tie
 
@@ -20,8 +20,8 @@ returns : tie.Need-returns
 returns c =
     let w = c.before.before.before.before in
     let x = w.before.before.before.before.args in
-    let t = searchedTable x.protocol x.flow x.items x.count x.bytes.now in
-    first-refused t x.header x.payload.now x.decoded.now x.dir x.m w.fields-check.ensures.0 c.before.before.check.given.1
+    let t = searched_table x.protocol x.flow x.items x.count x.bytes.now in
+    first_refused t x.header x.payload.now x.decoded.now x.dir x.m w.fields-check.ensures.0 c.before.before.check.given.1
     c.refused.ensures
 
 enum_told : tie.Need-enum-told
@@ -37,9 +37,9 @@ returns-2 : tie.Need-returns-2
 returns-2 c =
     let w = c.before.before.before.before in
     let x = w.before.before.before.before.args in
-    let t = searchedTable x.protocol x.flow x.items x.count x.bytes.now in
+    let t = searched_table x.protocol x.flow x.items x.count x.bytes.now in
     first_found t x.header x.payload.now x.decoded.now x.dir x.m w.fields-check.ensures.0 c.before.before.enum_told.given.1
-    (replicate maxPatterns (start_at 0)) c.before.find.ensures c.answered.ensures
+    (replicate max_patterns (start_at 0)) c.before.find.ensures c.answered.ensures
 
 pub first-in-spec : {M : Type 1} → statement M
 first-in-spec =

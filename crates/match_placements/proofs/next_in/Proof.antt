@@ -1,8 +1,8 @@
 -- Refusal 35 where the test of the fields says so; then the count held is compared with the number of positive patterns; then the search has the
 -- first of the list after the starts held.
 use Rattle.definitions.specs.Placements.{items_of}
-use Rattle.search.specs.Searching.{searchedTable}
-use Rattle.match_placements.proofs.Answering.{next-refused, next-found, next-uncounted}
+use Rattle.search.specs.Searching.{searched_table}
+use Rattle.match_placements.proofs.Answering.{next_refused, next-found, next-uncounted}
 use Rattle.match_placements.proofs.next_in.Statement.{statement}
 use Rattle.match_placements.proofs.next_in.Tie as tie
 
@@ -19,8 +19,8 @@ returns : tie.Need-returns
 returns c =
     let w = c.before.before.before.before in
     let x = w.before.before.before.before.args in
-    let t = searchedTable x.protocol x.flow x.items x.count x.bytes.now in
-    next-refused t x.header x.payload.now x.decoded.now x.dir x.m w.fields-check.ensures.0 c.before.before.check.given.1
+    let t = searched_table x.protocol x.flow x.items x.count x.bytes.now in
+    next_refused t x.header x.payload.now x.decoded.now x.dir x.m w.fields-check.ensures.0 c.before.before.check.given.1
     c.refused.ensures x.held
 
 enum_told : tie.Need-enum-told
@@ -38,7 +38,7 @@ returns-2 c =
     let n = c.before.before.before in
     let w = n.before.before.before in
     let x = w.before.before.before.before.args in
-    let t = searchedTable x.protocol x.flow x.items x.count x.bytes.now in
+    let t = searched_table x.protocol x.flow x.items x.count x.bytes.now in
     next-uncounted t x.header x.payload.now x.decoded.now x.dir x.m w.fields-check.ensures.0 n.before.enum_told.given.1
     x.held (n.positive-count.ensures x.bytes.now) c.before.if1.true c.refused2.ensures
 
@@ -54,7 +54,7 @@ returns-3 c =
     let n = c.before.before.before.before.before in
     let w = n.before.before.before in
     let x = w.before.before.before.before.args in
-    let t = searchedTable x.protocol x.flow x.items x.count x.bytes.now in
+    let t = searched_table x.protocol x.flow x.items x.count x.bytes.now in
     next-found t x.header x.payload.now x.decoded.now x.dir x.m w.fields-check.ensures.0 n.before.enum_told.given.1
     x.held (n.positive-count.ensures x.bytes.now) c.before.before.before.if1.false c.before.find.ensures c.answered.ensures
 

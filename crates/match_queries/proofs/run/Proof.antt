@@ -3,9 +3,9 @@ use mathlib.Core.Path.{◌≡◌, refl, ap, ◌∙◌}
 use Prim.Native.Nat.{◌-◌, ◌≤◌}
 use native.Mathlib.Omega.{arith}
 use lib.ListN.{length}
-use Rattle.definitions.specs.Queries.{queryAnswer}
+use Rattle.definitions.specs.Queries.{query_answer}
 use Rattle.match_queries.specs.Runs.{written}
-use Rattle.match_queries.proofs.Running.{no_room, pending, run-start, run_step, run-done}
+use Rattle.match_queries.proofs.Running.{no_room, pending, run_start, run_step, run_done}
 use Rattle.match_queries.proofs.run.Statement.{statement}
 use Rattle.match_queries.proofs.run.Tie as tie
 
@@ -24,7 +24,7 @@ returns c =
 loop-holds : tie.Need-loop-init invariant-loop decreases-loop
 loop-holds c =
     let x = c.before.before.before.before.before.args in
-    (refl, omega arith, run-start x.t x.p.now x.decoded.now x.dir x.m x.held x.queries.now x.out.now (omega arith))
+    (refl, omega arith, run_start x.t x.p.now x.decoded.now x.dir x.m x.held x.queries.now x.out.now (omega arith))
 
 shared-slice-read-query-of : tie.Need-shared-slice-read-query-of invariant-loop decreases-loop
 shared-slice-read-query-of c = omega arith
@@ -54,7 +54,7 @@ loop-again c =
     let put = c.before.before.before.put-answer in
     let r = c.before.before.before.before.before.answer-to in
     let query = c.before.before.before.before.before.before.query-of.ensures in
-    let answer = r.ensures ∙ ap (queryAnswer x.t x.p.now x.decoded.now x.dir x.m l.h) query in (
+    let answer = r.ensures ∙ ap (query_answer x.t x.p.now x.decoded.now x.dir x.m l.h) query in (
       put.auto.0 ∙ l.invariant.0,
       omega arith,
       l.invariant.2 ∙ run_step x.t x.p.now x.decoded.now x.dir x.m x.queries.now l.out put.new.0 l.h l.i r.result
@@ -68,7 +68,7 @@ returns-2 : tie.Need-returns-2 invariant-loop decreases-loop
 returns-2 c =
     let x = c.before.before.before.before.before.before.before.args in
     let l = c.before.loop in
-    run-done x.t x.p.now x.decoded.now x.dir x.m x.held x.queries.now x.out.now l.out l.h l.i (omega arith)
+    run_done x.t x.p.now x.decoded.now x.dir x.m x.held x.queries.now x.out.now l.out l.h l.i (omega arith)
     (omega arith) l.invariant.2
 
 pub run_spec : {M : Type 1} → statement M

@@ -3,11 +3,11 @@ use mathlib.Core.Path.{◌∙◌}
 use native.Mathlib.Omega.{arith}
 use lib.ListN.{length}
 use borrow.Author.Rules.{length_unmapped}
-use Rattle.definitions.specs.Limits.{documentLimits}
-use Rattle.laws.proofs.Numbers.{first-told}
-use Rattle.match_placements.proofs.CheckedInput.{input-told, seen-checked, searchable}
-use Rattle.match_placements.proofs.ByParts.{first-by-parts}
-use Rattle.matcher.proofs.Answering.{first-refused, first-here}
+use Rattle.definitions.specs.Limits.{document_limits}
+use Rattle.laws.proofs.Numbers.{first_told}
+use Rattle.match_placements.proofs.CheckedInput.{input_told, seen_checked, searchable}
+use Rattle.match_placements.proofs.ByParts.{first_by_parts}
+use Rattle.matcher.proofs.Answering.{first_refused, first_here}
 use Rattle.matcher.proofs.first.Statement.{statement}
 use Rattle.matcher.proofs.first.Tie as tie
 
@@ -38,9 +38,9 @@ first-in-requires c κs =
     let x = start.args in
     let g = start.well-formed.0 in
     let formed = w.well-formed-2.ensures x.t1.protocol x.t1.flow (omega (arith, g)) in
-    let told = input-told x.t1 x.p.now x.decoded.now formed a.check-input.ensures in
-    let ok = seen-checked x.t1 x.p.now x.decoded.now told s.before.before.seen2.given.1 s.payload-of.ensures.0 in
-    let n = length_unmapped _ x.t1.bytes documentLimits.room g.1.1.1.1.1.1.0.1.0.1 in
+    let told = input_told x.t1 x.p.now x.decoded.now formed a.check-input.ensures in
+    let ok = seen_checked x.t1 x.p.now x.decoded.now told s.before.before.seen2.given.1 s.payload-of.ensures.0 in
+    let n = length_unmapped _ x.t1.bytes document_limits.room g.1.1.1.1.1.1.0.1.0.1 in
     searchable ok (omega (arith, n))
 
 returns : tie.Need-returns
@@ -51,9 +51,9 @@ returns c =
     let x = start.args in
     let g = start.well-formed.0 in
     let formed = w.well-formed-2.ensures x.t1.protocol x.t1.flow (omega (arith, g)) in
-    let told = input-told x.t1 x.p.now x.decoded.now formed a.check-input.ensures in
-    first-told x.t1 x.p.now x.decoded.now x.dir x.m
-    (first-refused x.t1 x.p.now x.decoded.now x.dir x.m told c.before.before.seen.given.1 c.refused.ensures)
+    let told = input_told x.t1 x.p.now x.decoded.now formed a.check-input.ensures in
+    first_told x.t1 x.p.now x.decoded.now x.dir x.m
+    (first_refused x.t1 x.p.now x.decoded.now x.dir x.m told c.before.before.seen.given.1 c.refused.ensures)
 
 returns-2 : tie.Need-returns-2
 returns-2 c =
@@ -64,10 +64,10 @@ returns-2 c =
     let x = start.args in
     let g = start.well-formed.0 in
     let formed = w.well-formed-2.ensures x.t1.protocol x.t1.flow (omega (arith, g)) in
-    let told = input-told x.t1 x.p.now x.decoded.now formed a.check-input.ensures in
-    let ok = seen-checked x.t1 x.p.now x.decoded.now told s.before.before.seen2.given.1 s.payload-of.ensures.0 in
-    let found = c.first-in.ensures ∙ first-by-parts x.t1 _ s.payload-of.result.now x.decoded.now x.dir x.m in
-    first-told x.t1 x.p.now x.decoded.now x.dir x.m (found ∙ first-here ok x.dir x.m)
+    let told = input_told x.t1 x.p.now x.decoded.now formed a.check-input.ensures in
+    let ok = seen_checked x.t1 x.p.now x.decoded.now told s.before.before.seen2.given.1 s.payload-of.ensures.0 in
+    let found = c.first-in.ensures ∙ first_by_parts x.t1 _ s.payload-of.result.now x.decoded.now x.dir x.m in
+    first_told x.t1 x.p.now x.decoded.now x.dir x.m (found ∙ first_here ok x.dir x.m)
 
 pub first_spec : {M : Type 1} → statement M
 first_spec =

@@ -3,12 +3,12 @@ use native.Mathlib.Omega.{arith}
 use mathlib.Core.Path.{ap, ◌∙◌}
 use borrow.Author.Rules.{rules}
 use Rattle.definitions.specs.declared.answers.Answer.{Answer}
-use Rattle.definitions.specs.Tables.{tableWith}
-use Rattle.definitions.specs.Decisions.{isMet}
-use Rattle.match_answers.specs.Verdicts.{verdictOf}
-use Rattle.match_placements.proofs.CheckedInput.{seen-checked, seen-small}
-use Rattle.match_placements.proofs.ByParts.{first-by-parts}
-use Rattle.matcher.proofs.Answering.{verdict-refused, verdict-here, formed-header}
+use Rattle.definitions.specs.Tables.{table_with}
+use Rattle.definitions.specs.Decisions.{is_met}
+use Rattle.match_answers.specs.Verdicts.{verdict_of}
+use Rattle.match_placements.proofs.CheckedInput.{seen_checked, seen_small}
+use Rattle.match_placements.proofs.ByParts.{first_by_parts}
+use Rattle.matcher.proofs.Answering.{verdict_refused, verdict_here, formed_header}
 use Rattle.matcher.proofs.meets.Statement.{statement}
 use Rattle.matcher.proofs.meets.Tie as tie
 
@@ -31,7 +31,7 @@ first-in-requires c κs =
     let start = h.before.before.before.before in
     let x = start.args in
     let r = start.requires in
-    let n = seen-small x.p.now x.decoded.now h.packet-header.ensures.0 s.seen.given.1 c.payload-of.ensures.0 in
+    let n = seen_small x.p.now x.decoded.now h.packet-header.ensures.0 s.seen.given.1 c.payload-of.ensures.0 in
     let b = r.bytes in
     record { few = r.few; patterns = r.patterns; stored = r.stored; bytes = omega (arith, b); payload = n.0; decoded = n.1 }
 
@@ -47,10 +47,10 @@ returns c =
     let start = h.before.before.before.before in
     let x = start.args in
     λ name len used w.
-    let t = tableWith name len x.protocol x.flow x.bytes.now used x.items x.count in
-    ap isMet
-    (verdict-refused t x.p.now x.decoded.now x.dir x.m
-    (h.packet-header.ensures.0 ∙ formed-header t x.p.now x.decoded.now w) c.enum_told.given.1)
+    let t = table_with name len x.protocol x.flow x.bytes.now used x.items x.count in
+    ap is_met
+    (verdict_refused t x.p.now x.decoded.now x.dir x.m
+    (h.packet-header.ensures.0 ∙ formed_header t x.p.now x.decoded.now w) c.enum_told.given.1)
 
 returns-2 : tie.Need-returns-2
 returns-2 c =
@@ -62,13 +62,13 @@ returns-2 c =
     let start = h.before.before.before.before in
     let x = start.args in
     λ name len used w.
-    let t = tableWith name len x.protocol x.flow x.bytes.now used x.items x.count in
+    let t = table_with name len x.protocol x.flow x.bytes.now used x.items x.count in
     let ok =
-    seen-checked t x.p.now x.decoded.now (h.packet-header.ensures.0 ∙ formed-header t x.p.now x.decoded.now w)
+    seen_checked t x.p.now x.decoded.now (h.packet-header.ensures.0 ∙ formed_header t x.p.now x.decoded.now w)
     s.seen.given.1 l.payload-of.ensures.0 in
-    let found = f.first-in.ensures ∙ first-by-parts t _ l.payload-of.result.now x.decoded.now x.dir x.m in
+    let found = f.first-in.ensures ∙ first_by_parts t _ l.payload-of.result.now x.decoded.now x.dir x.m in
     c.is-met.ensures
-    ∙ ap isMet (v.verdict-of.ensures ∙ ap (λ (y : Answer). verdictOf y.found) found ∙ verdict-here ok x.dir x.m)
+    ∙ ap is_met (v.verdict-of.ensures ∙ ap (λ (y : Answer). verdict_of y.found) found ∙ verdict_here ok x.dir x.m)
 
 pub meets-spec : {M : Type 1} → statement M
 meets-spec =

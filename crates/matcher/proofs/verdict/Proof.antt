@@ -3,13 +3,13 @@ use mathlib.Core.Path.{ap, ◌∙◌}
 use native.Mathlib.Omega.{arith}
 use lib.ListN.{length}
 use borrow.Author.Rules.{length_unmapped}
-use Rattle.definitions.specs.Limits.{documentLimits}
+use Rattle.definitions.specs.Limits.{document_limits}
 use Rattle.definitions.specs.declared.answers.Answer.{Answer}
-use Rattle.match_answers.specs.Verdicts.{verdictOf}
-use Rattle.laws.proofs.Numbers.{verdict-told}
-use Rattle.match_placements.proofs.CheckedInput.{input-told, seen-checked, searchable}
-use Rattle.match_placements.proofs.ByParts.{first-by-parts}
-use Rattle.matcher.proofs.Answering.{verdict-refused, verdict-here}
+use Rattle.match_answers.specs.Verdicts.{verdict_of}
+use Rattle.laws.proofs.Numbers.{verdict_told}
+use Rattle.match_placements.proofs.CheckedInput.{input_told, seen_checked, searchable}
+use Rattle.match_placements.proofs.ByParts.{first_by_parts}
+use Rattle.matcher.proofs.Answering.{verdict_refused, verdict_here}
 use Rattle.matcher.proofs.verdict.Statement.{statement}
 use Rattle.matcher.proofs.verdict.Tie as tie
 
@@ -37,9 +37,9 @@ first-in-requires c κs =
     let x = start.args in
     let g = start.well-formed.0 in
     let formed = w.well-formed-2.ensures x.t1.protocol x.t1.flow (omega (arith, g)) in
-    let told = input-told x.t1 x.p.now x.decoded.now formed a.check-input.ensures in
-    let ok = seen-checked x.t1 x.p.now x.decoded.now told s.before.before.seen2.given.1 s.payload-of.ensures.0 in
-    let n = length_unmapped _ x.t1.bytes documentLimits.room g.1.1.1.1.1.1.0.1.0.1 in
+    let told = input_told x.t1 x.p.now x.decoded.now formed a.check-input.ensures in
+    let ok = seen_checked x.t1 x.p.now x.decoded.now told s.before.before.seen2.given.1 s.payload-of.ensures.0 in
+    let n = length_unmapped _ x.t1.bytes document_limits.room g.1.1.1.1.1.1.0.1.0.1 in
     searchable ok (omega (arith, n))
 
 verdict-of-requires : tie.Need-verdict-of-requires
@@ -53,9 +53,9 @@ returns c =
     let x = start.args in
     let g = start.well-formed.0 in
     let formed = w.well-formed-2.ensures x.t1.protocol x.t1.flow (omega (arith, g)) in
-    let told = input-told x.t1 x.p.now x.decoded.now formed a.check-input.ensures in
-    verdict-told x.t1 x.p.now x.decoded.now x.dir x.m
-    (verdict-refused x.t1 x.p.now x.decoded.now x.dir x.m told c.before.seen.given.1)
+    let told = input_told x.t1 x.p.now x.decoded.now formed a.check-input.ensures in
+    verdict_told x.t1 x.p.now x.decoded.now x.dir x.m
+    (verdict_refused x.t1 x.p.now x.decoded.now x.dir x.m told c.before.seen.given.1)
 
 returns-2 : tie.Need-returns-2
 returns-2 c =
@@ -67,11 +67,11 @@ returns-2 c =
     let x = start.args in
     let g = start.well-formed.0 in
     let formed = w.well-formed-2.ensures x.t1.protocol x.t1.flow (omega (arith, g)) in
-    let told = input-told x.t1 x.p.now x.decoded.now formed a.check-input.ensures in
-    let ok = seen-checked x.t1 x.p.now x.decoded.now told s.before.before.seen2.given.1 s.payload-of.ensures.0 in
-    let found = first.first-in.ensures ∙ first-by-parts x.t1 _ s.payload-of.result.now x.decoded.now x.dir x.m in
-    verdict-told x.t1 x.p.now x.decoded.now x.dir x.m
-    (c.verdict-of.ensures ∙ ap (λ (y : Answer). verdictOf y.found) found ∙ verdict-here ok x.dir x.m)
+    let told = input_told x.t1 x.p.now x.decoded.now formed a.check-input.ensures in
+    let ok = seen_checked x.t1 x.p.now x.decoded.now told s.before.before.seen2.given.1 s.payload-of.ensures.0 in
+    let found = first.first-in.ensures ∙ first_by_parts x.t1 _ s.payload-of.result.now x.decoded.now x.dir x.m in
+    verdict_told x.t1 x.p.now x.decoded.now x.dir x.m
+    (c.verdict-of.ensures ∙ ap (λ (y : Answer). verdict_of y.found) found ∙ verdict_here ok x.dir x.m)
 
 pub verdict-spec : {M : Type 1} → statement M
 verdict-spec =

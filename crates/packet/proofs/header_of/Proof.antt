@@ -1,6 +1,6 @@
 -- Each fact rewrites with what its callee ensures.
 use native.Mathlib.Omega.{arith}
-use Rattle.definitions.specs.Packet.{headerOf}
+use Rattle.definitions.specs.Packet.{header_of}
 use borrow.Author.Rules.{rules}
 use Rattle.packet.proofs.header_of.Statement.{statement}
 use Rattle.packet.proofs.header_of.Tie as tie
@@ -45,7 +45,7 @@ port-at-requires-2 : tie.Need-port-at-requires-2
 port-at-requires-2 c κs = omega arith
 
 returns : tie.Need-returns
-unfolding headerOf
+unfolding header_of
 returns c = rw (
   c.port-at2.ensures,
   c.before.port-at.ensures,

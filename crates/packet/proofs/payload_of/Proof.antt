@@ -1,5 +1,5 @@
 -- The part of the span from the payload's start up to the total length.
-use Rattle.packet.specs.Datagram.{payloadPart}
+use Rattle.packet.specs.Datagram.{payload_part}
 use Rattle.packet.proofs.payload_of.Statement.{statement}
 use Rattle.packet.proofs.payload_of.Tie as tie
 
@@ -10,7 +10,7 @@ part-of-requires : tie.Need-part-of-requires
 part-of-requires c κs = tt
 
 returns : tie.Need-returns
-unfolding payloadPart
+unfolding payload_part
 returns c =
     let part = rw c.before.span_between.ensures at c.part_of.ensures in
     (part.bytes, part)

@@ -1,5 +1,5 @@
 -- What is left of a list after so many elements is the difference of the lengths.
-use Rattle.definitions.specs.Packet.{headerLength}
+use Rattle.definitions.specs.Packet.{header_length}
 use lib.ListN.{length-drop}
 use native.Mathlib.Omega.{arith}
 use borrow.Author.Rules.{rules}
@@ -16,7 +16,7 @@ returns : tie.Need-returns
 returns c = omega (
   arith,
   c.before.header-length.ensures.0,
-  length-drop (headerLength c.before.before.before.args.d.now)
+  length-drop (header_length c.before.before.before.args.d.now)
       c.before.before.before.args.d.now,
 )
 
@@ -24,7 +24,7 @@ returns-2 : tie.Need-returns-2
 returns-2 c = omega (
   arith,
   c.before.header-length.ensures.0,
-  length-drop (headerLength c.before.before.before.args.d.now)
+  length-drop (header_length c.before.before.before.args.d.now)
       c.before.before.before.args.d.now,
 )
 

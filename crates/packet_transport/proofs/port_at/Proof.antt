@@ -1,7 +1,7 @@
 -- Each return rewrites with the test of the protocol; after the header is so many bytes later in the datagram.
 use native.Mathlib.Omega.{arith}
-use Rattle.definitions.specs.Packet.{headerLength}
-use Rattle.packet_header.proofs.Widths.{be-drop}
+use Rattle.definitions.specs.Packet.{header_length}
+use Rattle.packet_header.proofs.Widths.{be_drop}
 use mathlib.Core.Path.{sym, ◌∙◌}
 use borrow.Author.Rules.{rules}
 use Rattle.packet_transport.proofs.port_at.Statement.{statement}
@@ -27,7 +27,7 @@ returns c =
     let a = c.before.before.before.before.before.before.args in
     let ports = rw c.before.before.before.before.protocol-of.ensures at (sym c.before.before.before.has-ports.ensures
     ∙ c.before.before.if1.true) in
-    rw (ports, c.be16.ensures, c.before.header-length.ensures.0, be-drop 2 (headerLength a.d.now) a.d.now a.at)
+    rw (ports, c.be16.ensures, c.before.header-length.ensures.0, be_drop 2 (header_length a.d.now) a.d.now a.at)
 
 returns-2 : tie.Need-returns-2
 returns-2 c = rw (rw c.before.before.protocol-of.ensures at (sym c.before.has-ports.ensures ∙ c.if1.false))

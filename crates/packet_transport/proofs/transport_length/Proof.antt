@@ -1,5 +1,5 @@
 -- Each return rewrites with the tests of the protocol that led there.
-use Rattle.definitions.specs.Packet.{protocolOf}
+use Rattle.definitions.specs.Packet.{protocol_of}
 use mathlib.Core.Path.{sym, ◌∙◌}
 use borrow.Author.Tests.{eq-eqb, ne_eqb}
 use native.Mathlib.Omega.{arith}
@@ -28,14 +28,14 @@ returns c = (
 returns-2 : tie.Need-returns-2
 returns-2 c =
     let same = c.before.before.protocol-of.ensures in (
-      rw (ne_eqb (protocolOf c.before.before.before.before.args.d.now) 6 (λ e. c.before.if1.false (same ∙ e)), rw same at c.if2.true),
+      rw (ne_eqb (protocol_of c.before.before.before.before.args.d.now) 6 (λ e. c.before.if1.false (same ∙ e)), rw same at c.if2.true),
       omega arith,
     )
 
 returns-3 : tie.Need-returns-3
 returns-3 c =
     let same = c.before.before.protocol-of.ensures in (
-      rw (ne_eqb (protocolOf c.before.before.before.before.args.d.now) 6 (λ e. c.before.if1.false (same ∙ e)), rw same at c.if2.false),
+      rw (ne_eqb (protocol_of c.before.before.before.before.args.d.now) 6 (λ e. c.before.if1.false (same ∙ e)), rw same at c.if2.false),
       omega arith,
     )
 

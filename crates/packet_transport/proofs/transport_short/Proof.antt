@@ -1,5 +1,5 @@
 -- Each return rewrites with the tests of the protocol that led there.
-use Rattle.definitions.specs.Packet.{protocolOf}
+use Rattle.definitions.specs.Packet.{protocol_of}
 use mathlib.Core.Path.{sym, ◌∙◌}
 use borrow.Author.Tests.{eq-eqb, ne_eqb}
 use Rattle.packet_transport.proofs.transport_short.Statement.{statement}
@@ -20,7 +20,7 @@ left-after-requires c κs = tt
 returns-2 : tie.Need-returns-2
 returns-2 c =
     let same = c.before.before.protocol-of.ensures in
-    rw (ne_eqb (protocolOf c.before.before.before.before.args.d.now) 6 (λ e. c.before.if1.false (same ∙ e)), same, c.left_after.ensures)
+    rw (ne_eqb (protocol_of c.before.before.before.before.args.d.now) 6 (λ e. c.before.if1.false (same ∙ e)), same, c.left_after.ensures)
 
 pub transport-short-spec : {M : Type 1} → statement M
 transport-short-spec =

@@ -1,6 +1,6 @@
-use Rattle.read_value.specs.Values.{optionValueOf}
-use Rattle.scan_cursors.proofs.Readings.{fmap-reads, pair_reads, terminated-reads}
-use Rattle.scan_steps.proofs.Closing.{valued-reads}
+use Rattle.read_value.specs.Values.{option_value_of}
+use Rattle.scan_cursors.proofs.Readings.{fmap_reads, pair_reads, terminated_reads}
+use Rattle.scan_steps.proofs.Closing.{valued_reads}
 use borrow.Author.Rules.{rules}
 use Rattle.read_byte_tests.proofs.byte_option.Statement.{statement}
 use Rattle.read_byte_tests.proofs.byte_option.Tie as tie
@@ -42,7 +42,7 @@ cast-offset : tie.Need-overflow-cast-offset
 cast-offset c = search rules
 
 returns : tie.Need-returns
-unfolding optionValueOf
+unfolding option_value_of
 returns c =
     let k = c.before.before in
     let f = k.before in
@@ -55,13 +55,13 @@ returns c =
     let w = w1.before in
     let g = w.before in
     let i = g.gap_at.ensures.1.inside in
-    let width = terminated-reads i w.then-width.ensures w1.then-literal.ensures in
-    let operator = terminated-reads width.inside o.then-byte-operator.ensures o2.then-literal2.ensures in
-    let value = terminated-reads operator.inside v.then-part.ensures.0 v3.then-literal3.ensures in
+    let width = terminated_reads i w.then-width.ensures w1.then-literal.ensures in
+    let operator = terminated_reads width.inside o.then-byte-operator.ensures o2.then-literal2.ensures in
+    let value = terminated_reads operator.inside v.then-part.ensures.0 v3.then-literal3.ensures in
     let offset = n.then-part2.ensures.0 in
     let parts = pair_reads i width (pair_reads width.inside operator (pair_reads operator.inside value (pair_reads value.inside offset
     f.then-flags.ensures))) in
-    (valued-reads g.before.before.requires g.gap_at.ensures (fmap-reads _ parts) k.then-closing.ensures, tt)
+    (valued_reads g.before.before.requires g.gap_at.ensures (fmap_reads _ parts) k.then-closing.ensures, tt)
 
 pub byte-option-spec : {M : Type 1} → statement M
 byte-option-spec =

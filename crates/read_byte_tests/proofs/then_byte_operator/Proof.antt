@@ -1,4 +1,4 @@
-use Rattle.read_byte_tests.proofs.Flags.{operator-reads}
+use Rattle.read_byte_tests.proofs.Flags.{operator_reads}
 use borrow.Author.Rules.{rules}
 use Rattle.read_byte_tests.proofs.then_byte_operator.Statement.{statement}
 use Rattle.read_byte_tests.proofs.then_byte_operator.Tie as tie
@@ -17,7 +17,7 @@ returns c =
     let g = c.before in
     let o = g.before in
     let a = o.before.before.args in
-    rw o.operator-next.ensures (operator-reads a.s.now a.c (rw (g.sign_of.ensures, o.operator-next.ensures) at c.then-literal.ensures))
+    rw o.operator-next.ensures (operator_reads a.s.now a.c (rw (g.sign_of.ensures, o.operator-next.ensures) at c.then-literal.ensures))
 
 pub then-byte-operator-spec : {M : Type 1} → statement M
 then-byte-operator-spec =

@@ -1,4 +1,4 @@
-use Rattle.read_byte_tests.proofs.Flags.{relative-reads, little-reads}
+use Rattle.read_byte_tests.proofs.Flags.{relative_reads, little_reads}
 use borrow.Author.Rules.{rules}
 use Rattle.read_byte_tests.proofs.then_flag_words.Statement.{statement}
 use Rattle.read_byte_tests.proofs.then_flag_words.Tie as tie
@@ -23,13 +23,13 @@ returns c =
     let k = c.before.before in
     let w = k.before in
     let i = w.before.before.before.before.requires in
-    relative-reads i w.then-either-word.ensures.1 w.then-either-word.ensures.0 k.if1.true c.then-comma-word.ensures
+    relative_reads i w.then-either-word.ensures.1 w.then-either-word.ensures.0 k.if1.true c.then-comma-word.ensures
 
 returns-2 : tie.Need-returns-2
 returns-2 c =
     let w = c.before in
     let i = w.before.before.before.before.requires in
-    little-reads i w.then-either-word.ensures.1 w.then-either-word.ensures.0 c.if1.false
+    little_reads i w.then-either-word.ensures.1 w.then-either-word.ensures.0 c.if1.false
 
 pub then-flag-words-spec : {M : Type 1} → statement M
 then-flag-words-spec =

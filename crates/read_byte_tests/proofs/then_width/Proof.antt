@@ -1,5 +1,5 @@
 -- The number is read up to a limit that lets every byte count pass; whether it is one narrows the limit.
-use Rattle.scan_cursors.proofs.Readings.{fmap-reads, narrow-reads}
+use Rattle.scan_cursors.proofs.Readings.{fmap_reads, narrow_reads}
 use Rattle.definitions.specs.ByteCounts.{width_of}
 use Rattle.read_byte_tests.proofs.Counts.{count_small}
 use borrow.Author.Rules.{rules}
@@ -24,7 +24,7 @@ returns c =
     let k = l.before in
     let n = k.before in
     rw (c.width-of.ensures, l.limited.ensures, k.is-byte-count.ensures)
-    (fmap-reads width_of (narrow-reads count_small n.before.before.requires n.then-part.ensures.0))
+    (fmap_reads width_of (narrow_reads count_small n.before.before.requires n.then-part.ensures.0))
 
 pub then-width-spec : {M : Type 1} → statement M
 then-width-spec =

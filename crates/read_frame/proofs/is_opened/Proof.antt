@@ -3,7 +3,7 @@ use mathlib.Core.Path.{refl}
 use native.Mathlib.Omega.{arith}
 use Prim.Native.Nat.{◌-◌, ◌≤◌}
 use lib.ListN.{length}
-use Rattle.read_frame.proofs.Opening.{too_short, Still, letters-on, letters-off, letters-out}
+use Rattle.read_frame.proofs.Opening.{too_short, Still, letters_on, letters_off, letters_out}
 use Rattle.read_frame.proofs.is_opened.Statement.{statement}
 use Rattle.read_frame.proofs.is_opened.Tie as tie
 
@@ -29,7 +29,7 @@ returns-2 : tie.Need-returns-2 invariant-loop decreases-loop
 returns-2 c =
     let turn = c.before.before.before.before.loop in
     let s = c.before.before.before.before.before.before.before.args.s.now in
-    letters-off s _ turn.invariant.0 c.before.before.before.loop-test.true turn.invariant.1 c.if2.true
+    letters_off s _ turn.invariant.0 c.before.before.before.loop-test.true turn.invariant.1 c.if2.true
 
 add-i : tie.Need-overflow-add-i invariant-loop decreases-loop
 add-i c = omega arith
@@ -41,10 +41,10 @@ loop-again : tie.Need-loop-preserved invariant-loop decreases-loop
 loop-again c =
     let turn = c.before.before.before.before.loop in
     let s = c.before.before.before.before.before.before.before.args.s.now in
-    (turn.invariant.0, letters-on s _ turn.invariant.0 c.before.before.before.loop-test.true turn.invariant.1 c.if2.false)
+    (turn.invariant.0, letters_on s _ turn.invariant.0 c.before.before.before.loop-test.true turn.invariant.1 c.if2.false)
 
 returns-3 : tie.Need-returns-3 invariant-loop decreases-loop
-returns-3 c = letters-out c.before.before.before.before.args.s.now _ c.before.loop.invariant.0 c.loop-test.false c.before.loop.invariant.1
+returns-3 c = letters_out c.before.before.before.before.args.s.now _ c.before.loop.invariant.0 c.loop-test.false c.before.loop.invariant.1
 
 pub is-opened-spec : {M : Type 1} → statement M
 is-opened-spec =

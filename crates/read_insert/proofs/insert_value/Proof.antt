@@ -1,5 +1,5 @@
 -- Each arm rewrites with the value it matched and cites what its callee ensures.
-use Rattle.read_insert.specs.Inserting.{valueInserted}
+use Rattle.read_insert.specs.Inserting.{value_inserted}
 use borrow.Author.Rules.{rules}
 use Rattle.read_insert.proofs.insert_value.Statement.{statement}
 use Rattle.read_insert.proofs.insert_value.Tie as tie
@@ -65,43 +65,43 @@ insert-within-requires : tie.Need-insert-within-requires
 insert-within-requires c κs = search rules
 
 returns : tie.Need-returns
-unfolding valueInserted
+unfolding value_inserted
 returns c = simp (c.before.before.value.given.1, c.insert-name.ensures)
 
 returns-2 : tie.Need-returns-2
-unfolding valueInserted
+unfolding value_inserted
 returns-2 c = simp (c.before.before.value2.given.1, c.insert-protocol.ensures)
 
 returns-3 : tie.Need-returns-3
-unfolding valueInserted
+unfolding value_inserted
 returns-3 c = simp (c.before.before.value3.given.1, c.insert-flow.ensures)
 
 returns-4 : tie.Need-returns-4
-unfolding valueInserted
+unfolding value_inserted
 returns-4 c = simp (c.before.before.value4.given.1, c.insert-test.ensures)
 
 returns-5 : tie.Need-returns-5
-unfolding valueInserted
+unfolding value_inserted
 returns-5 c = simp (c.before.before.value5.given.1, c.insert-addresses.ensures)
 
 returns-6 : tie.Need-returns-6
-unfolding valueInserted
+unfolding value_inserted
 returns-6 c = simp (c.before.before.value6.given.1, c.insert-pattern.ensures)
 
 returns-7 : tie.Need-returns-7
-unfolding valueInserted
+unfolding value_inserted
 returns-7 c = simp (c.before.before.value7.given.1, c.insert-context.ensures)
 
 returns-8 : tie.Need-returns-8
-unfolding valueInserted
+unfolding value_inserted
 returns-8 c = simp (c.before.enum_told.given.1, c.insert-nocase.ensures)
 
 returns-9 : tie.Need-returns-9
-unfolding valueInserted
+unfolding value_inserted
 returns-9 c = simp (c.before.before.value8.given.1, c.insert-distance.ensures)
 
 returns-10 : tie.Need-returns-10
-unfolding valueInserted
+unfolding value_inserted
 returns-10 c = simp (c.before.before.value9.given.1, c.insert-within.ensures)
 
 pub insert-value-spec : {M : Type 1} → statement M

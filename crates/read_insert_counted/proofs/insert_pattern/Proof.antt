@@ -1,6 +1,6 @@
 -- Each return rewrites with the test of the count; the stores are those of the definition, and in range by the counts.
 use borrow.Author.Tests.{le-leb, lt-leb}
-use Rattle.read_insert_counted.specs.Counting.{patternInserted}
+use Rattle.read_insert_counted.specs.Counting.{pattern_inserted}
 use borrow.Author.Rules.{rules}
 use Rattle.read_insert_counted.proofs.insert_pattern.Statement.{statement}
 use Rattle.read_insert_counted.proofs.insert_pattern.Tie as tie
@@ -9,7 +9,7 @@ no-item-requires : tie.Need-no-item-requires
 no-item-requires c κs = tt
 
 returns : tie.Need-returns
-unfolding patternInserted
+unfolding pattern_inserted
 returns c = simp (le-leb _ _ c.before.if1.true, c.no_item.ensures)
 
 bare-pattern-requires : tie.Need-bare-pattern-requires
@@ -28,7 +28,7 @@ add-state-2 : tie.Need-overflow-add-state-2
 add-state-2 c = search rules
 
 returns-2 : tie.Need-returns-2
-unfolding patternInserted
+unfolding pattern_inserted
 returns-2 c = simp (lt-leb _ _ c.before.before.if1.false, c.before.bare-pattern.ensures)
 
 pub insert-pattern-spec : {M : Type 1} → statement M

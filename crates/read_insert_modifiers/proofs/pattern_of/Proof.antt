@@ -3,8 +3,8 @@ use mathlib.Core.Path.{◌≡◌, refl, ◌∙◌}
 use Rattle.definitions.specs.Tables.{bare}
 use Rattle.definitions.specs.Items.{Kind}
 use mathlib.Core.Bool.{false}
-use Rattle.definitions.proofs.OtherItems.{other-kind}
-use Rattle.read_insert_modifiers.specs.Modifying.{patternOf, patternIn}
+use Rattle.definitions.proofs.OtherItems.{other_kind}
+use Rattle.read_insert_modifiers.specs.Modifying.{pattern_of, pattern_in}
 use borrow.Author.Rules.{rules}
 use Rattle.read_insert_modifiers.proofs.pattern_of.Statement.{statement}
 use Rattle.read_insert_modifiers.proofs.pattern_of.Tie as tie
@@ -16,13 +16,13 @@ bare-pattern-requires : tie.Need-bare-pattern-requires
 bare-pattern-requires c κs = tt
 
 returns : tie.Need-returns
-unfolding patternOf
+unfolding pattern_of
 returns c =
     let item = c.before.before.args.slot.item in
-    c.bare-pattern.ensures ∙ other-kind (λ (k : Kind). bare false 0 ≡ patternIn k) refl (λ a. refl) refl item c.before.match.keys2
+    c.bare-pattern.ensures ∙ other_kind (λ (k : Kind). bare false 0 ≡ pattern_in k) refl (λ a. refl) refl item c.before.match.keys2
 
 returns-2 : tie.Need-returns-2
-unfolding patternOf
+unfolding pattern_of
 returns-2 c = simp c.before.item.given.1
 
 pub pattern-of-spec : {M : Type 1} → statement M

@@ -5,16 +5,16 @@ use Prim.Native.Nat.{◌-◌, ◌≤◌}
 use lib.ListN.{take, drop}
 use Rattle.read_names.specs.declared.options.OptionName.TheVariants as option
 use Rattle.read_names.specs.declared.options.Lookup.TheVariants.{Found}
-use Rattle.read_names.specs.Names.{optionCount, optionNames, optionOrder}
-use Rattle.read_names.proofs.Rows.{names-count, order-count, Left, row-found, row-passed, rows_out}
+use Rattle.read_names.specs.Names.{option_count, option_names, option_order}
+use Rattle.read_names.proofs.Rows.{names_count, order_count, Left, row_found, row_passed, rows_out}
 use Rattle.read_names.proofs.option_named.Statement.{statement}
 use Rattle.read_names.proofs.option_named.Tie as tie
 
 abbrev invariant-loop : tie.invariant-loop
-invariant-loop s from to x k₀ k = (k ≤ optionCount) × Left optionOrder optionNames (take (to - from) (drop from s)) k
+invariant-loop s from to x k₀ k = (k ≤ option_count) × Left option_order option_names (take (to - from) (drop from s)) k
 
 abbrev decreases-loop : tie.decreases-loop
-decreases-loop s from to x k₀ k = optionCount - k
+decreases-loop s from to x k₀ k = option_count - k
 
 sub-x : tie.Need-overflow-sub-x invariant-loop decreases-loop
 sub-x c = omega arith
@@ -40,7 +40,7 @@ returns c =
     let turn = c.before.before.before.before.loop in
     let same = sym c.before.before.row_named.ensures ∙ c.before.if1.true in
     ap Found c.row-option.ensures
-    ∙ row-found _ _ _ turn.k option.Name (omega (arith, more, order-count)) (omega (arith, more, names-count)) turn.invariant.1 same
+    ∙ row_found _ _ _ turn.k option.Name (omega (arith, more, order_count)) (omega (arith, more, names_count)) turn.invariant.1 same
 
 add-k : tie.Need-overflow-add-k invariant-loop decreases-loop
 add-k c = omega arith
@@ -54,13 +54,13 @@ loop-again c =
     let turn = c.before.before.before.loop in
     let other = sym c.before.row_named.ensures ∙ c.if1.false in (
       omega (arith, more),
-      row-passed _ _ _ turn.k option.Name (omega (arith, more, order-count)) (omega (arith, more, names-count)) turn.invariant.1 other,
+      row_passed _ _ _ turn.k option.Name (omega (arith, more, order_count)) (omega (arith, more, names_count)) turn.invariant.1 other,
     )
 
 returns-2 : tie.Need-returns-2 invariant-loop decreases-loop
 returns-2 c =
     let none = c.loop-test.false in
-    rows_out _ _ _ c.before.loop.k (omega (arith, none, order-count)) c.before.loop.invariant.1
+    rows_out _ _ _ c.before.loop.k (omega (arith, none, order_count)) c.before.loop.invariant.1
 
 pub option-named-spec : {M : Type 1} → statement M
 option-named-spec =

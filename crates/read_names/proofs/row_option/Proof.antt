@@ -1,7 +1,7 @@
 -- The options stand in the table's order.
 use mathlib.Core.Path.{refl}
 use borrow.Author.Rules.{rules}
-use Rattle.read_names.specs.Names.{optionOrder}
+use Rattle.read_names.specs.Names.{option_order}
 use Rattle.read_names.proofs.row_option.Statement.{statement}
 use Rattle.read_names.proofs.row_option.Tie as tie
 
@@ -9,7 +9,7 @@ array-copy-out-result : tie.Need-array-copy-out-result
 array-copy-out-result c = search rules
 
 returns : tie.Need-returns
-unfolding optionOrder
+unfolding option_order
 returns c = refl
 
 pub row-option-spec : {M : Type 1} → statement M

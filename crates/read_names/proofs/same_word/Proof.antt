@@ -4,7 +4,7 @@ use native.Mathlib.Omega.{arith}
 use Prim.Native.Nat.{◌-◌}
 use lib.ListN.{length}
 use borrow.Author.Tests.{not-true, not-false}
-use Rattle.read_names.proofs.SameWord.{other_length, Still, letter, letters-on, letters-off, letters-out}
+use Rattle.read_names.proofs.SameWord.{other_length, Still, letter, letters_on, letters_off, letters_out}
 use Rattle.read_names.proofs.same_word.Statement.{statement}
 use Rattle.read_names.proofs.same_word.Tie as tie
 
@@ -36,7 +36,7 @@ returns-2 c =
     let word = turn.before.before.before.before.before.requires in
     let more = turn.loop-test.true in
     let other = sym (letter _ _ _ l.invariant.0 more l.invariant.1 word) ∙ sym c.before.in-case.ensures ∙ not-true _ c.if2.true in
-    sym (letters-off _ _ _ l.invariant.0 more l.invariant.1 other)
+    sym (letters_off _ _ _ l.invariant.0 more l.invariant.1 other)
 
 add-i : tie.Need-overflow-add-i invariant-loop decreases-loop
 add-i c = omega arith
@@ -51,10 +51,10 @@ loop-again c =
     let word = turn.before.before.before.before.before.requires in
     let more = turn.loop-test.true in
     let same = sym (letter _ _ _ l.invariant.0 more l.invariant.1 word) ∙ sym c.before.in-case.ensures ∙ not-false _ c.if2.false in
-    (l.invariant.0, letters-on _ _ _ l.invariant.0 more l.invariant.1 same)
+    (l.invariant.0, letters_on _ _ _ l.invariant.0 more l.invariant.1 same)
 
 returns-3 : tie.Need-returns-3 invariant-loop decreases-loop
-returns-3 c = sym (letters-out _ _ _ c.before.loop.invariant.0 c.loop-test.false c.before.loop.invariant.1)
+returns-3 c = sym (letters_out _ _ _ c.before.loop.invariant.0 c.loop-test.false c.before.loop.invariant.1)
 
 pub same-word-spec : {M : Type 1} → statement M
 same-word-spec =

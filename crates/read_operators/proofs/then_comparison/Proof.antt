@@ -1,4 +1,4 @@
-use Rattle.scan_cursors.proofs.Readings.{fmap-reads, preceded-reads}
+use Rattle.scan_cursors.proofs.Readings.{fmap_reads, preceded_reads}
 use Rattle.scan_cursors.proofs.Choices.{first_reads, second_reads}
 use borrow.Author.Rules.{rules}
 use Rattle.read_operators.proofs.then_comparison.Statement.{statement}
@@ -13,7 +13,7 @@ then-literal-requires c κs = search rules
 returns : tie.Need-returns
 returns c =
     let k1 = c.before in
-    first_reads k1.before.next-is.ensures k1.if1.true (fmap-reads _ c.then-literal.ensures)
+    first_reads k1.before.next-is.ensures k1.if1.true (fmap_reads _ c.then-literal.ensures)
 
 next-is-requires-2 : tie.Need-next-is-requires-2
 next-is-requires-2 c κs = search rules
@@ -31,7 +31,7 @@ returns-2 c =
     let k1 = k2.before.before in
     let i = k1.before.before.before.requires in
     second_reads k1.before.next-is.ensures k1.if1.false
-    (first_reads k2.before.next-is2.ensures k2.if2.true (preceded-reads i l.then-literal2.ensures (fmap-reads _ c.then-literal3.ensures)))
+    (first_reads k2.before.next-is2.ensures k2.if2.true (preceded_reads i l.then-literal2.ensures (fmap_reads _ c.then-literal3.ensures)))
 
 next-is-requires-3 : tie.Need-next-is-requires-3
 next-is-requires-3 c κs = search rules
@@ -51,7 +51,7 @@ returns-3 c =
     let i = k1.before.before.before.requires in
     second_reads k1.before.next-is.ensures k1.if1.false
     (second_reads k2.before.next-is2.ensures k2.if2.false
-    (first_reads k3.before.next-is3.ensures k3.if3.true (preceded-reads i l.then-literal4.ensures c.then-or-equal.ensures)))
+    (first_reads k3.before.next-is3.ensures k3.if3.true (preceded_reads i l.then-literal4.ensures c.then-or-equal.ensures)))
 
 then-literal-requires-5 : tie.Need-then-literal-requires-5
 then-literal-requires-5 c κs = search rules
@@ -68,7 +68,7 @@ returns-4 c =
     let i = k1.before.before.before.requires in
     second_reads k1.before.next-is.ensures k1.if1.false
     (second_reads k2.before.next-is2.ensures k2.if2.false
-    (second_reads k3.before.next-is3.ensures k3.if3.false (preceded-reads i l.then-literal5.ensures c.then-or-equal2.ensures)))
+    (second_reads k3.before.next-is3.ensures k3.if3.false (preceded_reads i l.then-literal5.ensures c.then-or-equal2.ensures)))
 
 pub then-comparison-spec : {M : Type 1} → statement M
 then-comparison-spec =

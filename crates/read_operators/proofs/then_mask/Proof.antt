@@ -1,5 +1,5 @@
 use native.Mathlib.Omega.{arith}
-use Rattle.scan_cursors.proofs.Readings.{preceded-reads, terminated-reads, pure-reads}
+use Rattle.scan_cursors.proofs.Readings.{preceded_reads, terminated_reads, pure_reads}
 use Rattle.scan_cursors.proofs.Choices.{first_reads, second_reads}
 use borrow.Author.Rules.{rules}
 use Rattle.read_operators.proofs.then_mask.Statement.{statement}
@@ -29,13 +29,13 @@ returns c =
     let i = k.before.before.before.requires.0 in
     let and = l.then-literal.ensures in
     let gap = g.then-spaces.ensures.1 in
-    let number = terminated-reads gap.inside n.then-numeral.ensures.0 c.then-spaces2.ensures.1 in
-    (first_reads k.before.next-is.ensures k.if1.true (preceded-reads i and (preceded-reads and.inside gap number)), n.then-numeral.ensures.1)
+    let number = terminated_reads gap.inside n.then-numeral.ensures.0 c.then-spaces2.ensures.1 in
+    (first_reads k.before.next-is.ensures k.if1.true (preceded_reads i and (preceded_reads and.inside gap number)), n.then-numeral.ensures.1)
 
 returns-2 : tie.Need-returns-2
 returns-2 c =
     let i = c.before.before.before.requires.0 in
-    (second_reads c.before.next-is.ensures c.if1.false (pure-reads _ _ _ i), omega arith)
+    (second_reads c.before.next-is.ensures c.if1.false (pure_reads _ _ _ i), omega arith)
 
 pub then-mask-spec : {M : Type 1} → statement M
 then-mask-spec =

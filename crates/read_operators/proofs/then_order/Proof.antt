@@ -1,4 +1,4 @@
-use Rattle.scan_cursors.proofs.Readings.{fmap-reads, pure-reads}
+use Rattle.scan_cursors.proofs.Readings.{fmap_reads, pure_reads}
 use Rattle.scan_cursors.proofs.Choices.{first_reads, second_reads, row_reads}
 use borrow.Author.Rules.{rules}
 use Rattle.read_operators.proofs.then_order.Statement.{statement}
@@ -14,7 +14,7 @@ returns : tie.Need-returns
 returns c =
     let k1 = c.before in
     let i = k1.before.before.before.requires in
-    row_reads i (first_reads k1.before.next-is.ensures k1.if1.true (fmap-reads _ c.then-literal.ensures))
+    row_reads i (first_reads k1.before.next-is.ensures k1.if1.true (fmap_reads _ c.then-literal.ensures))
 
 next-is-requires-2 : tie.Need-next-is-requires-2
 next-is-requires-2 c κs = search rules
@@ -29,7 +29,7 @@ returns-2 c =
     let i = k1.before.before.before.requires in
     row_reads i
     (second_reads k1.before.next-is.ensures k1.if1.false
-    (first_reads k2.before.next-is2.ensures k2.if2.true (fmap-reads _ c.then-literal2.ensures)))
+    (first_reads k2.before.next-is2.ensures k2.if2.true (fmap_reads _ c.then-literal2.ensures)))
 
 returns-3 : tie.Need-returns-3
 returns-3 c =
@@ -38,7 +38,7 @@ returns-3 c =
     let i = k1.before.before.before.requires in
     row_reads i
     (second_reads k1.before.next-is.ensures k1.if1.false
-    (second_reads k2.before.next-is2.ensures k2.if2.false (pure-reads _ _ _ i)))
+    (second_reads k2.before.next-is2.ensures k2.if2.false (pure_reads _ _ _ i)))
 
 pub then-order-spec : {M : Type 1} → statement M
 then-order-spec =

@@ -1,6 +1,6 @@
 -- Each return rewrites with what `is_usable` ensures of the test that led there.
 use mathlib.Core.Path.{sym, ◌∙◌}
-use Rattle.read_references.specs.Counting.{usableFrom}
+use Rattle.read_references.specs.Counting.{usable_from}
 use borrow.Author.Rules.{rules}
 use Rattle.read_references.proofs.past_pattern.Statement.{statement}
 use Rattle.read_references.proofs.past_pattern.Tie as tie
@@ -15,11 +15,11 @@ add-t6 : tie.Need-overflow-add-t6
 add-t6 c = search rules
 
 returns : tie.Need-returns
-unfolding usableFrom
+unfolding usable_from
 returns c = simp (sym c.before.before.before.is-usable.ensures ∙ c.before.before.if1.true, c.before.last-after.ensures)
 
 returns-2 : tie.Need-returns-2
-unfolding usableFrom
+unfolding usable_from
 returns-2 c = simp (sym c.before.is-usable.ensures ∙ c.if1.false)
 
 pub past-pattern-spec : {M : Type 1} → statement M

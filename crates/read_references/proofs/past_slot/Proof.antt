@@ -1,8 +1,8 @@
 -- Each return rewrites with the test that led there; an item that is no pattern is of one of three kinds, which leave the run as it is.
 use mathlib.Core.Path.{◌≡◌, refl}
 use Rattle.definitions.specs.Items.{Kind}
-use Rattle.definitions.proofs.OtherItems.{other-kind}
-use Rattle.read_references.specs.Counting.{past, pastOpen}
+use Rattle.definitions.proofs.OtherItems.{other_kind}
+use Rattle.read_references.specs.Counting.{past, past_open}
 use borrow.Author.Rules.{rules}
 use Rattle.read_references.proofs.past_slot.Statement.{statement}
 use Rattle.read_references.proofs.past_slot.Tie as tie
@@ -18,7 +18,7 @@ returns-2 : tie.Need-returns-2
 unfolding past
 returns-2 c =
     let args = c.before.before.args in
-    simp c.before.if1.false (other-kind (λ (k : Kind). args.run ≡ pastOpen k args.run) refl (λ a. refl) refl args.slot.item c.match.keys2)
+    simp c.before.if1.false (other_kind (λ (k : Kind). args.run ≡ past_open k args.run) refl (λ a. refl) refl args.slot.item c.match.keys2)
 
 past-pattern-requires : tie.Need-past-pattern-requires
 past-pattern-requires c κs = search rules

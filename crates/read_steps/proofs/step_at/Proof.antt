@@ -1,7 +1,7 @@
 -- Each way on is the definition's from its first byte on: a `)`, an option, or neither.
 use mathlib.Core.Path.{sym, ◌∙◌}
-use Rattle.read_frame.proofs.Dashes.{dashes-two}
-use Rattle.read_steps.proofs.Looping.{goes_close, goes-nowhere, goes-option}
+use Rattle.read_frame.proofs.Dashes.{dashes_two}
+use Rattle.read_steps.proofs.Looping.{goes_close, goes_nowhere, goes_option}
 use borrow.Author.Rules.{rules}
 use Rattle.read_steps.proofs.step_at.Statement.{statement}
 use Rattle.read_steps.proofs.step_at.Tie as tie
@@ -38,7 +38,7 @@ option-step-requires c κs =
       holds = pre.holds;
       latest = pre.latest;
       after = pre.after;
-      inside = dashes-two _ _ pre.inside (sym c.before.before.dashes-at.ensures ∙ c.before.if2.true);
+      inside = dashes_two _ _ pre.inside (sym c.before.before.dashes-at.ensures ∙ c.before.if2.true);
       short = pre.short;
     }
 
@@ -51,7 +51,7 @@ returns-2 c =
     let stepped = c.before.before.option-step in
     let dashed = sym c.before.before.before.before.before.dashes-at.ensures ∙ c.before.before.before.before.if2.true in
     let unclosed = c.before.before.before.before.before.before.if1.false in
-    goes-option x.s.now x.at pre.inside located x.st x.bytes.now pre.solid unclosed _ _ dashed
+    goes_option x.s.now x.at pre.inside located x.st x.bytes.now pre.solid unclosed _ _ dashed
     stepped.result.step stepped.result.state (stepped.ensures located items held latest)
 
 same_length : tie.Need-same-length
@@ -68,7 +68,7 @@ returns-3 c =
     let pre = start.requires in
     let none = sym c.before.before.dashes-at.ensures ∙ c.before.if2.false in
     rw c.step-only2.ensures
-    (goes-nowhere x.s.now x.at pre.inside located x.st x.bytes.now pre.solid c.before.before.before.if1.false items none)
+    (goes_nowhere x.s.now x.at pre.inside located x.st x.bytes.now pre.solid c.before.before.before.if1.false items none)
 
 pub step-at-spec : {M : Type 1} → statement M
 step-at-spec =

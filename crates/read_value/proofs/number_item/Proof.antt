@@ -6,18 +6,18 @@ use types.Run.{OneOf, miss}
 use borrow.Author.Rules.{rules}
 use Rattle.definitions.specs.contracts.table.NumberField.{the_type}
 use Rattle.definitions.specs.declared.table.NumberField.{NumberField}
-use Rattle.definitions.specs.declared.table.NumberField.TheVariants as numberField
+use Rattle.definitions.specs.declared.table.NumberField.TheVariants as number_field
 use Rattle.definitions.specs.declared.table.NumberTest.{NumberTest}
 use Rattle.definitions.specs.declared.table.Item.TheVariants as item
-use Rattle.definitions.specs.IpId.{renewedNumber}
+use Rattle.definitions.specs.IpId.{renewed_number}
 use Rattle.read_value.proofs.number_item.Statement.{statement}
 use Rattle.read_value.proofs.number_item.Tie as tie
 
-others-kept : (a : NumberTest) (f : NumberField) → OneOf (1 ∷ 2 ∷ 3 ∷ []) (tag_of the_type f) → item.Number a ≡ renewedNumber a f
-others-kept a numberField.IpId k = absurd (miss (1 ∷ 2 ∷ 3 ∷ []) 0 tt k)
-others-kept a numberField.SourcePort k = refl
-others-kept a numberField.DestinationPort k = refl
-others-kept a numberField.Tos k = refl
+others-kept : (a : NumberTest) (f : NumberField) → OneOf (1 ∷ 2 ∷ 3 ∷ []) (tag_of the_type f) → item.Number a ≡ renewed_number a f
+others-kept a number_field.IpId k = absurd (miss (1 ∷ 2 ∷ 3 ∷ []) 0 tt k)
+others-kept a number_field.SourcePort k = refl
+others-kept a number_field.DestinationPort k = refl
+others-kept a number_field.Tos k = refl
 
 enum_told : tie.Need-enum-told
 enum_told c = search rules

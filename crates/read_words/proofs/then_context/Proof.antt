@@ -1,6 +1,6 @@
 use Rattle.forms.specs.Bytes.{text}
 use Rattle.scan_cursors.proofs.Choices.{first_reads, second_reads}
-use Rattle.scan_pieces.proofs.Wording.{keyword-reads}
+use Rattle.scan_pieces.proofs.Wording.{keyword_reads}
 use borrow.Author.Rules.{rules}
 use Rattle.read_words.proofs.then_context.Statement.{statement}
 use Rattle.read_words.proofs.then_context.Tie as tie
@@ -18,7 +18,7 @@ returns : tie.Need-returns
 returns c =
     let k1 = c.before.before in
     let i = k1.before.before.before.requires in
-    first_reads k1.before.next-is-letter.ensures k1.if1.true (keyword-reads (text "packet") _ i c.then-word.ensures)
+    first_reads k1.before.next-is-letter.ensures k1.if1.true (keyword_reads (text "packet") _ i c.then-word.ensures)
 
 next-is-letter-requires-2 : tie.Need-next-is-letter-requires-2
 next-is-letter-requires-2 c κs = search rules
@@ -35,7 +35,7 @@ returns-2 c =
     let k1 = k2.before.before in
     let i = k1.before.before.before.requires in
     second_reads k1.before.next-is-letter.ensures k1.if1.false
-    (first_reads k2.before.next-is-letter2.ensures k2.if2.true (keyword-reads (text "uri") _ i c.then-word2.ensures))
+    (first_reads k2.before.next-is-letter2.ensures k2.if2.true (keyword_reads (text "uri") _ i c.then-word2.ensures))
 
 next-is-letter-requires-3 : tie.Need-next-is-letter-requires-3
 next-is-letter-requires-3 c κs = search rules
@@ -85,7 +85,7 @@ returns-5 c =
     second_reads k1.before.next-is-letter.ensures k1.if1.false
     (second_reads k2.before.next-is-letter2.ensures k2.if2.false
     (second_reads k3.before.next-is-letter3.ensures k3.if3.false
-    (second_reads k4.before.next-is-letter4.ensures k4.if4.false (keyword-reads (text "file") _ i c.then-word3.ensures))))
+    (second_reads k4.before.next-is-letter4.ensures k4.if4.false (keyword_reads (text "file") _ i c.then-word3.ensures))))
 
 pub then-context-spec : {M : Type 1} → statement M
 then-context-spec =

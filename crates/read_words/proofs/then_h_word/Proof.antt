@@ -1,5 +1,5 @@
 use Rattle.forms.specs.Bytes.{text}
-use Rattle.scan_cursors.proofs.Readings.{preceded-reads}
+use Rattle.scan_cursors.proofs.Readings.{preceded_reads}
 use Rattle.scan_steps.proofs.EitherWord.{either_first, either_second}
 use borrow.Author.Rules.{rules}
 use Rattle.read_words.proofs.then_h_word.Statement.{statement}
@@ -25,7 +25,7 @@ returns c =
     let e = c.before in
     let w = e.before.before.before in
     let start = w.then-word.ensures in
-    preceded-reads w.before.before.before.requires start
+    preceded_reads w.before.before.before.requires start
     (either_first (text "eader") (text "ost") _ _ start.inside e.then-either-word.ensures.0 c.if1.true)
 
 returns-2 : tie.Need-returns-2
@@ -33,7 +33,7 @@ returns-2 c =
     let e = c.before in
     let w = e.before.before.before in
     let start = w.then-word.ensures in
-    preceded-reads w.before.before.before.requires start
+    preceded_reads w.before.before.before.requires start
     (either_second (text "eader") (text "ost") _ _ start.inside e.then-either-word.ensures.0 c.if1.false)
 
 pub then-h-word-spec : {M : Type 1} → statement M

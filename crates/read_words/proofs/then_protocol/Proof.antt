@@ -1,7 +1,7 @@
 use Rattle.forms.specs.Bytes.{text}
 use native.Mathlib.Omega.{arith}
 use Rattle.scan_cursors.proofs.Choices.{first_reads, second_reads}
-use Rattle.scan_pieces.proofs.Wording.{keyword-reads}
+use Rattle.scan_pieces.proofs.Wording.{keyword_reads}
 use borrow.Author.Rules.{rules}
 use Rattle.read_words.proofs.then_protocol.Statement.{statement}
 use Rattle.read_words.proofs.then_protocol.Tie as tie
@@ -19,7 +19,7 @@ returns : tie.Need-returns
 returns c =
     let k1 = c.before.before in
     let i = k1.before.before.before.requires in
-    (first_reads k1.before.next-is-letter.ensures k1.if1.true (keyword-reads (text "tcp") _ i c.then-word.ensures), omega arith)
+    (first_reads k1.before.next-is-letter.ensures k1.if1.true (keyword_reads (text "tcp") _ i c.then-word.ensures), omega arith)
 
 next-is-letter-requires-2 : tie.Need-next-is-letter-requires-2
 next-is-letter-requires-2 c κs = search rules
@@ -36,7 +36,7 @@ returns-2 c =
     let k1 = k2.before.before in
     let i = k1.before.before.before.requires in (
       second_reads k1.before.next-is-letter.ensures k1.if1.false
-          (first_reads k2.before.next-is-letter2.ensures k2.if2.true (keyword-reads (text "udp") _ i c.then-word2.ensures)),
+          (first_reads k2.before.next-is-letter2.ensures k2.if2.true (keyword_reads (text "udp") _ i c.then-word2.ensures)),
       omega arith,
     )
 
@@ -57,7 +57,7 @@ returns-3 c =
     let i = k1.before.before.before.requires in (
       second_reads k1.before.next-is-letter.ensures k1.if1.false
           (second_reads k2.before.next-is-letter2.ensures k2.if2.false
-          (first_reads k3.before.next-is-letter3.ensures k3.if3.true (keyword-reads (text "icmp") _ i c.then-word3.ensures))),
+          (first_reads k3.before.next-is-letter3.ensures k3.if3.true (keyword_reads (text "icmp") _ i c.then-word3.ensures))),
       omega arith,
     )
 

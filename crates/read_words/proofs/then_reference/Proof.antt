@@ -1,6 +1,6 @@
 use Rattle.forms.specs.Bytes.{text}
 use Rattle.scan_cursors.proofs.Choices.{first_reads, second_reads}
-use Rattle.scan_pieces.proofs.Wording.{keyword-reads}
+use Rattle.scan_pieces.proofs.Wording.{keyword_reads}
 use Rattle.scan_steps.proofs.EitherWord.{either_first, either_second}
 use borrow.Author.Rules.{rules}
 use Rattle.read_words.proofs.then_reference.Statement.{statement}
@@ -18,7 +18,7 @@ then-word-requires c κs = search rules
 returns : tie.Need-returns
 returns c =
     let k = c.before.before in
-    first_reads k.before.next-is-letter.ensures k.if1.true (keyword-reads (text "match") _ k.before.before.before.requires c.then-word.ensures)
+    first_reads k.before.next-is-letter.ensures k.if1.true (keyword_reads (text "match") _ k.before.before.before.requires c.then-word.ensures)
 
 slice-aggregate-then-either-word : tie.Need-slice-aggregate-then-either-word
 slice-aggregate-then-either-word c = search rules

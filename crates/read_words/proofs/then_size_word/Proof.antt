@@ -1,6 +1,6 @@
 use Rattle.forms.specs.Bytes.{text}
 use Rattle.scan_cursors.proofs.Choices.{first_reads, second_reads}
-use Rattle.scan_pieces.proofs.Wording.{keyword-reads}
+use Rattle.scan_pieces.proofs.Wording.{keyword_reads}
 use Rattle.scan_steps.proofs.EitherWord.{either_first, either_second}
 use borrow.Author.Rules.{rules}
 use Rattle.read_words.proofs.then_size_word.Statement.{statement}
@@ -19,7 +19,7 @@ returns : tie.Need-returns
 returns c =
     let k1 = c.before.before in
     let i = k1.before.before.before.requires in
-    first_reads k1.before.next-is-letter.ensures k1.if1.true (keyword-reads (text "payload") _ i c.then-word.ensures)
+    first_reads k1.before.next-is-letter.ensures k1.if1.true (keyword_reads (text "payload") _ i c.then-word.ensures)
 
 next-is-letter-requires-2 : tie.Need-next-is-letter-requires-2
 next-is-letter-requires-2 c κs = search rules
@@ -36,7 +36,7 @@ returns-2 c =
     let k1 = k2.before.before in
     let i = k1.before.before.before.requires in
     second_reads k1.before.next-is-letter.ensures k1.if1.false
-    (first_reads k2.before.next-is-letter2.ensures k2.if2.true (keyword-reads (text "uri") _ i c.then-word2.ensures))
+    (first_reads k2.before.next-is-letter2.ensures k2.if2.true (keyword_reads (text "uri") _ i c.then-word2.ensures))
 
 slice-aggregate-then-either-word : tie.Need-slice-aggregate-then-either-word
 slice-aggregate-then-either-word c = search rules

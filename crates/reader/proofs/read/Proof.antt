@@ -8,23 +8,23 @@ use Prim.Native.Nat.{◌-◌, ◌≤◌}
 use borrow.Author.Rules.{rules}
 use lib.ListN.{length, drop, replicate, set}
 use lib.Seq.{set_out}
-use Rattle.definitions.specs.Limits.{documentLimits, maxItems}
-use Rattle.definitions.specs.Reading.{Located, atLetter, options, finished, read}
+use Rattle.definitions.specs.Limits.{document_limits, max_items}
+use Rattle.definitions.specs.Reading.{Located, at_letter, options, finished, read}
 use Rattle.laws.proofs.Numbers.{read_told}
 use Rattle.read_frame.specs.declared.Front.{Front}
 use Rattle.read_frame.specs.Framing.{Fronts}
 use Rattle.read_state.specs.State.{Holds}
-use Rattle.read_insert.specs.Checking.{tableIn}
-use Rattle.read_insert.proofs.OneMore.{sound, bytes-full, items-full}
+use Rattle.read_insert.specs.Checking.{table_in}
+use Rattle.read_insert.proofs.OneMore.{sound, bytes_full, items_full}
 use Rattle.read_steps.proofs.OptionSteps.{fresh_holds}
-use Rattle.read_steps.proofs.Looping.{goes-space, goes-told, loop-out}
+use Rattle.read_steps.proofs.Looping.{goes_space, goes_told, loop_out}
 use Rattle.reader.proofs.read.Statement.{statement}
 use Rattle.reader.proofs.read.Tie as tie
 
 abbrev invariant-loop : tie.invariant-loop
 invariant-loop s bytes₀ items₀ st₀ at₀ bytes items st at =
-    (located : List Located) × Holds s located st bytes items × (st.used ≤ at) × (at ≤ length s) × (length s ≤ documentLimits.text)
-    × (read documentLimits s ≡ finished documentLimits.room s (options atLetter s (drop at s) 0 at located))
+    (located : List Located) × Holds s located st bytes items × (st.used ≤ at) × (at ≤ length s) × (length s ≤ document_limits.text)
+    × (read document_limits s ≡ finished document_limits.room s (options at_letter s (drop at s) 0 at located))
 
 abbrev decreases-loop : tie.decreases-loop
 decreases-loop s bytes₀ items₀ st₀ at₀ bytes items st at = length s - at
@@ -59,8 +59,8 @@ loop-holds c =
     let front = subst (λ (f : Front). Fronts s f) c.before.before.enum_told.given.1 c.before.before.before.before.front_of.ensures in
     let none = c.before.no-slot in
     let f =
-    fresh_holds s c.fresh.result (replicate documentLimits.room 0) (replicate maxItems none.result) c.fresh.ensures refl
-    (ap (replicate maxItems) none.ensures) in
+    fresh_holds s c.fresh.result (replicate document_limits.room 0) (replicate max_items none.result) c.fresh.ensures refl
+    (ap (replicate max_items) none.ensures) in
     ([], f.0, (let z = f.1 in omega arith), front.1, front.2, front.0)
 
 shared-slice-read-b : tie.Need-shared-slice-read-b invariant-loop decreases-loop
@@ -76,8 +76,8 @@ loop-again : tie.Need-loop-preserved invariant-loop decreases-loop
 loop-again c =
     let l = c.before.before.before.loop in
     let i = l.invariant in
-    let g = goes-space _ _ c.before.before.loop-test.true i.0 l.st l.bytes i.1 i.2 c.if1.true in
-    (g.0, g.2, g.3, g.5, i.4, i.5 ∙ ap (finished documentLimits.room _) g.1)
+    let g = goes_space _ _ c.before.before.loop-test.true i.0 l.st l.bytes i.1 i.2 c.if1.true in
+    (g.0, g.2, g.3, g.5, i.4, i.5 ∙ ap (finished document_limits.room _) g.1)
 
 mul-last : tie.Need-overflow-mul-last invariant-loop decreases-loop
 mul-last c = let h = (sound c.before.before.before.loop.invariant.1).last in omega arith
@@ -91,7 +91,7 @@ slice-aggregate-step-at c =
     let a = i.2 in
     let b = i.3 in
     let t = i.4 in
-    sym (bytes-full i.1 (omega arith))
+    sym (bytes_full i.1 (omega arith))
 
 step-at-requires : tie.Need-step-at-requires invariant-loop decreases-loop
 step-at-requires c κs =
@@ -122,7 +122,7 @@ loop-less-2 c =
     let i = l.invariant in
     let t = c.before.before.before.before.before.before.step-at in
     let told = c.before.before.before.step.given.1 in
-    let g = goes-told _ l.bytes l.st _ l.at t.new.1.0 t.result t.ensures _ told i.0 l.items i.1 refl i.2 in
+    let g = goes_told _ l.bytes l.st _ l.at t.new.1.0 t.result t.ensures _ told i.0 l.items i.1 refl i.2 in
     let a = g.4 in
     let b = g.5 in
     omega arith
@@ -133,10 +133,10 @@ loop-again-2 c =
     let i = l.invariant in
     let t = c.before.before.before.before.before.before.step-at in
     let told = c.before.before.before.step.given.1 in
-    let g = goes-told _ l.bytes l.st _ l.at t.new.1.0 t.result t.ensures _ told i.0 l.items i.1 refl i.2 in
+    let g = goes_told _ l.bytes l.st _ l.at t.new.1.0 t.result t.ensures _ told i.0 l.items i.1 refl i.2 in
     let put : c.before.if2.items ≡ set l.items t.result.place t.result.slot =
-    ⊎_elim (λ w. w.2) (λ w. w.1 ∙ sym (set_out l.items _ _ (omega (arith, w.0.left, items-full i.1)))) c.before.if2.branch in
-    (g.0, rw put g.2, g.3, g.5, i.4, i.5 ∙ ap (finished documentLimits.room _) g.1)
+    ⊎_elim (λ w. w.2) (λ w. w.1 ∙ sym (set_out l.items _ _ (omega (arith, w.0.left, items_full i.1)))) c.before.if2.branch in
+    (g.0, rw put g.2, g.3, g.5, i.4, i.5 ∙ ap (finished document_limits.room _) g.1)
 
 enum-told-2 : tie.Need-enum-told-2 invariant-loop decreases-loop
 enum-told-2 c = search rules
@@ -156,10 +156,10 @@ returns-2 c =
     let i = l.invariant in
     let t = c.before.before.before.before.before.before.before.before.step-at in
     let told = c.before.before.before.before.before.enum-told2.given.1 in
-    let g = goes-told _ l.bytes l.st _ l.at t.new.1.0 t.result t.ensures _ told i.0 l.items i.1 refl i.2 in
+    let g = goes_told _ l.bytes l.st _ l.at t.new.1.0 t.result t.ensures _ told i.0 l.items i.1 refl i.2 in
     let judged = c.before.before.before.before.finish.ensures _ l.bytes i.0 refl i.1 in
     read_told _
-    (c.refused2.ensures ∙ rw c.before.before.outcome.given.1 at judged ∙ sym (i.5 ∙ ap (finished documentLimits.room _) g.0))
+    (c.refused2.ensures ∙ rw c.before.before.outcome.given.1 at judged ∙ sym (i.5 ∙ ap (finished document_limits.room _) g.0))
 
 enum-told-3 : tie.Need-enum-told-3 invariant-loop decreases-loop
 enum-told-3 c = search rules
@@ -170,16 +170,16 @@ name-of-requires c κs =
     (named.short, named.inside)
 
 returns-3 : tie.Need-returns-3 invariant-loop decreases-loop
-unfolding tableIn
+unfolding table_in
 returns-3 c =
     let l = c.before.before.before.before.before.before.before.before.before.before.before.before.before.loop in
     let i = l.invariant in
     let t = c.before.before.before.before.before.before.before.step-at in
     let told = c.before.before.before.before.enum-told2.given.1 in
-    let g = goes-told _ l.bytes l.st _ l.at t.new.1.0 t.result t.ensures _ told i.0 l.items i.1 refl i.2 in
+    let g = goes_told _ l.bytes l.st _ l.at t.new.1.0 t.result t.ensures _ told i.0 l.items i.1 refl i.2 in
     let judged = c.before.before.before.finish.ensures _ l.bytes i.0 refl i.1 in
     read_told _
-    (rw (c.name_of.ensures, g.1) (rw c.before.enum-told3.given.1 at judged) ∙ sym (i.5 ∙ ap (finished documentLimits.room _) g.0))
+    (rw (c.name_of.ensures, g.1) (rw c.before.enum-told3.given.1 at judged) ∙ sym (i.5 ∙ ap (finished document_limits.room _) g.0))
 
 enum-known-step-2 : tie.Need-enum-known-step-2 invariant-loop decreases-loop
 enum-known-step-2 c = search rules
@@ -193,8 +193,8 @@ returns-4 c =
     let i = l.invariant in
     let t = c.before.before.before.before.before.step-at in
     let told = c.before.before.step2.given.1 in
-    let g = goes-told _ l.bytes l.st _ l.at t.new.1.0 t.result t.ensures _ told i.0 l.items i.1 refl i.2 in
-    read_told _ (c.refused3.ensures ∙ sym (i.5 ∙ ap (finished documentLimits.room _) g))
+    let g = goes_told _ l.bytes l.st _ l.at t.new.1.0 t.result t.ensures _ told i.0 l.items i.1 refl i.2 in
+    read_told _ (c.refused3.ensures ∙ sym (i.5 ∙ ap (finished document_limits.room _) g))
 
 refused-requires-4 : tie.Need-refused-requires-4 invariant-loop decreases-loop
 refused-requires-4 c κs = tt
@@ -203,7 +203,7 @@ returns-5 : tie.Need-returns-5 invariant-loop decreases-loop
 returns-5 c =
     let l = c.before.before.loop in
     let i = l.invariant in
-    read_told _ (c.refused4.ensures ∙ sym (i.5 ∙ ap (finished documentLimits.room _) (loop-out _ l.at i.0 c.before.loop-test.false)))
+    read_told _ (c.refused4.ensures ∙ sym (i.5 ∙ ap (finished document_limits.room _) (loop_out _ l.at i.0 c.before.loop-test.false)))
 
 pub read_spec : {M : Type 1} → statement M
 read_spec =

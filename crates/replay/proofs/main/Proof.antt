@@ -1,6 +1,6 @@
 -- What is read is within the room.
 use mathlib.Core.Path.{subst}
-use Rattle.book_file.specs.Counted.{countWithin}
+use Rattle.book_file.specs.Counted.{CountWithin}
 use borrow.Author.Rules.{rules}
 use Rattle.replay.proofs.main.Statement.{statement}
 use Rattle.replay.proofs.main.Tie as tie
@@ -14,7 +14,7 @@ enum-known-file c = search rules
 run-book-requires : tie.Need-run-book-requires
 run-book-requires c κs =
     let file = c.before.before in
-    subst (countWithin 65537) file.file.given.1 file.before.before.read-book.ensures
+    subst (CountWithin 65537) file.file.given.1 file.before.before.read-book.ensures
 
 enum_told : tie.Need-enum-told
 enum_told c = search rules

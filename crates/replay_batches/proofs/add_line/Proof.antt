@@ -4,7 +4,7 @@ use mathlib.Core.Logic.{⊎_elim}
 use native.Mathlib.Numerals.{add-one}
 use borrow.Author.Rules.{rules}
 use lib.ListN.{length, set, length-set}
-use Rattle.replay_batches.proofs.Gathering.{good-mark, bad-mark}
+use Rattle.replay_batches.proofs.Gathering.{good_mark, bad_mark}
 use Rattle.replay_batches.proofs.add_line.Statement.{statement}
 use Rattle.replay_batches.proofs.add_line.Tie as tie
 
@@ -38,8 +38,8 @@ returns c =
       put = put.put-line.ensures.1;
       noted =
           ⊎_elim
-          (λ w. w.1 ∙ sym (ap (set x.marks.now x.g.lines) (good-mark x.line.now (is ∙ w.0.taken))))
-          (λ w. w.1 ∙ sym (ap (set x.marks.now x.g.lines) (bad-mark x.line.now (is ∙ w.0.left))))
+          (λ w. w.1 ∙ sym (ap (set x.marks.now x.g.lines) (good_mark x.line.now (is ∙ w.0.taken))))
+          (λ w. w.1 ∙ sym (ap (set x.marks.now x.g.lines) (bad_mark x.line.now (is ∙ w.0.left))))
           c.if1.branch;
       more = add-one x.g.lines;
     }

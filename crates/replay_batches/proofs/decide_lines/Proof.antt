@@ -1,9 +1,9 @@
--- What is gathered is decided as a block, and its numbers are given to the good lines (`gathered-decides`).
+-- What is gathered is decided as a block, and its numbers are given to the good lines (`gathered_decides`).
 use borrow.Author.Rules.{rules}
 use native.Mathlib.Omega.{arith}
-use Rattle.definitions.specs.Limits.{documentLimits}
-use Rattle.definitions.specs.LoadedBooks.{rulesIn}
-use Rattle.replay_batches.proofs.Deciding.{gathered-decides}
+use Rattle.definitions.specs.Limits.{document_limits}
+use Rattle.definitions.specs.LoadedBooks.{rules_in}
+use Rattle.replay_batches.proofs.Deciding.{gathered_decides}
 use Rattle.replay_batches.proofs.decide_lines.Statement.{statement}
 use Rattle.replay_batches.proofs.decide_lines.Tie as tie
 
@@ -30,7 +30,7 @@ returns c =
     let decided = c.before.before.before.before in
     let gathered = decided.before.before.before.before.before in
     let x = gathered.before.before.before.before.before.before.args in
-    gathered-decides documentLimits (rulesIn x.book.now x.rules) x.numbers.now gathered.gather.ensures decided.decide-block.ensures.0
+    gathered_decides document_limits (rules_in x.book.now x.rules) x.numbers.now gathered.gather.ensures decided.decide-block.ensures.0
     (omega arith) c.number-lines.ensures (omega arith)
 
 pub decide-lines-spec : {M : Type 1} → statement M

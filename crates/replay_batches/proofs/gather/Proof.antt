@@ -3,13 +3,13 @@ use mathlib.Core.List.{[], ◌∷◌}
 use Prim.Native.Nat.{◌-◌}
 use native.Mathlib.Omega.{arith}
 use lib.ListN.{length, drop}
-use Rattle.line_stream.specs.Ended.{endedLines}
-use Rattle.replay_batches.proofs.Gathering.{Gathering, gather-first, gather-next}
+use Rattle.line_stream.specs.Ended.{ended_lines}
+use Rattle.replay_batches.proofs.Gathering.{Gathering, gather_first, gather_next}
 use Rattle.replay_batches.proofs.gather.Statement.{statement}
 use Rattle.replay_batches.proofs.gather.Tie as tie
 
 abbrev invariant-loop : tie.invariant-loop
-invariant-loop first rest block₀ marks₀ g₀ at₀ block marks g at = Gathering (first ∷ endedLines [] rest) block marks g (endedLines [] (drop at rest))
+invariant-loop first rest block₀ marks₀ g₀ at₀ block marks g at = Gathering (first ∷ ended_lines [] rest) block marks g (ended_lines [] (drop at rest))
 
 abbrev decreases-loop : tie.decreases-loop
 decreases-loop first rest block₀ marks₀ g₀ at₀ block marks g at = length rest - at
@@ -21,7 +21,7 @@ loop-holds : tie.Need-loop-init invariant-loop decreases-loop
 loop-holds c =
     let marks = c.before.add-line-arg2.given.0.1 in
     let block = c.before.before.add-line-arg.given.0.1 in
-    gather-first _ c.add-line.ensures (omega (arith, marks)) (omega (arith, block)) (omega (arith, block))
+    gather_first _ c.add-line.ensures (omega (arith, marks)) (omega (arith, block)) (omega (arith, block))
 
 sub-if2 : tie.Need-overflow-sub-if2 invariant-loop decreases-loop
 sub-if2 c = omega arith
@@ -56,7 +56,7 @@ loop-again c =
     let turn = test.before.before.before.before.before.before in
     let marks = c.before.before.add-line-arg4.given.0.1 in
     let block = line.add-line-arg3.given.0.1 in
-    gather-next _ turn.loop.at test.before.lf-from.ensures test.if3.false turn.loop.invariant c.add-line2.ensures
+    gather_next _ turn.loop.at test.before.lf-from.ensures test.if3.false turn.loop.invariant c.add-line2.ensures
     (omega (arith, marks)) (omega (arith, block)) (omega (arith, block))
 
 returns : tie.Need-returns invariant-loop decreases-loop

@@ -2,7 +2,7 @@
 use mathlib.Core.Logic.{⊎_elim}
 use Prim.Native.Nat.{◌-◌}
 use native.Mathlib.Omega.{arith}
-use Rattle.replay_batches.proofs.Numbering.{Numbering, numbering-in, numbering-bad, numbering-good, numbering-out}
+use Rattle.replay_batches.proofs.Numbering.{Numbering, numbering_in, numbering_bad, numbering_good, numbering_out}
 use Rattle.replay_batches.proofs.number_lines.Statement.{statement}
 use Rattle.replay_batches.proofs.number_lines.Tie as tie
 
@@ -13,7 +13,7 @@ abbrev decreases-loop : tie.decreases-loop
 decreases-loop marks₀ n numbers k₀ i₀ marks k i = n - i
 
 loop-holds : tie.Need-loop-init invariant-loop decreases-loop
-loop-holds c = numbering-in _ _ _
+loop-holds c = numbering_in _ _ _
 
 mul-if1 : tie.Need-overflow-mul-if1 invariant-loop decreases-loop
 mul-if1 c = omega arith
@@ -48,15 +48,15 @@ loop-again c =
     let turn = test.before in
     let room = turn.before.requires.0 in
     ⊎_elim
-    (λ w. rw (w.2, w.3) (numbering-good turn.loop.invariant test.loop-test.true room w.0.taken))
-    (λ w. rw (w.1, w.2) (numbering-bad turn.loop.invariant test.loop-test.true room w.0.left))
+    (λ w. rw (w.2, w.3) (numbering_good turn.loop.invariant test.loop-test.true room w.0.taken))
+    (λ w. rw (w.1, w.2) (numbering_bad turn.loop.invariant test.loop-test.true room w.0.left))
     c.if1.branch
 
 same_length : tie.Need-same-length invariant-loop decreases-loop
 same_length c = c.before.loop.invariant.same
 
 returns : tie.Need-returns invariant-loop decreases-loop
-returns c = numbering-out c.before.loop.invariant c.loop-test.false
+returns c = numbering_out c.before.loop.invariant c.loop-test.false
 
 pub number-lines-spec : {M : Type 1} → statement M
 number-lines-spec =

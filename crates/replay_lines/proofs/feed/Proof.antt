@@ -1,26 +1,26 @@
--- The loop is line_stream's; a turn is `replaying-goes`.
+-- The loop is line_stream's; a turn is `replaying_goes`.
 use mathlib.Core.Path.{◌∙◌}
 use Prim.Native.Nat.{◌+◌}
 use native.Mathlib.Omega.{arith}
 use borrow.Author.Rules.{part_to_end}
-use Rattle.definitions.specs.LoadedBooks.{rulesIn}
-use Rattle.line_stream.specs.Steps.{linesLeft}
+use Rattle.definitions.specs.LoadedBooks.{rules_in}
+use Rattle.line_stream.specs.Steps.{lines_left}
 use Rattle.line_stream.proofs.Loop as loop
 use Rattle.line_stream.proofs.Feeds.{same_out}
-use Rattle.line_stream.proofs.Keeping.{keeps-length}
-use Rattle.replay_lines.proofs.NarrowRules.{typed-narrow}
-use Rattle.replay_lines.proofs.Counting.{counted-ends}
-use Rattle.replay_lines.proofs.Replaying.{Replaying, replaying-begins, replaying-goes}
-use Rattle.replay_lines.proofs.Whole.{feed-whole}
+use Rattle.line_stream.proofs.Keeping.{keeps_length}
+use Rattle.replay_lines.proofs.NarrowRules.{typed_narrow}
+use Rattle.replay_lines.proofs.Counting.{counted_ends}
+use Rattle.replay_lines.proofs.Replaying.{Replaying, replaying_begins, replaying_goes}
+use Rattle.replay_lines.proofs.Whole.{feed_whole}
 use Rattle.replay_lines.proofs.feed.Statement.{statement}
 use Rattle.replay_lines.proofs.feed.Tie as tie
 
 abbrev invariant-loop : tie.invariant-loop
 invariant-loop book rules input line₀ out₀ block₀ numbers₀ answers₀ ahead₀ sum₀ t₀ line out block numbers answers ahead sum t =
-    Replaying (rulesIn book rules) input line₀ out₀ t₀ sum₀ line out answers ahead sum t
+    Replaying (rules_in book rules) input line₀ out₀ t₀ sum₀ line out answers ahead sum t
 
 abbrev decreases-loop : tie.decreases-loop
-decreases-loop book rules input line₀ out₀ block₀ numbers₀ answers₀ ahead₀ sum₀ t₀ line out block numbers answers ahead sum t = linesLeft input t
+decreases-loop book rules input line₀ out₀ block₀ numbers₀ answers₀ ahead₀ sum₀ t₀ line out block numbers answers ahead sum t = lines_left input t
 
 first-line-requires : tie.Need-first-line-requires invariant-loop decreases-loop
 first-line-requires c κs = tt
@@ -28,7 +28,7 @@ first-line-requires c κs = tt
 loop-holds : tie.Need-loop-init invariant-loop decreases-loop
 loop-holds c =
     let first = c.before.before in
-    replaying-begins _ (keeps-length first.first-line.ensures.keeps ∙ first.before.before.first-line-arg.given.0.1)
+    replaying_begins _ (keeps_length first.first-line.ensures.keeps ∙ first.before.before.first-line-arg.given.0.1)
 
 add-after : tie.Need-overflow-add-after invariant-loop decreases-loop
 add-after c =
@@ -101,7 +101,7 @@ loop-again c =
     let test = kept.before.before.before.before.before in
     let start = test.before.before.before.before.before.before.before.before.before.before in
     let x = start.args in
-    replaying-goes _ (typed-narrow _ _ _ start.well-formed.1.0) test.before.loop.invariant test.loop-test.true kept.kept.ensures
+    replaying_goes _ (typed_narrow _ _ _ start.well-formed.1.0) test.before.loop.invariant test.loop-test.true kept.kept.ensures
     (part_to_end x.input.now (test.before.loop.t.fed.taken + 1)) ready.look-ahead.ensures.0 ready.look-ahead.ensures.1
     number.number_at.ensures.0 put.put-outcome.ensures next.next-line.ensures c.count-if.ensures
 
@@ -112,7 +112,7 @@ returns c =
     let first = test.before.before.before.before in
     let long = first.before.before.first-line-arg.given.0.1 in
     let feeds = loop.loop-ends _ inv.lines first.first-line.ensures test.loop-test.false in
-    (feeds, (feed-whole _ feeds long, counted-ends _ _ inv.totals first.first-line.ensures (omega (arith, long))))
+    (feeds, (feed_whole _ feeds long, counted_ends _ _ inv.totals first.first-line.ensures (omega (arith, long))))
 
 same_length : tie.Need-same-length invariant-loop decreases-loop
 same_length c = same_out _ (returns c).0

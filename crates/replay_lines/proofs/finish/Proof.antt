@@ -1,10 +1,10 @@
 -- The last line is decided alone and answered as any other, or there is none; then come the totals.
 use borrow.Author.Rules.{rules}
 use Rattle.write_bytes.proofs.Putting.{same_length as same}
-use Rattle.replay_lines.proofs.NarrowRules.{typed-narrow}
-use Rattle.replay_lines.proofs.Lookahead.{decided-one}
-use Rattle.replay_lines.proofs.Ending.{ends-none, ends-one}
-use Rattle.replay_lines.proofs.Whole.{finish-whole}
+use Rattle.replay_lines.proofs.NarrowRules.{typed_narrow}
+use Rattle.replay_lines.proofs.Lookahead.{decided_one}
+use Rattle.replay_lines.proofs.Ending.{ends_none, ends_one}
+use Rattle.replay_lines.proofs.Whole.{finish_whole}
 use Rattle.replay_lines.proofs.finish.Statement.{statement}
 use Rattle.replay_lines.proofs.finish.Tie as tie
 
@@ -45,11 +45,11 @@ returns c =
     let test = kept.before.before in
     let last = test.before.before.before in
     let start = last.before.before.before.before.before in
-    let narrow = typed-narrow _ _ _ start.well-formed.1.0 in
+    let narrow = typed_narrow _ _ _ start.well-formed.1.0 in
     let all =
-    ends-one _ last.last_Line.ensures _ narrow test.if1.true kept.kept.ensures (decided-one _ _ decided.decide-lines.ensures)
+    ends_one _ last.last_Line.ensures _ narrow test.if1.true kept.kept.ensures (decided_one _ _ decided.decide-lines.ensures)
     put.put-outcome.ensures ended.end_line.ensures counted.count.ensures c.before.before.put-totals.ensures in
-    (all, finish-whole _ _ _ all last.before.before.last-line-arg.given.0)
+    (all, finish_whole _ _ _ all last.before.before.last-line-arg.given.0)
 
 put-totals-requires-2 : tie.Need-put-totals-requires-2
 put-totals-requires-2 c κs = search rules
@@ -58,8 +58,8 @@ returns-2 : tie.Need-returns-2
 returns-2 c =
     let test = c.before.before.before.before in
     let last = test.before.before.before in
-    let all = ends-none _ last.last_Line.ensures _ test.if1.false c.before.before.put-totals2.ensures in
-    (all, finish-whole _ _ _ all last.before.before.last-line-arg.given.0)
+    let all = ends_none _ last.last_Line.ensures _ test.if1.false c.before.before.put-totals2.ensures in
+    (all, finish_whole _ _ _ all last.before.before.last-line-arg.given.0)
 
 same_length : tie.Need-same-length
 same_length c = same (returns c).0

@@ -2,11 +2,11 @@
 use mathlib.Core.Path.{sym, ap, ◌∙◌}
 use borrow.Author.Rules.{rules}
 use Rattle.definitions.specs.declared.books.LoadedBook.{LoadedBook}
-use Rattle.definitions.specs.Limits.{documentLimits}
-use Rattle.book_laws.proofs.Loaded.{loaded-judgement}
-use Rattle.write_bytes.proofs.Putting.{told, none-put}
-use Rattle.replay_laws.specs.Replays.{refusedOutput}
-use Rattle.replay_lines.specs.Feeding.{isAccepted, openedText}
+use Rattle.definitions.specs.Limits.{document_limits}
+use Rattle.book_laws.proofs.Loaded.{loaded_judgement}
+use Rattle.write_bytes.proofs.Putting.{told, none_put}
+use Rattle.replay_laws.specs.Replays.{refused_output}
+use Rattle.replay_lines.specs.Feeding.{is_accepted, opened_text}
 use Rattle.replay_lines.proofs.open.Statement.{statement}
 use Rattle.replay_lines.proofs.open.Tie as tie
 
@@ -29,18 +29,18 @@ same_length : tie.Need-same-length
 same_length c = search rules
 
 returns : tie.Need-returns
-unfolding refusedOutput
+unfolding refused_output
 returns c =
     let told-by = c.before.before.before.before.before.before in
     let b = told-by.before.before.before.load.ensures in
-    let judged = sym (loaded-judgement documentLimits _) ∙ sym (ap (λ (x : LoadedBook). x.judgement) b) ∙ told-by.judgement.given.1 in
-    (ap (λ (x : LoadedBook). x.rules) b, (sym (ap isAccepted judged), told (ap openedText judged) c.before.before.put-refused-book.ensures))
+    let judged = sym (loaded_judgement document_limits _) ∙ sym (ap (λ (x : LoadedBook). x.judgement) b) ∙ told-by.judgement.given.1 in
+    (ap (λ (x : LoadedBook). x.rules) b, (sym (ap is_accepted judged), told (ap opened_text judged) c.before.before.put-refused-book.ensures))
 
 returns-2 : tie.Need-returns-2
 returns-2 c =
     let b = c.before.before.before.load.ensures in
-    let judged = sym (loaded-judgement documentLimits _) ∙ sym (ap (λ (x : LoadedBook). x.judgement) b) ∙ c.enum_told.given.1 in
-    (ap (λ (x : LoadedBook). x.rules) b, (sym (ap isAccepted judged), told (ap openedText judged) none-put))
+    let judged = sym (loaded_judgement document_limits _) ∙ sym (ap (λ (x : LoadedBook). x.judgement) b) ∙ c.enum_told.given.1 in
+    (ap (λ (x : LoadedBook). x.rules) b, (sym (ap is_accepted judged), told (ap opened_text judged) none_put))
 
 pub open_spec : {M : Type 1} → statement M
 open_spec =

@@ -3,13 +3,13 @@ use mathlib.Core.Path.{sym, ◌∙◌}
 use native.Mathlib.Omega.{arith}
 use borrow.Author.Tests.{not-true, not-false}
 use Rattle.write_bytes.proofs.Putting.{same_length as same}
-use Rattle.line_packets.proofs.FourColumns.{failed-packet, parsed-packet, packet-value, hex-packet, hex-decoded}
-use Rattle.replay_records.proofs.Lines.{bad-put, long-line, few-tabs, as-columns, good-put}
+use Rattle.line_packets.proofs.FourColumns.{failed_packet, parsed_packet_lem, packet_value, hex_packet, hex_decoded}
+use Rattle.replay_records.proofs.Lines.{bad_put, long_line, few_tabs, as-columns, good-put}
 use Rattle.replay_records.proofs.put_line.Statement.{statement}
 use Rattle.replay_records.proofs.put_line.Tie as tie
 
 returns : tie.Need-returns
-returns c = bad-put _ (long-line c.before.before.before.args.line.now (omega arith))
+returns c = bad_put _ (long_line c.before.before.before.args.line.now (omega arith))
 
 part-after-requires : tie.Need-part-after-requires
 part-after-requires c κs = tt
@@ -27,7 +27,7 @@ returns-2 c =
     let first = second.before in
     let line = first.before.before.before.before.args.line.now in
     let none = sym tabs.contains.ensures ∙ not-true _ c.if2.true in
-    bad-put _ (few-tabs line _ _ (omega arith) first.part-after.ensures second.part-after2.ensures none)
+    bad_put _ (few_tabs line _ _ (omega arith) first.part-after.ensures second.part-after2.ensures none)
 
 part-after-requires-3 : tie.Need-part-after-requires-3
 part-after-requires-3 c κs = tt
@@ -63,13 +63,13 @@ returns-3 c =
     let some = sym test.before.contains.ensures ∙ not-false _ test.if2.false in
     let is = as-columns _ _ _ first.before.if1.false first.part-after.ensures second.part-after2.ensures some
     origin.part-before2.ensures packet.part-before.ensures fields.part-before3.ensures decoded.part-after3.ensures in
-    bad-put _ (is ∙ failed-packet _ _ _ _ (sym parsed.parse-packet.ensures ∙ c.enum_told.given.1))
+    bad_put _ (is ∙ failed_packet _ _ _ _ (sym parsed.parse-packet.ensures ∙ c.enum_told.given.1))
 
 put-record-requires : tie.Need-put-record-requires
 put-record-requires c κs =
     let found = c.before.before in
     let e = sym found.before.before.parse-packet.ensures ∙ found.located.given.1 in
-    (hex-packet _ _ _ _ _ e, hex-decoded _ _ _ _ _ e)
+    (hex_packet _ _ _ _ _ e, hex_decoded _ _ _ _ _ e)
 
 returns-4 : tie.Need-returns-4
 returns-4 c =
@@ -87,7 +87,7 @@ returns-4 c =
     let e = sym parsed.parse-packet.ensures ∙ found.located.given.1 in
     good-put _ _ _ first.before.if1.false first.part-after.ensures second.part-after2.ensures some
     origin.part-before2.ensures packet.part-before.ensures fields.part-before3.ensures decoded.part-after3.ensures
-    (parsed-packet _ _ _ _ _ e) _ (packet-value _ _ _ _ _ e) put.put_record.ensures
+    (parsed_packet_lem _ _ _ _ _ e) _ (packet_value _ _ _ _ _ e) put.put_record.ensures
 
 same_length : tie.Need-same-length
 same_length c = same (returns-4 c).1

@@ -1,7 +1,7 @@
 -- The head, the packet and the decoded buffer, one after the other; their lengths are halves of what their pairs have.
 use Rattle.write_bytes.proofs.Putting.{then, told, same_length as same}
-use Rattle.replay_records.specs.RecordBytes.{recordBytes}
-use Rattle.replay_records.proofs.PairCounts.{pairs-half}
+use Rattle.replay_records.specs.RecordBytes.{record_bytes}
+use Rattle.replay_records.proofs.PairCounts.{pairs_half}
 use Rattle.replay_records.proofs.put_record.Statement.{statement}
 use Rattle.replay_records.proofs.put_record.Tie as tie
 
@@ -15,14 +15,14 @@ put-pairs-requires-2 : tie.Need-put-pairs-requires-2
 put-pairs-requires-2 c κs = c.before.before.before.before.before.before.before.before.before.before.before.before.requires.1
 
 returns : tie.Need-returns
-unfolding recordBytes
+unfolding record_bytes
 returns c =
     let decoded = c.before.before in
     let packet = decoded.before.before.before.before in
     let head = packet.before.before.before.before in
     let x = head.before.before.before.before.before.args in
     told
-    (rw (pairs-half x.packet.now, pairs-half x.decoded.now))
+    (rw (pairs_half x.packet.now, pairs_half x.decoded.now))
     (then head.put-head.ensures (then packet.put-pairs.ensures decoded.put-pairs2.ensures))
 
 same_length : tie.Need-same-length

@@ -2,8 +2,8 @@
 use mathlib.Core.Path.{ap}
 use borrow.Author.Rules.{rules}
 use Rattle.write_bytes.proofs.Putting.{then, told, same_length as same}
-use Rattle.replay_laws.specs.Replays.{outcomeText}
-use Rattle.replay_totals.proofs.Outcomes.{says-bad, says-pass, says-hold}
+use Rattle.replay_laws.specs.Replays.{outcome_text}
+use Rattle.replay_totals.proofs.Outcomes.{says_bad, says_pass, says_hold}
 use Rattle.replay_totals.proofs.put_outcome.Statement.{statement}
 use Rattle.replay_totals.proofs.put_outcome.Tie as tie
 
@@ -14,7 +14,7 @@ put-word-requires : tie.Need-put-word-requires
 put-word-requires c κs = search rules
 
 returns : tie.Need-returns
-returns c = told (ap outcomeText (says-bad _ c.before.before.before.before.before.if1.true)) c.before.before.put_word.ensures
+returns c = told (ap outcome_text (says_bad _ c.before.before.before.before.before.if1.true)) c.before.before.put_word.ensures
 
 slice-aggregate-put-word-2 : tie.Need-slice-aggregate-put-word-2
 slice-aggregate-put-word-2 c = search rules
@@ -34,7 +34,7 @@ returns-2 c =
     let word = put.before.before.before.before in
     let test = word.before.before.before in
     told
-    (ap outcomeText (says-pass _ test.before.if1.false test.if2.true))
+    (ap outcome_text (says_pass _ test.before.if1.false test.if2.true))
     (then word.put-word2.ensures put.put-decimal.ensures)
 
 slice-aggregate-put-word-3 : tie.Need-slice-aggregate-put-word-3
@@ -52,7 +52,7 @@ returns-3 c =
     let word = put.before.before.before.before in
     let test = word.before.before.before in
     told
-    (ap outcomeText (says-hold _ test.before.if1.false test.if2.false))
+    (ap outcome_text (says_hold _ test.before.if1.false test.if2.false))
     (then word.put-word3.ensures put.put-decimal2.ensures)
 
 same_length : tie.Need-same-length

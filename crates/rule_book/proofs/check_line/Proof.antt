@@ -1,12 +1,12 @@
 -- Each return is the law of the test that led there; the text that is read lies in the line.
 use native.Mathlib.Omega.{arith}
-use Rattle.rule_book.proofs.Checking.{line-over, other-form, text-within, not-rising, part-long, text-refused, line-passed}
+use Rattle.rule_book.proofs.Checking.{line_over, other_form, text-within, not-rising, part_long, text-refused, line-passed}
 use borrow.Author.Rules.{rules}
 use Rattle.rule_book.proofs.check_line.Statement.{statement}
 use Rattle.rule_book.proofs.check_line.Tie as tie
 
 returns : tie.Need-returns
-returns c = let x = c.before.before.args in line-over x.n x.last x.l.now (omega (arith, c.if1.true))
+returns c = let x = c.before.before.args in line_over x.n x.last x.l.now (omega (arith, c.if1.true))
 
 parse-rule-requires : tie.Need-parse-rule-requires
 parse-rule-requires c κs = tt
@@ -21,7 +21,7 @@ returns-2 : tie.Need-returns-2
 returns-2 c =
     let p = c.before.before in
     let x = p.before.before.before.args in
-    other-form x.n x.last x.l.now (omega (arith, p.before.if1.false)) p.parse-rule.result p.parse-rule.ensures c.enum_told.given.1
+    other_form x.n x.last x.l.now (omega (arith, p.before.if1.false)) p.parse-rule.result p.parse-rule.ensures c.enum_told.given.1
 
 returns-3 : tie.Need-returns-3
 returns-3 c =
@@ -70,7 +70,7 @@ returns-4 c =
     let p = r.before.before in
     let x = p.before.before.before.args in
     line-passed x.n x.last x.l.now (omega (arith, p.before.if1.false)) p.parse-rule.result p.parse-rule.ensures _ r.rule.given.1
-    (omega (arith, e.if2.false)) d.read.result d.read.ensures.0 (part-long r.rule.given.0.0.start r.rule.given.0.0.len x.l.now) c.enum-told2.given.1
+    (omega (arith, e.if2.false)) d.read.result d.read.ensures.0 (part_long r.rule.given.0.0.start r.rule.given.0.0.len x.l.now) c.enum-told2.given.1
 
 returns-5 : tie.Need-returns-5
 returns-5 c =
@@ -80,7 +80,7 @@ returns-5 c =
     let p = r.before.before in
     let x = p.before.before.before.args in
     text-refused x.n x.last x.l.now (omega (arith, p.before.if1.false)) p.parse-rule.result p.parse-rule.ensures _ r.rule.given.1
-    (omega (arith, e.if2.false)) d.read.result d.read.ensures.0 (part-long r.rule.given.0.0.start r.rule.given.0.0.len x.l.now) _ _ c.before.outcome.given.1
+    (omega (arith, e.if2.false)) d.read.result d.read.ensures.0 (part_long r.rule.given.0.0.start r.rule.given.0.0.len x.l.now) _ _ c.before.outcome.given.1
 
 pub check-line-spec : {M : Type 1} → statement M
 check-line-spec =

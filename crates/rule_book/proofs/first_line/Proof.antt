@@ -4,8 +4,8 @@ use Prim.Native.Nat.{suc, ◌+◌, ◌-◌}
 use native.Mathlib.Omega.{arith}
 use lib.ListN.{length}
 use Rattle.definitions.specs.Parts.{find}
-use Rattle.line_parts.proofs.Delimiters.{before-length}
-use Rattle.rule_book.proofs.Loading.{line-is, line-all}
+use Rattle.line_parts.proofs.Delimiters.{before_length}
+use Rattle.rule_book.proofs.Loading.{line_is, line_all}
 use borrow.Author.Rules.{rules}
 use Rattle.rule_book.proofs.first_line.Statement.{statement}
 use Rattle.rule_book.proofs.first_line.Tie as tie
@@ -29,14 +29,14 @@ returns : tie.Need-returns
 returns c =
     let s = c.before.before.before.before.args.s.now in
     let b = c.before.before.part-before in
-    let n : length b.result.now + 1 - 0 ≡ suc (find 10 s) = omega (arith, ap length b.ensures, before-length 10 s) in
-    line-is s n
+    let n : length b.result.now + 1 - 0 ≡ suc (find 10 s) = omega (arith, ap length b.ensures, before_length 10 s) in
+    line_is s n
 
 returns-2 : tie.Need-returns-2
 returns-2 c =
     let s = c.before.before.before.args.s.now in
     let b = c.before.part-before in
-    line-all s (omega (arith, c.if1.false, ap length b.ensures, before-length 10 s))
+    line_all s (omega (arith, c.if1.false, ap length b.ensures, before_length 10 s))
 
 pub first-line-spec : {M : Type 1} → statement M
 first-line-spec =

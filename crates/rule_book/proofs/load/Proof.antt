@@ -4,8 +4,8 @@ use Prim.Native.Nat.{◌-◌, ◌<◌}
 use native.Mathlib.Omega.{arith}
 use lib.ListN.{length}
 use borrow.Author.Rules.{part_to_end}
-use Rattle.rule_book.specs.Lines.{firstLine}
-use Rattle.rule_book.proofs.Loading.{Loading, too_long, loading-in, loading-out, loading-not, loading-on, start-short, line-few, step-within, step-on}
+use Rattle.rule_book.specs.Lines.{first_line}
+use Rattle.rule_book.proofs.Loading.{Loading, too_long_lem, loading_in, loading_out, loading-not, loading-on, start-short, line_few, step_within, step_on}
 use Rattle.rule_book.proofs.load.Statement.{statement}
 use Rattle.rule_book.proofs.load.Tie as tie
 
@@ -19,13 +19,13 @@ refused-book-requires : tie.Need-refused-book-requires invariant-loop decreases-
 refused-book-requires c κs = tt
 
 returns : tie.Need-returns invariant-loop decreases-loop
-returns c = too_long c.before.before.before.args.book.now (omega (arith, c.before.if1.true)) c.refused-book.ensures
+returns c = too_long_lem c.before.before.before.args.book.now (omega (arith, c.before.if1.true)) c.refused-book.ensures
 
 no-rules-requires : tie.Need-no-rules-requires invariant-loop decreases-loop
 no-rules-requires c κs = tt
 
 loop-holds : tie.Need-loop-init invariant-loop decreases-loop
-loop-holds c = loading-in c.before.before.before.args.book.now c.no-rules.result (omega (arith, c.before.if1.false)) c.no-rules.ensures
+loop-holds c = loading_in c.before.before.before.args.book.now c.no-rules.result (omega (arith, c.before.if1.false)) c.no-rules.ensures
 
 sub-first-line : tie.Need-overflow-sub-first-line invariant-loop decreases-loop
 sub-first-line c = omega (arith, c.before.loop.invariant.within)
@@ -59,7 +59,7 @@ returns-2 c =
     let i = f.before.before in
     let l = i.before in
     let book = l.before.before.before.before.args.book.now in
-    loading-not l.loop.invariant (omega (arith, i.loop-test.true)) f.first-line.result.now (f.first-line.ensures ∙ ap firstLine (part_to_end book l.loop.at))
+    loading-not l.loop.invariant (omega (arith, i.loop-test.true)) f.first-line.result.now (f.first-line.ensures ∙ ap first_line (part_to_end book l.loop.at))
     d.check-line.ensures _ k.checked.given.1 c.refused-book2.ensures
 
 enum-known-checked-2 : tie.Need-enum-known-checked-2 invariant-loop decreases-loop
@@ -73,7 +73,7 @@ moved-to-requires c κs =
     let i = f.before.before in
     let l = i.before in
     let book = l.before.before.before.before.args.book.now in
-    start-short l.loop.invariant (omega (arith, i.loop-test.true)) f.first-line.result.now (f.first-line.ensures ∙ ap firstLine (part_to_end book l.loop.at))
+    start-short l.loop.invariant (omega (arith, i.loop-test.true)) f.first-line.result.now (f.first-line.ensures ∙ ap first_line (part_to_end book l.loop.at))
     d.check-line.ensures _ k.checked2.given.1
 
 mul-list : tie.Need-overflow-mul-list invariant-loop decreases-loop
@@ -87,7 +87,7 @@ array-set-from-list c =
     let i = f.before.before in
     let l = i.before in
     let book = l.before.before.before.before.args.book.now in
-    line-few l.loop.invariant (omega (arith, i.loop-test.true)) f.first-line.result.now (f.first-line.ensures ∙ ap firstLine (part_to_end book l.loop.at))
+    line_few l.loop.invariant (omega (arith, i.loop-test.true)) f.first-line.result.now (f.first-line.ensures ∙ ap first_line (part_to_end book l.loop.at))
     d.check-line.ensures _ k.checked2.given.1
 
 add-n : tie.Need-overflow-add-n invariant-loop decreases-loop
@@ -101,8 +101,8 @@ add_at c =
     let book = l.before.before.before.before.args.book.now in
     omega (
       arith,
-      step-within l.loop.invariant (omega (arith, i.loop-test.true)) f.first-line.result.now
-          (f.first-line.ensures ∙ ap firstLine (part_to_end book l.loop.at)),
+      step_within l.loop.invariant (omega (arith, i.loop-test.true)) f.first-line.result.now
+          (f.first-line.ensures ∙ ap first_line (part_to_end book l.loop.at)),
       l.loop.invariant.short,
     )
 
@@ -112,9 +112,9 @@ loop-less c =
     let i = f.before.before in
     let l = i.before in
     let book = l.before.before.before.before.args.book.now in
-    let e = f.first-line.ensures ∙ ap firstLine (part_to_end book l.loop.at) in
+    let e = f.first-line.ensures ∙ ap first_line (part_to_end book l.loop.at) in
     let m : l.loop.at < length book = omega (arith, i.loop-test.true) in
-    omega (arith, step-within l.loop.invariant m f.first-line.result.now e, step-on l.loop.invariant m f.first-line.result.now e)
+    omega (arith, step_within l.loop.invariant m f.first-line.result.now e, step_on l.loop.invariant m f.first-line.result.now e)
 
 loop-again : tie.Need-loop-preserved invariant-loop decreases-loop
 loop-again c =
@@ -124,11 +124,11 @@ loop-again c =
     let i = f.before.before in
     let l = i.before in
     let book = l.before.before.before.before.args.book.now in
-    loading-on l.loop.invariant (omega (arith, i.loop-test.true)) f.first-line.result.now (f.first-line.ensures ∙ ap firstLine (part_to_end book l.loop.at))
+    loading-on l.loop.invariant (omega (arith, i.loop-test.true)) f.first-line.result.now (f.first-line.ensures ∙ ap first_line (part_to_end book l.loop.at))
     d.check-line.ensures _ k.checked2.given.1 c.moved_to.result c.moved_to.ensures
 
 returns-3 : tie.Need-returns-3 invariant-loop decreases-loop
-returns-3 c = loading-out c.before.loop.invariant (omega (arith, c.loop-test.false)) refl
+returns-3 c = loading_out c.before.loop.invariant (omega (arith, c.loop-test.false)) refl
 
 pub load_spec : {M : Type 1} → statement M
 load_spec =

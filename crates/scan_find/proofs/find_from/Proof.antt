@@ -7,7 +7,7 @@ use lib.Dec.{eqb}
 use lib.ListN.{length}
 use borrow.Author.Tests.{eq-eqb, ne_eqb}
 use Rattle.definitions.specs.Parts.{find}
-use Rattle.list_laws.proofs.Runs.{Run, run_on, run-halt, run_out}
+use Rattle.list_laws.proofs.Runs.{Run, run_on, run_halt, run_out}
 use Rattle.scan_find.proofs.find_from.Statement.{statement}
 use Rattle.scan_find.proofs.find_from.Tie as tie
 
@@ -31,7 +31,7 @@ returns : tie.Need-returns invariant-loop decreases-loop
 unfolding find
 returns c =
     let turn = c.before.before in
-    run-halt (λ x. not (eqb x _)) _ _ _ turn.before.loop.invariant turn.loop-test.true (ap not (eq-eqb _ _ c.if1.true))
+    run_halt (λ x. not (eqb x _)) _ _ _ turn.before.loop.invariant turn.loop-test.true (ap not (eq-eqb _ _ c.if1.true))
 
 add-i : tie.Need-overflow-add-i invariant-loop decreases-loop
 add-i c = omega arith

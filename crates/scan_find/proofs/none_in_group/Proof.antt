@@ -5,7 +5,7 @@ use native.Mathlib.Omega.{arith}
 use lib.Dec.{leb}
 use lib.ListN.{drop}
 use Rattle.definitions.specs.Parts.{find}
-use Rattle.scan_find.proofs.Groups.{group-none, group-more}
+use Rattle.scan_find.proofs.Groups.{group_none, group_more}
 use Rattle.scan_find.proofs.none_in_group.Statement.{statement}
 use Rattle.scan_find.proofs.none_in_group.Tie as tie
 
@@ -16,7 +16,7 @@ abbrev decreases-loop : tie.decreases-loop
 decreases-loop s at b none₀ k₀ none k = 32 - k
 
 loop-holds : tie.Need-loop-init invariant-loop decreases-loop
-loop-holds c = (omega arith, group-none c.args.s.now c.args.b c.args.at)
+loop-holds c = (omega arith, group_none c.args.s.now c.args.b c.args.at)
 
 add_none : tie.Need-overflow-add-none invariant-loop decreases-loop
 add_none c = omega arith
@@ -34,7 +34,7 @@ loop-again : tie.Need-loop-preserved invariant-loop decreases-loop
 loop-again c =
     let x = c.before.before.before.args in
     let l = c.before.before.loop in
-    (omega arith, rw l.invariant.1 (sym (group-more x.s.now x.b x.at l.k (omega arith))))
+    (omega arith, rw l.invariant.1 (sym (group_more x.s.now x.b x.at l.k (omega arith))))
 
 returns : tie.Need-returns invariant-loop decreases-loop
 returns c =

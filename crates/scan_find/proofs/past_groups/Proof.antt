@@ -1,11 +1,11 @@
--- Group by group: the first b from where the search began is the first one from here on (`group-past`).
+-- Group by group: the first b from where the search began is the first one from here on (`group_past`).
 use mathlib.Core.Path.{◌≡◌, refl, sym, ◌∙◌}
 use Prim.Native.Nat.{◌+◌, ◌-◌}
 use native.Mathlib.Omega.{arith}
 use lib.ListN.{length, drop}
 use borrow.Author.Tests.{not-false}
 use Rattle.definitions.specs.Parts.{find}
-use Rattle.scan_find.proofs.Groups.{group-past}
+use Rattle.scan_find.proofs.Groups.{group_past}
 use Rattle.scan_find.proofs.past_groups.Statement.{statement}
 use Rattle.scan_find.proofs.past_groups.Tie as tie
 
@@ -39,7 +39,7 @@ loop-less c = omega arith
 loop-again : tie.Need-loop-preserved invariant-loop decreases-loop
 loop-again c =
     let l = c.before.before.before.loop in
-    group-past _ _ _ l.i 32 l.invariant (sym c.before.none-in-group.ensures ∙ not-false _ c.if2.false)
+    group_past _ _ _ l.i 32 l.invariant (sym c.before.none-in-group.ensures ∙ not-false _ c.if2.false)
 
 returns-3 : tie.Need-returns-3 invariant-loop decreases-loop
 returns-3 c = c.before.loop.invariant

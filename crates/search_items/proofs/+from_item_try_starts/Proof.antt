@@ -4,16 +4,16 @@ use mathlib.Core.Path.{◌≡◌}
 use native.Mathlib.Omega.{arith}
 use lib.ListN.{length}
 use borrow.Author.Tests.{not-true, not-false}
-use Rattle.definitions.specs.Limits.{maxItems, maxPatterns}
+use Rattle.definitions.specs.Limits.{max_items, max_patterns}
 use Rattle.definitions.specs.Placements.{constraints}
 use Rattle.match_windows.specs.Spans.{Measured}
-use Rattle.match_patterns.proofs.FirstStart.{walk-shorter}
+use Rattle.match_patterns.proofs.FirstStart.{walk_shorter}
 use Rattle.match_items.proofs.Placing.{measured}
-use Rattle.search_state.specs.Inputs.{itemsLeft}
-use Rattle.search_items.proofs.Stepping.{length-mapped, trying-bounded}
-use Rattle.search_items.proofs.PassedItems.{Gone, gone-none, gone-out, gone-test, stop-test, gone-nowhere, stop-nowhere, placed_first}
-use Rattle.search_items.proofs.PassedItems.{pattern-inside, pattern-bounded, pattern-trying}
-use Rattle.search_items.proofs.Trials.{try-absent, tried-none, own-fits, end-small, chosen-small, chosen-ready, tried-out}
+use Rattle.search_state.specs.Inputs.{items_left}
+use Rattle.search_items.proofs.Stepping.{length_mapped, trying_bounded}
+use Rattle.search_items.proofs.PassedItems.{Gone, gone_none, gone_out, gone-test, stop-test, gone-nowhere, stop-nowhere, placed_first}
+use Rattle.search_items.proofs.PassedItems.{pattern-inside, pattern_bounded, pattern-trying}
+use Rattle.search_items.proofs.Trials.{try_absent, tried_none, own_fits, end_small, chosen_small, chosen-ready, tried_out}
 use Rattle.search_items.proofs.Trials.{tried-found, tried-vain, Reached, reached}
 use Prim.Native.Nat.{ℕ, ◌+◌, ◌-◌, ◌<◌}
 use borrow.Fn.Kinds.{In}
@@ -114,8 +114,8 @@ from-item-loop-holds : (t : ℕ) → from-item-lts.Need-loop-init (from-item-cla
 from-item-loop-holds t c =
     let a = c.before.before.before.before.before in
     let q = a.args.t1 in
-    let long : length q.items ≡ maxItems = length-mapped _ q.items maxItems a.well-formed.0.1.1.0.1.0.1 in
-    gone-none a.requires.1.0 (omega (arith, a.requires.1.0, long)) a.requires.1.1
+    let long : length q.items ≡ max_items = length_mapped _ q.items max_items a.well-formed.0.1.1.0.1.0.1 in
+    gone_none a.requires.1.0 (omega (arith, a.requires.1.0, long)) a.requires.1.1
 
 from-item-mul-slot : (t : ℕ) → from-item-lts.Need-overflow-mul-slot (from-item-claims t) (from-item-at t) from-item.Post from-item-Inv-loop from-item-μ-loop
 from-item-mul-slot t c = omega (arith, c.before.loop.invariant.few, c.loop-test.true)
@@ -213,7 +213,7 @@ from-item-negated-holds-requires : (t : ℕ)
 from-item-negated-holds-requires t c κs =
     let m = c.before.before.before.before in
     let s = m.before.before.before in
-    pattern-bounded s.before.loop.invariant s.loop-test.true m.item.given.1
+    pattern_bounded s.before.loop.invariant s.loop-test.true m.item.given.1
 
 from-item-no-match-requires-2 : (t : ℕ)
     → from-item-lts.Need-no-match-requires-2 (from-item-claims t) (from-item-at t) from-item.Post from-item-Inv-loop from-item-μ-loop
@@ -249,7 +249,7 @@ from-item-finish-requires : (t : ℕ)
 from-item-finish-requires t c κs = tt
 
 from-item-returns-4 : (t : ℕ) → from-item-lts.Need-returns-4 (from-item-claims t) (from-item-at t) from-item.Post from-item-Inv-loop from-item-μ-loop
-from-item-returns-4 t c = gone-out c.before.before.loop.invariant c.before.loop-test.false c.finish.result (c.finish.ensures _)
+from-item-returns-4 t c = gone_out c.before.before.loop.invariant c.before.loop-test.false c.finish.result (c.finish.ensures _)
 
 abbrev try-starts-Inv-loop : try-starts-lts.invariant-loop
 try-starts-Inv-loop q k p own rest payload decoded last chosen on-bound f j b nocase to first at₀ at =
@@ -266,7 +266,7 @@ field-sizes t c =
     let x = a.args in
     let s = x.payload.now in
     let d = x.decoded.now in
-    let bounds = trying-bounded (itemsLeft x.input (x.k + 1)) x.rest.now x.p x.own.now s d x.last x.chosen a.requires.1.2 in
+    let bounds = trying_bounded (items_left x.input (x.k + 1)) x.rest.now x.p x.own.now s d x.last x.chosen a.requires.1.2 in
     measured s d x.input.map x.p x.own.now x.last c.field_of.result.now bounds c.field_of.ensures.0
 
 try-starts-is-present-requires : (t : ℕ)
@@ -280,9 +280,9 @@ try-starts-no-match-requires t c κs = tt
 try-starts-returns : (t : ℕ) → try-starts-lts.Need-returns (try-starts-claims t) (try-starts-at t) try-starts.Post try-starts-Inv-loop try-starts-μ-loop
 try-starts-returns t c =
     let x = c.before.before.before.before.before.before.before.before.args in
-    let ws = constraints (itemsLeft x.input (x.k + 1)) x.rest.now in
+    let ws = constraints (items_left x.input (x.k + 1)) x.rest.now in
     let there = c.before.before.is-present in
-    try-absent x.input.header x.payload.now x.decoded.now x.input.map x.p x.own.now x.last ws x.chosen x.on-bound _
+    try_absent x.input.header x.payload.now x.decoded.now x.input.map x.p x.own.now x.last ws x.chosen x.on-bound _
     there.result there.ensures c.before.if1.true c.no-match.result c.no-match.ensures
 
 try-starts-field-of-requires : (t : ℕ)
@@ -318,10 +318,10 @@ try-starts-loop-holds t c =
     let p = w.before.before in
     let a = p.before.before.before.before.before.before.before in
     let bound = a.args.input.bound in
-    let long : length bound ≡ maxPatterns = length-mapped _ bound maxPatterns a.well-formed.0.1.1.1.1.1.1.0.1.0.1 in
+    let long : length bound ≡ max_patterns = length_mapped _ bound max_patterns a.well-formed.0.1.1.1.1.1.1.0.1.0.1 in
     let small = (field-sizes t w.before).field in
     reached
-    (tried-none (a.requires.1.0, a.requires.1.1) a.requires.1.2 small (omega (arith, a.requires.1.2.room, long)) w.window.ensures
+    (tried_none (a.requires.1.0, a.requires.1.1) a.requires.1.2 small (omega (arith, a.requires.1.2.room, long)) w.window.ensures
     w.before.field_of.ensures.0 p.before.is-present.ensures p.if1.false g.start-from.ensures)
     c.next_start.ensures
 
@@ -331,7 +331,7 @@ try-starts-start-at-requires t c κs = tt
 
 try-starts-last-after-requires : (t : ℕ)
     → try-starts-lts.Need-last-after-requires (try-starts-claims t) (try-starts-at t) try-starts.Post try-starts-Inv-loop try-starts-μ-loop
-try-starts-last-after-requires t c κs = let s = c.before in chosen-small s.before.loop.invariant.tried s.loop-test.true c.start-at.ensures
+try-starts-last-after-requires t c κs = let s = c.before in chosen_small s.before.loop.invariant.tried s.loop-test.true c.start-at.ensures
 
 try-starts-with-start-requires : (t : ℕ)
     → try-starts-lts.Need-with-start-requires (try-starts-claims t) (try-starts-at t) try-starts.Post try-starts-Inv-loop try-starts-μ-loop
@@ -372,15 +372,15 @@ try-starts-add-next-start : (t : ℕ)
     → try-starts-lts.Need-overflow-add-next-start (try-starts-claims t) (try-starts-at t) try-starts.Post try-starts-Inv-loop try-starts-μ-loop
 try-starts-add-next-start t c =
     let s = c.before.before.before.before.before.before in
-    omega (arith, end-small s.before.loop.invariant.tried s.loop-test.true)
+    omega (arith, end_small s.before.loop.invariant.tried s.loop-test.true)
 
 try-starts-next-start-requires-2 : (t : ℕ)
     → try-starts-lts.Need-next-start-requires-2 (try-starts-claims t) (try-starts-at t) try-starts.Post try-starts-Inv-loop try-starts-μ-loop
-try-starts-next-start-requires-2 t c κs = own-fits c.before.before.before.before.before.before.before.loop.invariant.tried
+try-starts-next-start-requires-2 t c κs = own_fits c.before.before.before.before.before.before.before.loop.invariant.tried
 
 try-starts-loop-less : (t : ℕ)
     → try-starts-lts.Need-loop-smaller (try-starts-claims t) (try-starts-at t) try-starts.Post try-starts-Inv-loop try-starts-μ-loop
-try-starts-loop-less t c = walk-shorter _ c.next-start2.ensures c.before.before.before.before.before.before.before.loop-test.true
+try-starts-loop-less t c = walk_shorter _ c.next-start2.ensures c.before.before.before.before.before.before.before.loop-test.true
 
 try-starts-loop-again : (t : ℕ)
     → try-starts-lts.Need-loop-preserved (try-starts-claims t) (try-starts-at t) try-starts.Post try-starts-Inv-loop try-starts-μ-loop
@@ -402,7 +402,7 @@ try-starts-no-match-requires-2 t c κs = tt
 
 try-starts-returns-3 : (t : ℕ)
     → try-starts-lts.Need-returns-3 (try-starts-claims t) (try-starts-at t) try-starts.Post try-starts-Inv-loop try-starts-μ-loop
-try-starts-returns-3 t c = tried-out c.before.before.loop.invariant.tried c.before.loop-test.false c.no-match2.result c.no-match2.ensures
+try-starts-returns-3 t c = tried_out c.before.before.loop.invariant.tried c.before.loop-test.false c.no-match2.result c.no-match2.ensures
 
 pub +from-item-try-starts-spec : {M : Type 1} → statement M
 +from-item-try-starts-spec = close μ-from-item μ-try-starts (λ t. from-item-lts.spec (from-item-claims t)

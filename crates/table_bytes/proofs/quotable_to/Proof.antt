@@ -7,7 +7,7 @@ use borrow.Author.Tests.{not-true, not-false}
 use Rattle.forms.specs.Form.{has}
 use Rattle.definitions.specs.Lists.{all?}
 use Rattle.definitions.specs.Forms.{quotable}
-use Rattle.list_laws.proofs.Every.{first_on, first-not, first-all}
+use Rattle.list_laws.proofs.Every.{first_on, first_not, first_all}
 use Rattle.table_bytes.proofs.quotable_to.Statement.{statement}
 use Rattle.table_bytes.proofs.quotable_to.Tie as tie
 
@@ -30,7 +30,7 @@ returns : tie.Need-returns invariant-loop decreases-loop
 returns c =
     let args = c.before.before.before.before.before.before.args in
     let loop = c.before.before.before.before.loop in
-    sym (first-not (has quotable) _ args.s.now args.n loop.i loop.invariant.1 _ c.before.before.before.loop-test.true
+    sym (first_not (has quotable) _ args.s.now args.n loop.i loop.invariant.1 _ c.before.before.before.loop-test.true
     c.before.before.before.before.before.before.requires (sym c.before.in-class.ensures ∙ not-true _ c.if1.true))
 
 add-i : tie.Need-overflow-add-i invariant-loop decreases-loop
@@ -49,7 +49,7 @@ loop-again c =
     )
 
 returns-2 : tie.Need-returns-2 invariant-loop decreases-loop
-returns-2 c = sym (first-all (has quotable) _ c.before.before.before.args.s.now c.before.before.before.args.n c.before.loop.i
+returns-2 c = sym (first_all (has quotable) _ c.before.before.before.args.s.now c.before.before.before.args.n c.before.loop.i
     c.before.loop.invariant.1 c.loop-test.false)
 
 pub quotable-to-spec : {M : Type 1} → statement M

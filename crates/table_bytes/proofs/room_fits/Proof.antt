@@ -4,8 +4,8 @@ use native.Mathlib.Omega.{arith}
 use lib.ListN.{length, get_or}
 use lib.Dec.{leb}
 use borrow.Author.Tests.{le-leb, lt-leb}
-use Rattle.definitions.specs.Limits.{maxByte}
-use Rattle.list_laws.proofs.Every.{first-fit}
+use Rattle.definitions.specs.Limits.{max_byte}
+use Rattle.list_laws.proofs.Every.{first_fit}
 use Rattle.table_bytes.proofs.room_fits.Statement.{statement}
 use Rattle.table_bytes.proofs.room_fits.Tie as tie
 
@@ -18,8 +18,8 @@ zero-from-requires c κs = tt
 returns-2 : tie.Need-returns-2
 returns-2 c =
     let args = c.before.before.before.args in
-    let bytes = first-fit (λ (b : ℕ). leb b maxByte) 0 args.used args.s.now
-    (λ i. le-leb (get_or args.s.now i 0) maxByte (omega (arith, c.before.before.shared-slice-known.given i))) in
+    let bytes = first_fit (λ (b : ℕ). leb b max_byte) 0 args.used args.s.now
+    (λ i. le-leb (get_or args.s.now i 0) max_byte (omega (arith, c.before.before.shared-slice-known.given i))) in
     rw (le-leb args.used (length args.s.now) c.before.if1.false, bytes) c.zero-from.ensures
 
 pub room-fits-spec : {M : Type 1} → statement M

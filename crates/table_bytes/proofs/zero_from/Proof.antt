@@ -1,4 +1,4 @@
--- The loop keeps whether no bit is gathered and all bytes to come are zero (`gather-on`).
+-- The loop keeps whether no bit is gathered and all bytes to come are zero (`gather_on`).
 use mathlib.Core.Path.{◌≡◌, refl, sym}
 use mathlib.Core.Bool.{◌&&◌}
 use Prim.Native.Nat.{◌-◌}
@@ -7,7 +7,7 @@ use lib.ListN.{length, drop}
 use lib.Dec.{eqb}
 use Rattle.definitions.specs.Lists.{all?}
 use Rattle.definitions.specs.WellFormed.{is_zero}
-use Rattle.table_bytes.proofs.Bits.{gather-on, gather-out}
+use Rattle.table_bytes.proofs.Bits.{gather_on, gather_out}
 use Rattle.table_bytes.proofs.zero_from.Statement.{statement}
 use Rattle.table_bytes.proofs.zero_from.Tie as tie
 
@@ -30,11 +30,11 @@ loop-less : tie.Need-loop-smaller invariant-loop decreases-loop
 loop-less c = omega arith
 
 loop-again : tie.Need-loop-preserved invariant-loop decreases-loop
-loop-again c = gather-on _ c.before.before.before.args.s.now c.before.before.loop.bits c.before.before.loop.i
+loop-again c = gather_on _ c.before.before.before.args.s.now c.before.before.loop.bits c.before.before.loop.i
     c.before.before.loop.invariant c.before.loop-test.true
 
 returns : tie.Need-returns invariant-loop decreases-loop
-returns c = sym (gather-out _ c.before.before.args.s.now c.before.loop.bits c.before.loop.i c.before.loop.invariant c.loop-test.false)
+returns c = sym (gather_out _ c.before.before.args.s.now c.before.loop.bits c.before.loop.i c.before.loop.invariant c.loop-test.false)
 
 pub zero-from-spec : {M : Type 1} → statement M
 zero-from-spec =

@@ -1,20 +1,20 @@
--- The loop keeps whether the addresses from here on are the same (`by-on`); one that differs decides.
+-- The loop keeps whether the addresses from here on are the same (`by_on`); one that differs decides.
 use mathlib.Core.Path.{◌≡◌, refl, sym, ◌∙◌}
 use Prim.Native.Nat.{◌-◌}
 use native.Mathlib.Omega.{arith}
 use lib.ListN.{drop}
 use borrow.Author.Tests.{not-true, not-false}
-use Rattle.definitions.specs.Limits.{maxAddresses}
-use Rattle.table_equality.specs.SameTables.{sameBy, sameAddress}
-use Rattle.table_equality.proofs.SameLists.{by-on, by-halt, by_out}
+use Rattle.definitions.specs.Limits.{max_addresses}
+use Rattle.table_equality.specs.SameTables.{same_by, same_address}
+use Rattle.table_equality.proofs.SameLists.{by_on, by_halt, by_out}
 use Rattle.table_equality.proofs.same_addresses.Statement.{statement}
 use Rattle.table_equality.proofs.same_addresses.Tie as tie
 
 abbrev invariant-loop : tie.invariant-loop
-invariant-loop a b i₀ i = sameBy sameAddress a b ≡ sameBy sameAddress (drop i a) (drop i b)
+invariant-loop a b i₀ i = same_by same_address a b ≡ same_by same_address (drop i a) (drop i b)
 
 abbrev decreases-loop : tie.decreases-loop
-decreases-loop a b i₀ i = maxAddresses - i
+decreases-loop a b i₀ i = max_addresses - i
 
 loop-holds : tie.Need-loop-init invariant-loop decreases-loop
 loop-holds c = refl
@@ -38,7 +38,7 @@ returns : tie.Need-returns invariant-loop decreases-loop
 returns c =
     let turn = c.before.before.before.before.before.loop in
     let unlike = sym c.before.same_address.ensures ∙ not-true _ c.if1.true in
-    sym (turn.invariant ∙ by-halt sameAddress _ _ turn.i (omega arith) _ (omega arith) unlike)
+    sym (turn.invariant ∙ by_halt same_address _ _ turn.i (omega arith) _ (omega arith) unlike)
 
 add-i : tie.Need-overflow-add-i invariant-loop decreases-loop
 add-i c = omega arith
@@ -50,10 +50,10 @@ loop-again : tie.Need-loop-preserved invariant-loop decreases-loop
 loop-again c =
     let turn = c.before.before.before.before.before.loop in
     let alike = sym c.before.same_address.ensures ∙ not-false _ c.if1.false in
-    turn.invariant ∙ by-on sameAddress _ _ turn.i (omega arith) _ (omega arith) alike
+    turn.invariant ∙ by_on same_address _ _ turn.i (omega arith) _ (omega arith) alike
 
 returns-2 : tie.Need-returns-2 invariant-loop decreases-loop
-returns-2 c = let turn = c.before.loop in sym (turn.invariant ∙ by_out sameAddress _ _ turn.i (omega arith) (omega arith))
+returns-2 c = let turn = c.before.loop in sym (turn.invariant ∙ by_out same_address _ _ turn.i (omega arith) (omega arith))
 
 pub same-addresses-spec : {M : Type 1} → statement M
 same-addresses-spec =

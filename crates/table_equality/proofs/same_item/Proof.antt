@@ -3,7 +3,7 @@ use mathlib.Core.Path.{◌≡◌}
 use mir.Val.{to_z, of_z}
 use mir.Syntax.{w32}
 use borrow.Author.Rules.{rules}
-use Rattle.table_equality.specs.SameTables.{sameItem}
+use Rattle.table_equality.specs.SameTables.{same_item}
 use Rattle.table_equality.proofs.same_item.Statement.{statement}
 use Rattle.table_equality.proofs.same_item.Tie as tie
 
@@ -26,7 +26,7 @@ same-offset-requires : tie.Need-same-offset-requires
 same-offset-requires c κs = search rules
 
 returns : tie.Need-returns
-unfolding sameItem
+unfolding same_item
 returns c =
     let compared = c.before.before.before.before in
     let z = c.before.before.item-offset.result in
@@ -43,7 +43,7 @@ returns c =
     ) (simp (x, y) at c.same-offset.ensures)
 
 returns-2 : tie.Need-returns-2
-unfolding sameItem
+unfolding same_item
 returns-2 c =
     let compared = c.before in
     rw (← compared.before.before.item-numbers.ensures, ← compared.before.item-numbers2.ensures, ← compared.same_numbers.ensures, c.if1.false)

@@ -1,15 +1,15 @@
--- The loop keeps whether the numbers from here on are the same (`same-on`); one that differs decides.
+-- The loop keeps whether the numbers from here on are the same (`same_on`); one that differs decides.
 use mathlib.Core.Path.{◌≡◌, refl, sym, ◌∙◌}
 use Prim.Native.Nat.{◌-◌}
 use native.Mathlib.Omega.{arith}
 use lib.ListN.{drop}
-use Rattle.definitions.specs.Lists.{sameBytes}
-use Rattle.scan_same.proofs.SameBytes.{same-on, same-halt, same_out}
+use Rattle.definitions.specs.Lists.{same_bytes}
+use Rattle.scan_same.proofs.SameBytes.{same_on, same_halt, same_out}
 use Rattle.table_equality.proofs.same_numbers.Statement.{statement}
 use Rattle.table_equality.proofs.same_numbers.Tie as tie
 
 abbrev invariant-loop : tie.invariant-loop
-invariant-loop a b i₀ i = sameBytes a b ≡ sameBytes (drop i a) (drop i b)
+invariant-loop a b i₀ i = same_bytes a b ≡ same_bytes (drop i a) (drop i b)
 
 abbrev decreases-loop : tie.decreases-loop
 decreases-loop a b i₀ i = 9 - i
@@ -30,7 +30,7 @@ array-read-if1-2 : tie.Need-array-read-if1-2 invariant-loop decreases-loop
 array-read-if1-2 c = omega arith
 
 returns : tie.Need-returns invariant-loop decreases-loop
-returns c = let turn = c.before.before.loop in sym (turn.invariant ∙ same-halt _ _ turn.i (omega arith) (omega arith) c.if1.true)
+returns c = let turn = c.before.before.loop in sym (turn.invariant ∙ same_halt _ _ turn.i (omega arith) (omega arith) c.if1.true)
 
 add-i : tie.Need-overflow-add-i invariant-loop decreases-loop
 add-i c = omega arith
@@ -39,7 +39,7 @@ loop-less : tie.Need-loop-smaller invariant-loop decreases-loop
 loop-less c = omega arith
 
 loop-again : tie.Need-loop-preserved invariant-loop decreases-loop
-loop-again c = let turn = c.before.before.loop in turn.invariant ∙ same-on _ _ turn.i (omega arith) (omega arith) c.if1.false
+loop-again c = let turn = c.before.before.loop in turn.invariant ∙ same_on _ _ turn.i (omega arith) (omega arith) c.if1.false
 
 returns-2 : tie.Need-returns-2 invariant-loop decreases-loop
 returns-2 c = let turn = c.before.loop in sym (turn.invariant ∙ same_out _ _ turn.i (omega arith) (omega arith))

@@ -4,8 +4,8 @@ use mathlib.Core.Bool.{true}
 use borrow.Author.Tests.{not-true, not-false}
 use borrow.Author.Rules.{rules}
 use Rattle.definitions.specs.Items.{Kind}
-use Rattle.definitions.proofs.OtherItems.{other-kind}
-use Rattle.table_items.specs.Passing.{kindPasses}
+use Rattle.definitions.proofs.OtherItems.{other_kind}
+use Rattle.table_items.specs.Passing.{kind_passes}
 use Rattle.table_items.proofs.may_pass.Statement.{statement}
 use Rattle.table_items.proofs.may_pass.Tie as tie
 
@@ -22,7 +22,7 @@ returns-2 : tie.Need-returns-2
 returns-2 c =
     let args = c.before.before.before.args in
     let fits = sym c.before.before.slot-fits.ensures ∙ not-false _ c.before.if1.false in
-    rw fits (other-kind (λ (k : Kind). true ≡ kindPasses args.w k) refl (λ a. refl) refl args.slot.item c.match.keys2)
+    rw fits (other_kind (λ (k : Kind). true ≡ kind_passes args.w k) refl (λ a. refl) refl args.slot.item c.match.keys2)
 
 may-follow-requires : tie.Need-may-follow-requires
 may-follow-requires c κs = tt

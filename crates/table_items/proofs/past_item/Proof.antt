@@ -5,9 +5,9 @@ use borrow.Author.Tests.{leb-true}
 use borrow.Author.Rules.{rules}
 use Rattle.forms.proofs.Bools.{both_left, both_right}
 use Rattle.definitions.specs.Items.{Kind}
-use Rattle.definitions.specs.WellFormed.{slotFits}
-use Rattle.definitions.proofs.OtherItems.{other-kind}
-use Rattle.table_items.specs.Passing.{pastKind}
+use Rattle.definitions.specs.WellFormed.{slot_fits}
+use Rattle.definitions.proofs.OtherItems.{other_kind}
+use Rattle.table_items.specs.Passing.{past_kind}
 use Rattle.table_items.proofs.past_item.Statement.{statement}
 use Rattle.table_items.proofs.past_item.Tie as tie
 
@@ -17,7 +17,7 @@ enum-known-it c = search rules
 returns : tie.Need-returns
 returns c =
     let args = c.before.args in
-    other-kind (λ (k : Kind). args.w ≡ pastKind args.w k) refl (λ a. refl) refl args.slot.item c.match.keys2
+    other_kind (λ (k : Kind). args.w ≡ past_kind args.w k) refl (λ a. refl) refl args.slot.item c.match.keys2
 
 last-after-requires : tie.Need-last-after-requires
 last-after-requires c κs = tt
@@ -29,7 +29,7 @@ sub-t8 : tie.Need-overflow-sub-t8
 sub-t8 c =
     let it = c.before.before.before.before.before.it.given in
     let start = c.before.before.before.before.before.before.before in
-    let follows = rw it.1 at (both_right (slotFits start.args.slot) _ start.requires.passes) in
+    let follows = rw it.1 at (both_right (slot_fits start.args.slot) _ start.requires.passes) in
     leb-true it.0.0.len start.args.w.left (both_left (leb it.0.0.len start.args.w.left) _ follows)
 
 returns-2 : tie.Need-returns-2

@@ -1,7 +1,7 @@
 -- Each way rewrites with the limit and with the test that led there.
 use borrow.Author.Tests.{le-leb, lt-leb}
 use borrow.Author.Rules.{rules}
-use Rattle.definitions.specs.WellFormed.{itemFits}
+use Rattle.definitions.specs.WellFormed.{item_fits}
 use Rattle.table_limits.proofs.field_fits.Statement.{statement}
 use Rattle.table_limits.proofs.field_fits.Tie as tie
 
@@ -15,7 +15,7 @@ cast-result : tie.Need-overflow-cast-result
 cast-result c = search rules
 
 returns : tie.Need-returns
-unfolding itemFits
+unfolding item_fits
 returns c = rw (
   ← c.before.before.before.field-most.ensures,
   le-leb c.before.before.before.before.args.a.mask
@@ -23,7 +23,7 @@ returns c = rw (
 )
 
 returns-2 : tie.Need-returns-2
-unfolding itemFits
+unfolding item_fits
 returns-2 c = rw (
   ← c.before.before.field-most.ensures,
   lt-leb c.before.before.before.args.a.mask c.before.before.field-most.result

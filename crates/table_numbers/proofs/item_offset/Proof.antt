@@ -10,11 +10,11 @@ use borrow.Author.Rules.{rules}
 use Rattle.definitions.specs.declared.table.Item.{Item}
 use Rattle.definitions.specs.declared.table.Item.TheVariants as item
 use Rattle.definitions.specs.contracts.table.Item as item-type
-use Rattle.table_numbers.specs.ItemNumbers.{itemOffset}
+use Rattle.table_numbers.specs.ItemNumbers.{item_offset}
 use Rattle.table_numbers.proofs.item_offset.Statement.{statement}
 use Rattle.table_numbers.proofs.item_offset.Tie as tie
 
-no-offset : (i : Item) → OneOf (0 ∷ 1 ∷ 2 ∷ 3 ∷ 4 ∷ 5 ∷ 6 ∷ 7 ∷ 8 ∷ []) (tag_of item-type.the_type i) → pos 0 ≡ itemOffset i
+no-offset : (i : Item) → OneOf (0 ∷ 1 ∷ 2 ∷ 3 ∷ 4 ∷ 5 ∷ 6 ∷ 7 ∷ 8 ∷ []) (tag_of item-type.the_type i) → pos 0 ≡ item_offset i
 no-offset item.Unused k = refl
 no-offset (item.Address a) k = refl
 no-offset item.SameIp k = refl

@@ -3,7 +3,7 @@ use mathlib.Core.Path.{◌≡◌, refl}
 use mathlib.Core.Bool.{false}
 use borrow.Author.Rules.{rules}
 use Rattle.definitions.specs.Items.{Kind}
-use Rattle.definitions.specs.WellFormed.{isUnused}
+use Rattle.definitions.specs.WellFormed.{is_unused}
 use Rattle.table_slots.proofs.ByKind.{in_use}
 use Rattle.table_slots.proofs.is_unused.Statement.{statement}
 use Rattle.table_slots.proofs.is_unused.Tie as tie
@@ -12,7 +12,7 @@ enum_told : tie.Need-enum-told
 enum_told c = search rules
 
 returns : tie.Need-returns
-returns c = in_use (λ (k : Kind). false ≡ isUnused k) (λ a. refl) (λ q. refl) refl c.before.args.it c.match.keys2
+returns c = in_use (λ (k : Kind). false ≡ is_unused k) (λ a. refl) (λ q. refl) refl c.before.args.it c.match.keys2
 
 returns-2 : tie.Need-returns-2
 returns-2 c = search rules

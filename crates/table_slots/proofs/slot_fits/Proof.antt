@@ -1,7 +1,7 @@
 -- Each return rewrites with what the callees ensure of the tests that led there.
 use mathlib.Core.Path.{sym, ◌∙◌}
 use borrow.Author.Tests.{not-true, not-false}
-use Rattle.table_slots.proofs.ByKind.{few-addresses}
+use Rattle.table_slots.proofs.ByKind.{few_addresses_lem}
 use Rattle.table_slots.proofs.slot_fits.Statement.{statement}
 use Rattle.table_slots.proofs.slot_fits.Tie as tie
 
@@ -17,7 +17,7 @@ address-count-requires c κs = tt
 addresses-fit-requires : tie.Need-addresses-fit-requires
 addresses-fit-requires c κs =
     let fits = sym c.before.before.before.item-fits.ensures ∙ not-false _ c.before.before.if1.false in
-    rw c.address-count.ensures (few-addresses c.before.before.before.before.args.slot.item fits)
+    rw c.address-count.ensures (few_addresses_lem c.before.before.before.before.args.slot.item fits)
 
 returns-2 : tie.Need-returns-2
 returns-2 c =

@@ -1,7 +1,7 @@
 -- The definition is parted as the code parts it; each return rewrites with what the callees ensure of the tests that led there.
 use mathlib.Core.Path.{sym, ◌∙◌}
 use borrow.Author.Tests.{le-leb, not-true, not-false}
-use Rattle.definitions.specs.Limits.{maxByte}
+use Rattle.definitions.specs.Limits.{max_byte}
 use Rattle.table_well_formed.proofs.Forming.{parted}
 use Rattle.table_well_formed.proofs.well_formed.Statement.{statement}
 use Rattle.table_well_formed.proofs.well_formed.Tie as tie
@@ -19,7 +19,7 @@ returns-2 : tie.Need-returns-2
 returns-2 c =
     let named = c.before.before in
     let name = sym named.before.name-fits.ensures ∙ not-false _ named.if1.false in
-    λ protocol flow h. rw (parted, name, le-leb protocol maxByte h, sym c.before.items-fit.ensures ∙ not-true _ c.if2.true)
+    λ protocol flow h. rw (parted, name, le-leb protocol max_byte h, sym c.before.items-fit.ensures ∙ not-true _ c.if2.true)
 
 room-fits-requires : tie.Need-room-fits-requires
 room-fits-requires c κs = tt
@@ -30,7 +30,7 @@ returns-3 c =
     let named = walked.before.before in
     let name = sym named.before.name-fits.ensures ∙ not-false _ named.if1.false in
     let items = sym walked.before.items-fit.ensures ∙ not-false _ walked.if2.false in
-    λ protocol flow h. rw (parted, name, le-leb protocol maxByte h, items) c.room-fits.ensures
+    λ protocol flow h. rw (parted, name, le-leb protocol max_byte h, items) c.room-fits.ensures
 
 pub well-formed-spec : {M : Type 1} → statement M
 well-formed-spec =

@@ -1,24 +1,24 @@
 -- The loop is line_stream's, the answer a text's.
-use Rattle.definitions.specs.Limits.{documentLimits}
+use Rattle.definitions.specs.Limits.{document_limits}
 use Rattle.definitions.specs.Lines.{line_of}
-use Rattle.line_stream.specs.Steps.{linesLeft}
+use Rattle.line_stream.specs.Steps.{lines_left}
 use Rattle.line_stream.proofs.Loop as loop
 use Rattle.line_stream.proofs.Feeds.{same_out}
-use Rattle.text_lines.proofs.Whole.{feed-whole}
+use Rattle.text_lines.proofs.Whole.{feed_whole}
 use Rattle.text_lines.proofs.feed.Statement.{statement}
 use Rattle.text_lines.proofs.feed.Tie as tie
 
 abbrev invariant-loop : tie.invariant-loop
-invariant-loop input line₀ out₀ t₀ line out t = loop.Loop (line_of documentLimits) input line₀ out₀ t₀ line out t
+invariant-loop input line₀ out₀ t₀ line out t = loop.Loop (line_of document_limits) input line₀ out₀ t₀ line out t
 
 abbrev decreases-loop : tie.decreases-loop
-decreases-loop input line₀ out₀ t₀ line out t = linesLeft input t
+decreases-loop input line₀ out₀ t₀ line out t = lines_left input t
 
 first-line-requires : tie.Need-first-line-requires invariant-loop decreases-loop
 first-line-requires c κs = tt
 
 loop-holds : tie.Need-loop-init invariant-loop decreases-loop
-loop-holds c = loop.loop-begins _
+loop-holds c = loop.loop_begins _
 
 kept-requires : tie.Need-kept-requires invariant-loop decreases-loop
 kept-requires c κs = tt
@@ -45,14 +45,14 @@ loop-again c =
     let kept = answered.before in
     let test = kept.before.before.before.before.before in
     let answer = answered.answer-text.ensures in
-    loop.loop-goes _ test.before.loop.invariant test.loop-test.true kept.kept.ensures answer next.next-line.ensures
+    loop.loop_goes _ test.before.loop.invariant test.loop-test.true kept.kept.ensures answer next.next-line.ensures
 
 returns : tie.Need-returns invariant-loop decreases-loop
 returns c =
     let test = c.before in
     let first = test.before.before.before.before in
     let feeds = loop.loop-ends _ test.before.loop.invariant first.first-line.ensures test.loop-test.false in
-    (feeds, feed-whole feeds first.before.before.first-line-arg.given.0.1)
+    (feeds, feed_whole feeds first.before.before.first-line-arg.given.0.1)
 
 same_length : tie.Need-same-length invariant-loop decreases-loop
 same_length c = same_out _ (returns c).0

@@ -1,9 +1,9 @@
 -- The last line is answered as any other, or there is none.
 use borrow.Author.Rules.{rules}
-use Rattle.definitions.specs.Limits.{documentLimits}
+use Rattle.definitions.specs.Limits.{document_limits}
 use Rattle.definitions.specs.Lines.{line_of}
-use Rattle.line_stream.proofs.Finish.{one-waits, none-waits}
-use Rattle.text_lines.proofs.Whole.{finish-whole}
+use Rattle.line_stream.proofs.Finish.{one_waits, none_waits}
+use Rattle.text_lines.proofs.Whole.{finish_whole}
 use Rattle.text_lines.proofs.finish.Statement.{statement}
 use Rattle.text_lines.proofs.finish.Tie as tie
 
@@ -30,8 +30,8 @@ returns c =
     let test = kept.before.before.before in
     let last = test.before.before.before in
     let answer = answered.answer-text.ensures in
-    let put = one-waits (line_of documentLimits) last.last_Line.ensures test.if1.true kept.kept.ensures answer ended.end_line.ensures in
-    (put, finish-whole _ put last.before.before.last-line-arg.given.0)
+    let put = one_waits (line_of document_limits) last.last_Line.ensures test.if1.true kept.kept.ensures answer ended.end_line.ensures in
+    (put, finish_whole _ put last.before.before.last-line-arg.given.0)
 
 same-length-2 : tie.Need-same-length-2
 same-length-2 c = search rules
@@ -39,8 +39,8 @@ same-length-2 c = search rules
 returns-2 : tie.Need-returns-2
 returns-2 c =
     let last = c.before.before.before in
-    let put = none-waits (line_of documentLimits) last.last_Line.ensures c.if1.false in
-    (put, finish-whole _ put last.before.before.last-line-arg.given.0)
+    let put = none_waits (line_of document_limits) last.last_Line.ensures c.if1.false in
+    (put, finish_whole _ put last.before.before.last-line-arg.given.0)
 
 pub finish_spec : {M : Type 1} → statement M
 finish_spec =

@@ -1,4 +1,4 @@
-use Rattle.definitions.specs.Canonical.{byteText, testText}
+use Rattle.definitions.specs.Canonical.{byte_text, test_text}
 use Rattle.write_bytes.proofs.Putting.{then, same_length as same}
 use borrow.Author.Rules.{rules}
 use Rattle.write_byte_tests.proofs.put_byte_test.Statement.{statement}
@@ -35,7 +35,7 @@ put-requires : tie.Need-put-requires
 put-requires c κs = search rules
 
 returns : tie.Need-returns
-unfolding testText byteText
+unfolding test_text byte_text
 returns c =
     let c2 = c.before.before in
     let c6 = c2.before.before.before.before in

@@ -1,5 +1,5 @@
 use mathlib.Core.Path.{sym, ap}
-use Rattle.definitions.specs.Canonical.{decimal, comparisonText}
+use Rattle.definitions.specs.Canonical.{decimal, comparison_text}
 use Rattle.write_bytes.proofs.Putting.{then, told, same_length as same}
 use borrow.Author.Rules.{rules}
 use Rattle.write_byte_tests.proofs.put_comparison.Statement.{statement}
@@ -33,7 +33,7 @@ put-requires-3 : tie.Need-put-requires-3
 put-requires-3 c κs = search rules
 
 returns : tie.Need-returns
-unfolding comparisonText
+unfolding comparison_text
 returns c =
     let c2 = c.before.before in
     let c6 = c2.before.before.before.before in

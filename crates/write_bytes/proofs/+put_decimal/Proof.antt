@@ -2,7 +2,7 @@
 use Prim.Native.Nat.{ℕ, ◌<◌}
 use native.Mathlib.Omega.{arith}
 use Rattle.write_bytes.proofs.Putting.{then, told, same_length as same}
-use Rattle.write_bytes.proofs.Decimals.{decimal-one, decimal-more}
+use Rattle.write_bytes.proofs.Decimals.{decimal_one, decimal_more}
 use borrow.Fn.Kinds.{In}
 use borrow.Fn.PlainCycle.{Measures, is, falls, and}
 use Rattle.write_bytes.proofs.put_decimal.Reads as put-decimal
@@ -57,7 +57,7 @@ put-decimal-returns t c =
     let c2 = c.before.before in
     let c4 = c2.before.before in
     let c6 = c4.before.before in
-    told (decimal-one c6.args.n c4.if1.true) c2.put.ensures
+    told (decimal_one c6.args.n c4.if1.true) c2.put.ensures
 
 put-decimal-same-length : (t : ℕ) → put-decimal-lts.Need-same-length (
   put_reads.Asked,
@@ -94,7 +94,7 @@ put-decimal-returns-2 t c =
     let c6 = c2.before.before.before.before in
     let c8 = c6.before.before in
     let c10 = c8.before.before in
-    told (decimal-more c10.args.n c8.if1.false) (then c6.put-decimal.ensures c2.put2.ensures)
+    told (decimal_more c10.args.n c8.if1.false) (then c6.put-decimal.ensures c2.put2.ensures)
 
 put-decimal-same-length-2 : (t : ℕ) → put-decimal-lts.Need-same-length-2 (
   put_reads.Asked,

@@ -3,7 +3,7 @@ use mathlib.Core.Path.{◌≡◌, refl, sym, ap, ◌∙◌}
 use Prim.Native.Nat.{ℕ, suc, ◌+◌, ◌-◌, ◌≤◌, ◌<◌}
 use native.Mathlib.Omega.{arith}
 use lib.ListN.{length, drop, get_or, set, length-set}
-use Rattle.write_bytes.specs.Puts.{maxCounted, puts}
+use Rattle.write_bytes.specs.Puts.{max_counted, puts}
 use Rattle.write_bytes.proofs.Putting.{one_kept, put_on, put_all, same_length as same}
 use Rattle.write_bytes.proofs.put_whole.Statement.{statement}
 use Rattle.write_bytes.proofs.put_whole.Tie as tie
@@ -38,7 +38,7 @@ loop-again : tie.Need-loop-preserved invariant-loop decreases-loop
 loop-again c =
     let x = c.before.before.before.args in
     let l = c.before.before.loop in
-    let here : x.at + l.i < maxCounted = omega arith in
+    let here : x.at + l.i < max_counted = omega arith in
     let e : suc (x.at + l.i) ≡ x.at + (l.i + 1) = omega arith in
     let b : ℕ = get_or x.w.now l.i 0 in (
       omega arith,

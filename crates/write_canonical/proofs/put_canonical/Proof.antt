@@ -1,9 +1,9 @@
--- The parts are put one after the other, and go together to the canonical text (`canonical-parts`); how many pattern bytes are in use plays no part in it.
+-- The parts are put one after the other, and go together to the canonical text (`canonical_parts`); how many pattern bytes are in use plays no part in it.
 use mathlib.Core.Path.{refl, ◌∙◌}
 use borrow.Author.Rules.{rules}
-use Rattle.definitions.specs.Tables.{tableWith}
-use Rattle.write_keywords.proofs.Options.{flow-option}
-use Rattle.write_canonical.proofs.Canonical.{canonical-parts}
+use Rattle.definitions.specs.Tables.{table_with}
+use Rattle.write_keywords.proofs.Options.{flow_option_lem}
+use Rattle.write_canonical.proofs.Canonical.{canonical_parts}
 use Rattle.write_bytes.proofs.Putting.{then, told, same_length as same}
 use Rattle.write_canonical.proofs.put_canonical.Statement.{statement}
 use Rattle.write_canonical.proofs.put_canonical.Tie as tie
@@ -45,9 +45,9 @@ returns c =
     let c20 = c16.before.before.before.before in
     let c24 = c20.before.before.before.before in
     let x = c24.before.before.before.before.before.args in
-    let flow = flow-option x.flow ∙ c12.flow-keyword.ensures.1 in
+    let flow = flow_option_lem x.flow ∙ c12.flow-keyword.ensures.1 in
     λ used.
-    told (canonical-parts (tableWith x.name x.len x.protocol x.flow x.bytes.now used x.items x.count))
+    told (canonical_parts (table_with x.name x.len x.protocol x.flow x.bytes.now used x.items x.count))
     (then c24.put_word.ensures
     (then c20.put-name.ensures
     (then c16.put-protocol.ensures (then (told flow c11.put-keyword.ensures) (then c7.put-items.ensures c2.put-word2.ensures)))))

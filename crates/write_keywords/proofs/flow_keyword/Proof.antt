@@ -1,6 +1,6 @@
 use mathlib.Core.Path.{ap}
 use borrow.Author.Rules.{rules}
-use Rattle.write_keywords.specs.Keywords.{flowKeyword}
+use Rattle.write_keywords.specs.Keywords.{flow_keyword}
 use Rattle.write_keywords.proofs.flow_keyword.Statement.{statement}
 use Rattle.write_keywords.proofs.flow_keyword.Tie as tie
 
@@ -10,6 +10,6 @@ flow-keyword-spec =
     tie.close
     (tie.spec
     (λ c. search rules) (λ c. search rules) (λ c. search rules)
-    (λ c. (search rules, ap flowKeyword c.enum_told.given.1))
-    (λ c. (search rules, ap flowKeyword c.enum-told2.given.1))
-    (λ c. (search rules, ap flowKeyword c.enum-told3.given.1)))
+    (λ c. (search rules, ap flow_keyword c.enum_told.given.1))
+    (λ c. (search rules, ap flow_keyword c.enum-told2.given.1))
+    (λ c. (search rules, ap flow_keyword c.enum-told3.given.1)))

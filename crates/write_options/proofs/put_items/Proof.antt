@@ -7,20 +7,20 @@ use lib.ListN.{length, take, drop, get_or}
 use borrow.Author.Rules.{part_to_end}
 use Rattle.definitions.specs.declared.table.Item.TheVariants as item
 use Rattle.definitions.specs.declared.table.Slot.{Slot}
-use Rattle.definitions.specs.Limits.{maxItems}
-use Rattle.definitions.specs.Items.{kind_of, afterItem}
-use Rattle.definitions.specs.Canonical.{itemOptions, slotOptions, optionsText}
+use Rattle.definitions.specs.Limits.{max_items}
+use Rattle.definitions.specs.Items.{kind_of, after_item}
+use Rattle.definitions.specs.Canonical.{item_options, slot_options, options_text}
 use Rattle.write_bytes.specs.Puts.{puts}
 use Rattle.write_bytes.proofs.Putting.{onward, told, same_length as same}
-use Rattle.write_bytes.proofs.Clipping.{at-most-le, taken-most}
-use Rattle.write_options.proofs.Items.{items-on, items-end, after_is}
+use Rattle.write_bytes.proofs.Clipping.{at_most_le, taken_most}
+use Rattle.write_options.proofs.Items.{items_on, items_end, after_is}
 use Rattle.write_options.proofs.put_items.Statement.{statement}
 use Rattle.write_options.proofs.put_items.Tie as tie
 
 abbrev invariant-loop : tie.invariant-loop
 invariant-loop out₀ at count bytes items n next₀ from₀ i₀ out next from i =
-    (i ≤ n) × (n ≤ maxItems) × (from ≤ length bytes)
-    × (puts out₀ next₀ (optionsText (slotOptions (take n items) bytes)) ≡ puts out next (optionsText (slotOptions (drop i (take n items)) (drop from bytes))))
+    (i ≤ n) × (n ≤ max_items) × (from ≤ length bytes)
+    × (puts out₀ next₀ (options_text (slot_options (take n items) bytes)) ≡ puts out next (options_text (slot_options (drop i (take n items)) (drop from bytes))))
 
 abbrev decreases-loop : tie.decreases-loop
 decreases-loop out₀ at count bytes items n next₀ from₀ i₀ out next from i = n - i
@@ -29,7 +29,7 @@ at-most-requires : tie.Need-at-most-requires invariant-loop decreases-loop
 at-most-requires c κs = tt
 
 loop-holds : tie.Need-loop-init invariant-loop decreases-loop
-loop-holds c = (omega arith, omega (arith, c.at_most.ensures, at-most-le c.before.before.before.args.count maxItems), omega arith, refl)
+loop-holds c = (omega arith, omega (arith, c.at_most.ensures, at_most_le c.before.before.before.args.count max_items), omega arith, refl)
 
 mul-slot : tie.Need-overflow-mul-slot invariant-loop decreases-loop
 mul-slot c = omega arith
@@ -69,8 +69,8 @@ loop-again c =
     let more = c.before.before.before.before.before.before.before.loop-test.true in
     let long : n ≤ length args.t3 = omega arith in
     let after = after_is (kind_of sl.item) bytes loop.from loop.invariant.2 in
-    let rest : List ℕ → List ℕ = λ b. optionsText (slotOptions (drop (loop.i + 1) (take n args.t3)) b) in
-    let one : List ℕ → List ℕ = λ b. optionsText (itemOptions (kind_of sl.item) sl b) in
+    let rest : List ℕ → List ℕ = λ b. options_text (slot_options (drop (loop.i + 1) (take n args.t3)) b) in
+    let one : List ℕ → List ℕ = λ b. options_text (item_options (kind_of sl.item) sl b) in
     let slot = c.before.before.before.put-slot in
     let put = told {l = one (drop loop.from bytes)} (ap one (sym (part_to_end bytes loop.from))) slot.ensures in
     let place = c.place_after.ensures in (
@@ -78,8 +78,8 @@ loop-again c =
       loop.invariant.1,
       omega (arith, place, after.1),
       loop.invariant.3
-          ∙ ap (puts loop.out loop.next) (items-on args.t3 n loop.i none (drop loop.from bytes) more long)
-          ∙ onward (rest (afterItem (kind_of sl.item) (drop loop.from bytes))) put
+          ∙ ap (puts loop.out loop.next) (items_on args.t3 n loop.i none (drop loop.from bytes) more long)
+          ∙ onward (rest (after_item (kind_of sl.item) (drop loop.from bytes))) put
           ∙ ap (λ b. puts slot.new.0 slot.result (rest b)) (after.0 ∙ ap (λ k. drop k bytes) (sym place)),
     )
 
@@ -89,9 +89,9 @@ returns c =
     let args = c.before.before.before.before.before.args in
     let loop = c.before.loop in
     let n = c.before.before.at_most in
-    let long : length args.t3 ≡ maxItems = omega arith in
-    let end = items-end args.t3 n.result loop.i (drop loop.from args.bytes.now) c.loop-test.false in
-    told (ap (λ l. optionsText (slotOptions l args.bytes.now)) (taken-most args.count args.t3 long n.ensures))
+    let long : length args.t3 ≡ max_items = omega arith in
+    let end = items_end args.t3 n.result loop.i (drop loop.from args.bytes.now) c.loop-test.false in
+    told (ap (λ l. options_text (slot_options l args.bytes.now)) (taken_most args.count args.t3 long n.ensures))
     (record { is = sym (loop.invariant.3 ∙ ap (puts loop.out loop.next) end) })
 
 same_length : tie.Need-same-length invariant-loop decreases-loop

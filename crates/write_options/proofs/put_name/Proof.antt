@@ -1,4 +1,4 @@
-use Rattle.definitions.specs.Canonical.{optionText}
+use Rattle.definitions.specs.Canonical.{option_text}
 use Rattle.write_bytes.proofs.Putting.{then, same_length as same}
 use borrow.Author.Rules.{rules}
 use Rattle.write_options.proofs.put_name.Statement.{statement}
@@ -23,7 +23,7 @@ put-requires-2 : tie.Need-put-requires-2
 put-requires-2 c κs = tt
 
 returns : tie.Need-returns
-unfolding optionText
+unfolding option_text
 returns c =
     let c2 = c.before.before in
     let c6 = c2.before.before.before.before in

@@ -1,5 +1,5 @@
 use mathlib.Core.Path.{refl}
-use Rattle.definitions.specs.Canonical.{optionText}
+use Rattle.definitions.specs.Canonical.{option_text}
 use Rattle.write_bytes.proofs.Putting.{then, same_length as same}
 use Rattle.write_options.proofs.put_protocol.Statement.{statement}
 use Rattle.write_options.proofs.put_protocol.Tie as tie
@@ -17,7 +17,7 @@ put-requires : tie.Need-put-requires
 put-requires c κs = tt
 
 returns : tie.Need-returns
-unfolding optionText
+unfolding option_text
 returns c =
     let c2 = c.before.before in
     let c6 = c2.before.before.before.before in

@@ -1,8 +1,8 @@
 use mathlib.Core.Path.{refl}
 use Rattle.definitions.specs.declared.table.Item.TheVariants as item
-use Rattle.definitions.specs.Canonical.{testText}
-use Rattle.write_options.proofs.Items.{unused-text, address-text, plain-text, pattern-text}
-use Rattle.write_bytes.proofs.Putting.{none-put, told, same_length as same}
+use Rattle.definitions.specs.Canonical.{test_text}
+use Rattle.write_options.proofs.Items.{unused_text, address_text_lem, plain_text, pattern_text_lem}
+use Rattle.write_bytes.proofs.Putting.{none_put, told, same_length as same}
 use borrow.Author.Rules.{rules}
 use Rattle.write_options.proofs.put_slot.Statement.{statement}
 use Rattle.write_options.proofs.put_slot.Tie as tie
@@ -70,25 +70,25 @@ put-pattern-requires c κs = tt
 returns : tie.Need-returns
 returns c =
     let c5 = c.before.before.before.before.before in
-    told (unused-text c5.args.slot c5.args.b.now c.enum_told.given.1) none-put
+    told (unused_text c5.args.slot c5.args.b.now c.enum_told.given.1) none_put
 
 returns-2 : tie.Need-returns-2
 returns-2 c =
     let c2 = c.before.before in
     let c5 = c2.before.before.before in
     let c10 = c5.before.before.before.before.before in
-    told (address-text c10.args.slot c10.args.b.now c5.item.given.0.0 c5.item.given.1) c2.put-address-test.ensures
+    told (address_text_lem c10.args.slot c10.args.b.now c5.item.given.0.0 c5.item.given.1) c2.put-address-test.ensures
 
 same_length : tie.Need-same-length
 same_length c = same (returns-2 c)
 
 returns-3 : tie.Need-returns-3
-unfolding testText
+unfolding test_text
 returns-3 c =
     let c2 = c.before.before in
     let c5 = c2.before.before.before in
     let c10 = c5.before.before.before.before.before in
-    told (plain-text c10.args.slot c10.args.b.now item.SameIp refl c5.enum-told2.given.1) c2.put_word.ensures
+    told (plain_text c10.args.slot c10.args.b.now item.SameIp refl c5.enum-told2.given.1) c2.put_word.ensures
 
 same-length-2 : tie.Need-same-length-2
 same-length-2 c = same (returns-3 c)
@@ -98,7 +98,7 @@ returns-4 c =
     let c2 = c.before.before in
     let c5 = c2.before.before.before in
     let c10 = c5.before.before.before.before.before in
-    told (plain-text c10.args.slot c10.args.b.now (item.Number c5.item2.given.0.0) refl c5.item2.given.1) c2.put-number-test.ensures
+    told (plain_text c10.args.slot c10.args.b.now (item.Number c5.item2.given.0.0) refl c5.item2.given.1) c2.put-number-test.ensures
 
 same-length-3 : tie.Need-same-length-3
 same-length-3 c = same (returns-4 c)
@@ -108,7 +108,7 @@ returns-5 c =
     let c2 = c.before.before in
     let c5 = c2.before.before.before in
     let c10 = c5.before.before.before.before.before in
-    told (plain-text c10.args.slot c10.args.b.now (item.Ttl c5.item3.given.0.0) refl c5.item3.given.1) c2.put-ttl-test.ensures
+    told (plain_text c10.args.slot c10.args.b.now (item.Ttl c5.item3.given.0.0) refl c5.item3.given.1) c2.put-ttl-test.ensures
 
 same-length-4 : tie.Need-same-length-4
 same-length-4 c = same (returns-5 c)
@@ -118,7 +118,7 @@ returns-6 c =
     let c2 = c.before.before in
     let c5 = c2.before.before.before in
     let c10 = c5.before.before.before.before.before in
-    told (plain-text c10.args.slot c10.args.b.now (item.Field c5.item4.given.0.0) refl c5.item4.given.1) c2.put-field-test.ensures
+    told (plain_text c10.args.slot c10.args.b.now (item.Field c5.item4.given.0.0) refl c5.item4.given.1) c2.put-field-test.ensures
 
 same-length-5 : tie.Need-same-length-5
 same-length-5 c = same (returns-6 c)
@@ -128,7 +128,7 @@ returns-7 c =
     let c2 = c.before.before in
     let c5 = c2.before.before.before in
     let c10 = c5.before.before.before.before.before in
-    told (plain-text c10.args.slot c10.args.b.now (item.Size c5.item5.given.0.0) refl c5.item5.given.1) c2.put-size-test.ensures
+    told (plain_text c10.args.slot c10.args.b.now (item.Size c5.item5.given.0.0) refl c5.item5.given.1) c2.put-size-test.ensures
 
 same-length-6 : tie.Need-same-length-6
 same-length-6 c = same (returns-7 c)
@@ -138,7 +138,7 @@ returns-8 c =
     let c2 = c.before.before in
     let c5 = c2.before.before.before in
     let c10 = c5.before.before.before.before.before in
-    told (plain-text c10.args.slot c10.args.b.now (item.At c5.item6.given.0.0) refl c5.item6.given.1) c2.put-at-test.ensures
+    told (plain_text c10.args.slot c10.args.b.now (item.At c5.item6.given.0.0) refl c5.item6.given.1) c2.put-at-test.ensures
 
 same-length-7 : tie.Need-same-length-7
 same-length-7 c = same (returns-8 c)
@@ -148,7 +148,7 @@ returns-9 c =
     let c2 = c.before.before in
     let c5 = c2.before.before.before in
     let c10 = c5.before.before.before.before.before in
-    told (plain-text c10.args.slot c10.args.b.now (item.Byte c5.item7.given.0.0) refl c5.item7.given.1) c2.put-byte-test.ensures
+    told (plain_text c10.args.slot c10.args.b.now (item.Byte c5.item7.given.0.0) refl c5.item7.given.1) c2.put-byte-test.ensures
 
 same-length-8 : tie.Need-same-length-8
 same-length-8 c = same (returns-9 c)
@@ -158,7 +158,7 @@ returns-10 c =
     let c2 = c.before.before in
     let c5 = c2.before.before.before in
     let c10 = c5.before.before.before.before.before in
-    told (pattern-text c10.args.slot c10.args.b.now c5.item8.given.0.0 c5.item8.given.1) c2.put-pattern.ensures
+    told (pattern_text_lem c10.args.slot c10.args.b.now c5.item8.given.0.0 c5.item8.given.1) c2.put-pattern.ensures
 
 same-length-9 : tie.Need-same-length-9
 same-length-9 c = same (returns-10 c)

@@ -1,7 +1,7 @@
 use mathlib.Core.Path.{refl, ap}
 use Prim.Native.Nat.{◌/◌, ◌%◌}
-use Rattle.write_pattern_bytes.specs.Parts.{byteText}
-use Rattle.write_pattern_bytes.proofs.Bytes.{hex-pair}
+use Rattle.write_pattern_bytes.specs.Parts.{byte_text}
+use Rattle.write_pattern_bytes.proofs.Bytes.{hex_pair_lem}
 use Rattle.write_bytes.proofs.Putting.{then, told, same_length as same}
 use borrow.Author.Rules.{rules}
 use Rattle.write_pattern_bytes.proofs.put_byte.Statement.{statement}
@@ -17,13 +17,13 @@ put-requires : tie.Need-put-requires
 put-requires c κs = tt
 
 returns : tie.Need-returns
-unfolding byteText
+unfolding byte_text
 returns c =
     let c2 = c.before.before in
     let c6 = c2.before.before.before.before in
     let c9 = c6.before.before.before in
     let c11 = c9.before.before in
-    told (ap (λ t. byteText c11.args.opened t c11.args.b) c9.if1.true) (then c6.put_if.ensures c2.put.ensures)
+    told (ap (λ t. byte_text c11.args.opened t c11.args.b) c9.if1.true) (then c6.put_if.ensures c2.put.ensures)
 
 same_length : tie.Need-same-length
 same_length c = same (returns c)
@@ -47,7 +47,7 @@ put-requires-3 : tie.Need-put-requires-3
 put-requires-3 c κs = tt
 
 returns-2 : tie.Need-returns-2
-unfolding byteText
+unfolding byte_text
 returns-2 c =
     let c2 = c.before.before in
     let c6 = c2.before.before.before.before in
@@ -57,8 +57,8 @@ returns-2 c =
     let c15 = c14.before in
     let c17 = c15.before.before in
     let x = c17.args in
-    let digits = hex-pair (x.b / 16) (x.b % 16) c14.hex-digit.ensures c13.hex-digit2.ensures in
-    told (ap (λ t. byteText x.opened t x.b) c15.if1.false)
+    let digits = hex_pair_lem (x.b / 16) (x.b % 16) c14.hex-digit.ensures c13.hex-digit2.ensures in
+    told (ap (λ t. byte_text x.opened t x.b) c15.if1.false)
     (then c10.put-if2.ensures (told digits (then c6.put2.ensures c2.put3.ensures)))
 
 same-length-2 : tie.Need-same-length-2

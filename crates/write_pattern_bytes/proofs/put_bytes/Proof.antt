@@ -5,17 +5,17 @@ use mathlib.Core.List.{List, ◌++◌}
 use Prim.Native.Nat.{ℕ, ◌+◌, ◌-◌, ◌≤◌}
 use native.Mathlib.Omega.{arith}
 use lib.ListN.{length, drop, get_or}
-use Rattle.definitions.specs.Canonical.{patternText}
+use Rattle.definitions.specs.Canonical.{pattern_text}
 use Rattle.write_bytes.specs.Puts.{puts}
 use Rattle.write_bytes.proofs.Putting.{onward, same_length as same}
-use Rattle.write_pattern_bytes.specs.Parts.{byteText}
-use Rattle.write_pattern_bytes.proofs.Bytes.{bytes_on, bytes-end}
+use Rattle.write_pattern_bytes.specs.Parts.{byte_text}
+use Rattle.write_pattern_bytes.proofs.Bytes.{bytes_on, bytes_end}
 use Rattle.write_pattern_bytes.proofs.put_bytes.Statement.{statement}
 use Rattle.write_pattern_bytes.proofs.put_bytes.Tie as tie
 
 abbrev invariant-loop : tie.invariant-loop
 invariant-loop out₀ at b next₀ opened₀ i₀ t11 out next opened i =
-    (i ≤ length b) × (puts out₀ next₀ (patternText false b) ≡ puts out next (patternText opened (drop i b)))
+    (i ≤ length b) × (puts out₀ next₀ (pattern_text false b) ≡ puts out next (pattern_text opened (drop i b)))
 
 abbrev decreases-loop : tie.decreases-loop
 decreases-loop out₀ at b next₀ opened₀ i₀ t11 out next opened i = length b - i
@@ -45,11 +45,11 @@ loop-again c =
     let plain = c.before.before.before.before.is_plain in
     let x = get_or b loop.i 0 in
     let more = c.before.before.before.before.before.before.loop-test.true in
-    let rest : Bool → List ℕ = λ t. byteText loop.opened t x ++ patternText (not t) (drop (loop.i + 1) b) in (
+    let rest : Bool → List ℕ = λ t. byte_text loop.opened t x ++ pattern_text (not t) (drop (loop.i + 1) b) in (
       omega arith,
       loop.invariant.1
           ∙ ap (puts loop.out loop.next) (bytes_on loop.opened b loop.i more ∙ ap rest (sym plain.ensures))
-          ∙ onward (patternText (not plain.result) (drop (loop.i + 1) b)) c.before.before.put_byte.ensures,
+          ∙ onward (pattern_text (not plain.result) (drop (loop.i + 1) b)) c.before.before.put_byte.ensures,
     )
 
 slice-aggregate-put-if : tie.Need-slice-aggregate-put-if invariant-loop decreases-loop
@@ -63,7 +63,7 @@ returns c =
     let c5 = c.before.before.before.before.before in
     let l = c5.before.loop in
     let b = c5.before.before.before.before.args.b.now in
-    let end = bytes-end l.opened b l.i c5.loop-test.false in
+    let end = bytes_end l.opened b l.i c5.loop-test.false in
     record { is = c.before.before.put_if.ensures.is ∙ sym (l.invariant.1 ∙ ap (puts l.out l.next) end) }
 
 same_length : tie.Need-same-length invariant-loop decreases-loop

@@ -1,8 +1,8 @@
 use mathlib.Core.Path.{ap, ◌∙◌}
 use mathlib.Core.List.{append-nil}
 use Rattle.definitions.specs.OptionValues as entry
-use Rattle.definitions.specs.Canonical.{distanceOption, modifierText, optionText, optionsText}
-use Rattle.write_bytes.proofs.Putting.{none-put, told, same_length as same}
+use Rattle.definitions.specs.Canonical.{distance_option, modifier_text, option_text, options_text}
+use Rattle.write_bytes.proofs.Putting.{none_put, told, same_length as same}
 use borrow.Author.Rules.{rules}
 use Rattle.write_patterns.proofs.put_distance.Statement.{statement}
 use Rattle.write_patterns.proofs.put_distance.Tie as tie
@@ -17,15 +17,15 @@ put-distance-value-requires : tie.Need-put-distance-value-requires
 put-distance-value-requires c κs = tt
 
 returns : tie.Need-returns
-unfolding optionsText
-returns c = told (ap (λ x. optionsText (distanceOption x)) c.enum_told.given.1) none-put
+unfolding options_text
+returns c = told (ap (λ x. options_text (distance_option x)) c.enum_told.given.1) none_put
 
 returns-2 : tie.Need-returns-2
-unfolding optionsText optionText
+unfolding options_text option_text
 returns-2 c =
     let c2 = c.before.before in
     let c5 = c2.before.before.before in
-    told (ap (λ x. optionsText (distanceOption x)) c5.d.given.1 ∙ append-nil (modifierText (entry.Distance c5.d.given.0.0)))
+    told (ap (λ x. options_text (distance_option x)) c5.d.given.1 ∙ append-nil (modifier_text (entry.Distance c5.d.given.0.0)))
     c2.put-distance-value.ensures
 
 same_length : tie.Need-same-length

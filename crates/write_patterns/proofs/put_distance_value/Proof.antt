@@ -1,7 +1,7 @@
 use mathlib.Core.Path.{◌≡◌, sym, ap}
 use mir.Syntax.{w32}
 use mir.Val.{to_z, of_z}
-use Rattle.definitions.specs.Canonical.{decimalℤ, modifierText}
+use Rattle.definitions.specs.Canonical.{decimalℤ, modifier_text}
 use Rattle.write_bytes.proofs.Putting.{then, told, same_length as same}
 use borrow.Author.Rules.{rules}
 use Rattle.write_patterns.proofs.put_distance_value.Statement.{statement}
@@ -32,7 +32,7 @@ put-requires : tie.Need-put-requires
 put-requires c κs = tt
 
 returns : tie.Need-returns
-unfolding modifierText
+unfolding modifier_text
 returns c =
     let c2 = c.before.before in
     let c6 = c2.before.before.before.before in

@@ -2,11 +2,11 @@ use mathlib.Core.Path.{refl, ap, ◌∙◌}
 use native.Mathlib.Omega.{arith}
 use lib.ListN.{length}
 use Rattle.definitions.specs.OptionValues as entry
-use Rattle.definitions.specs.Canonical.{optionText}
-use Rattle.write_bytes.proofs.Clipping.{at-most-le, part-most}
+use Rattle.definitions.specs.Canonical.{option_text}
+use Rattle.write_bytes.proofs.Clipping.{at_most_le, part_most}
 use Rattle.write_bytes.proofs.Putting.{then, told, same_length as same}
-use Rattle.write_keywords.proofs.Options.{context-option}
-use Rattle.write_patterns.proofs.OptionTexts.{pattern-options, no-case-text}
+use Rattle.write_keywords.proofs.Options.{context_option_lem}
+use Rattle.write_patterns.proofs.OptionTexts.{pattern_options_lem, no_case_text}
 use borrow.Author.Rules.{rules}
 use Rattle.write_patterns.proofs.put_pattern.Statement.{statement}
 use Rattle.write_patterns.proofs.put_pattern.Tie as tie
@@ -23,7 +23,7 @@ part-put-quoted-start c = search rules
 part-put-quoted-end : tie.Need-slice-bounds-put-quoted-end
 part-put-quoted-end c =
     let x = c.before.before.before.before.args in
-    omega (arith, c.before.at_most.ensures, at-most-le x.p.len (length x.b.now))
+    omega (arith, c.before.at_most.ensures, at_most_le x.p.len (length x.b.now))
 
 put-quoted-requires : tie.Need-put-quoted-requires
 put-quoted-requires c κs = tt
@@ -58,12 +58,12 @@ returns c =
     let c26 = c23.before.before.before in
     let p = c26.args.p in
     let b = c26.args.b.now in
-    let quoted = ap (λ l. optionText (entry.Pattern p.negated l)) (part-most p.len b refl c23.at_most.ensures) in
-    let context = context-option p.context ∙ c16.context-keyword.ensures.1 in
-    told (pattern-options p b)
+    let quoted = ap (λ l. option_text (entry.Pattern p.negated l)) (part_most p.len b refl c23.at_most.ensures) in
+    let context = context_option_lem p.context ∙ c16.context-keyword.ensures.1 in
+    told (pattern_options_lem p b)
     (then (told quoted c20.put-quoted.ensures)
     (then (told context c15.put-keyword.ensures)
-    (then (told (no-case-text p.nocase) c10.put_if.ensures) (then c6.put-distance.ensures c2.put-within.ensures))))
+    (then (told (no_case_text p.nocase) c10.put_if.ensures) (then c6.put-distance.ensures c2.put-within.ensures))))
 
 same_length : tie.Need-same-length
 same_length c = same (returns c)

@@ -1,5 +1,5 @@
 use mathlib.Core.Path.{refl}
-use Rattle.definitions.specs.Canonical.{optionText}
+use Rattle.definitions.specs.Canonical.{option_text}
 use Rattle.write_bytes.proofs.Putting.{then, same_length as same}
 use Rattle.write_patterns.proofs.put_quoted.Statement.{statement}
 use Rattle.write_patterns.proofs.put_quoted.Tie as tie
@@ -29,7 +29,7 @@ put-requires-3 : tie.Need-put-requires-3
 put-requires-3 c κs = tt
 
 returns : tie.Need-returns
-unfolding optionText
+unfolding option_text
 returns c =
     let c2 = c.before.before in
     let c6 = c2.before.before.before.before in

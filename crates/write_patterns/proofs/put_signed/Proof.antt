@@ -2,7 +2,7 @@ use mathlib.Core.Path.{refl, ◌≡◌, sym, ap}
 use mir.Syntax.{w32}
 use mir.Val.{to_z, of_z}
 use Rattle.definitions.specs.Canonical.{decimal}
-use Rattle.write_patterns.proofs.Signs.{kept-text}
+use Rattle.write_patterns.proofs.Signs.{kept_text}
 use Rattle.write_bytes.proofs.Putting.{then, told, same_length as same}
 use borrow.Author.Rules.{rules}
 use Rattle.write_patterns.proofs.put_signed.Statement.{statement}
@@ -27,7 +27,7 @@ returns c =
     let c9 = c6.before.before.before in
     let c11 = c9.before.before in
     let z : to_z w32 (of_z w32 c11.args.z) ≡ c11.args.z = search rules in
-    told (kept-text c11.args.z z) (then c6.put_if.ensures (told (ap decimal (sym c9.magnitude.ensures)) c2.put-decimal.ensures))
+    told (kept_text c11.args.z z) (then c6.put_if.ensures (told (ap decimal (sym c9.magnitude.ensures)) c2.put-decimal.ensures))
 
 same_length : tie.Need-same-length
 same_length c = same (returns c)

@@ -1,4 +1,4 @@
-use Rattle.definitions.specs.Canonical.{fieldText, testText}
+use Rattle.definitions.specs.Canonical.{field_text, test_text}
 use Rattle.write_bytes.proofs.Putting.{then, told, same_length as same}
 use borrow.Author.Rules.{rules}
 use Rattle.write_tests.proofs.put_field_test.Statement.{statement}
@@ -41,7 +41,7 @@ put-requires-3 : tie.Need-put-requires-3
 put-requires-3 c κs = tt
 
 returns : tie.Need-returns
-unfolding testText fieldText
+unfolding test_text field_text
 returns c =
     let c2 = c.before.before in
     let c6 = c2.before.before.before.before in

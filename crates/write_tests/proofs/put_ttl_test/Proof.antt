@@ -1,4 +1,4 @@
-use Rattle.definitions.specs.Canonical.{testText}
+use Rattle.definitions.specs.Canonical.{test_text}
 use Rattle.write_bytes.proofs.Putting.{then, told, same_length as same}
 use borrow.Author.Rules.{rules}
 use Rattle.write_tests.proofs.put_ttl_test.Statement.{statement}
@@ -26,7 +26,7 @@ put-requires : tie.Need-put-requires
 put-requires c κs = tt
 
 returns : tie.Need-returns
-unfolding testText
+unfolding test_text
 returns c =
     let c2 = c.before.before in
     let c6 = c2.before.before.before.before in

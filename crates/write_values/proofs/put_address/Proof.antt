@@ -1,4 +1,4 @@
-use Rattle.write_values.proofs.LeftOut.{prefix-full, prefix-given}
+use Rattle.write_values.proofs.LeftOut.{prefix_full, prefix_given}
 use Rattle.write_bytes.proofs.Putting.{then, told, same_length as same}
 use borrow.Author.Rules.{rules}
 use Rattle.write_values.proofs.put_address.Statement.{statement}
@@ -11,7 +11,7 @@ returns : tie.Need-returns
 returns c =
     let c4 = c.before.before.before.before in
     let c7 = c4.before.before.before in
-    told (prefix-full c7.args.a c.if1.true) c4.put-octets.ensures
+    told (prefix_full c7.args.a c.if1.true) c4.put-octets.ensures
 
 same_length : tie.Need-same-length
 same_length c = same (returns c)
@@ -32,7 +32,7 @@ returns-2 c =
     let c9 = c7.before.before in
     let c13 = c9.before.before.before.before in
     let c16 = c13.before.before.before in
-    told (prefix-given c16.args.a c9.if1.false) (then c13.put-octets.ensures (then c7.put.ensures c2.put-decimal.ensures))
+    told (prefix_given c16.args.a c9.if1.false) (then c13.put-octets.ensures (then c7.put.ensures c2.put-decimal.ensures))
 
 same-length-2 : tie.Need-same-length-2
 same-length-2 c = same (returns-2 c)

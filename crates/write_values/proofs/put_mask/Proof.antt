@@ -1,6 +1,6 @@
 use mathlib.Core.Path.{refl}
-use Rattle.write_values.proofs.LeftOut.{mask_full, mask-given}
-use Rattle.write_bytes.proofs.Putting.{none-put, then, told, same_length as same}
+use Rattle.write_values.proofs.LeftOut.{mask_full, mask_given}
+use Rattle.write_bytes.proofs.Putting.{none_put, then, told, same_length as same}
 use borrow.Author.Rules.{rules}
 use Rattle.write_values.proofs.put_mask.Statement.{statement}
 use Rattle.write_values.proofs.put_mask.Tie as tie
@@ -15,7 +15,7 @@ returns : tie.Need-returns
 returns c =
     let c1 = c.before in
     let c4 = c1.before.before.before in
-    told (mask_full c4.args.t c1.field-most.result c1.field-most.ensures c.if1.true) none-put
+    told (mask_full c4.args.t c1.field-most.result c1.field-most.ensures c.if1.true) none_put
 
 slice-aggregate-put-word : tie.Need-slice-aggregate-put-word
 slice-aggregate-put-word c = refl
@@ -40,7 +40,7 @@ returns-2 c =
     let c14 = c11.before.before.before in
     let c15 = c14.before in
     let c18 = c15.before.before.before in
-    told (mask-given c18.args.t c15.field-most.result c15.field-most.ensures c14.if1.false)
+    told (mask_given c18.args.t c15.field-most.result c15.field-most.ensures c14.if1.false)
     (then c11.put_word.ensures
     (then c6.put-decimal.ensures c2.put.ensures))
 

@@ -1,12 +1,12 @@
--- By what was tested and answered, with its numbers: a table that is refused for its length is so for any buffer (`refused-anywhere`), and one that was
+-- By what was tested and answered, with its numbers: a table that is refused for its length is so for any buffer (`refused_anywhere`), and one that was
 -- written into room of its own is copied from there.
 use mathlib.Core.Path.{refl, sym, ◌∙◌}
 use native.Mathlib.Omega.{arith}
 use borrow.Author.Rules.{rules}
 use borrow.Author.Tests.{not-true, not-false}
-use Rattle.laws.proofs.Numbers.{write-told}
+use Rattle.laws.proofs.Numbers.{write_told}
 use Rattle.write_bytes.proofs.Putting.{told, same_length as same}
-use Rattle.writer.proofs.Measured.{ill-formed, refused-anywhere, taken_back, too_short, written}
+use Rattle.writer.proofs.Measured.{ill_formed_lem, refused_anywhere, taken_back, too_short, written}
 use Rattle.writer.proofs.write.Statement.{statement}
 use Rattle.writer.proofs.write.Tie as tie
 
@@ -17,8 +17,8 @@ returns : tie.Need-returns
 returns c =
     let x = c.before.before.before.before.before.before.before.before.args in
     let formed = c.before.well-formed-2.ensures x.t1.protocol x.t1.flow (omega arith) in
-    let a = ill-formed x.t1 x.out.now (sym formed ∙ not-true _ c.if1.true) in
-    (a.0, (a.1, write-told _ _ a.0))
+    let a = ill_formed_lem x.t1 x.out.now (sym formed ∙ not-true _ c.if1.true) in
+    (a.0, (a.1, write_told _ _ a.0))
 
 write-formed-requires : tie.Need-write-formed-requires
 write-formed-requires c κs =
@@ -39,8 +39,8 @@ returns-2 c =
     let r = c.enum_told.given in
     let formed = write-formed-requires c2.before c2.write-formed.lifetimes in
     let e = c2.write-formed.ensures.0 in
-    let a = refused-anywhere x.t1 formed _ refl r.0.0 (sym e ∙ r.1) x.out.now in
-    (e ∙ a.0, (a.1, write-told _ _ (e ∙ a.0)))
+    let a = refused_anywhere x.t1 formed _ refl r.0.0 (sym e ∙ r.1) x.out.now in
+    (e ∙ a.0, (a.1, write_told _ _ (e ∙ a.0)))
 
 returns-3 : tie.Need-returns-3
 returns-3 c =
@@ -49,7 +49,7 @@ returns-3 c =
     let w = c.before.before.w.given in
     let formed = write-formed-requires c4.before c4.write-formed.lifetimes in
     let a = too_short x.t1 formed _ refl w.0.0 (sym c4.write-formed.ensures.0 ∙ w.1) x.out.now c.if2.true in
-    (a.0, (a.1, write-told _ _ a.0))
+    (a.0, (a.1, write_told _ _ a.0))
 
 slice-aggregate-put-front : tie.Need-slice-aggregate-put-front
 slice-aggregate-put-front c =
@@ -71,7 +71,7 @@ returns-4 c =
     let e = sym c9.write-formed.ensures.0 ∙ w.1 in
     let back = taken_back x.t1 formed _ refl w.0.0 e c9.write-formed.ensures.1 in
     let a = written x.t1 formed _ refl w.0.0 e x.out.now c5.if2.false (told back c.before.before.put_front.ensures) in
-    (a.0, (a.1, write-told _ _ a.0))
+    (a.0, (a.1, write_told _ _ a.0))
 
 pub write_spec : {M : Type 1} → statement M
 write_spec =

@@ -2,7 +2,7 @@
 use mathlib.Core.Path.{◌≡◌, refl, sym, ◌∙◌}
 use borrow.Author.Tests.{not-true, not-false}
 use Rattle.write_bytes.proofs.Putting.{told, same_length as same}
-use Rattle.case_lines.proofs.Columns.{long-line, few-tabs, packet-le, decoded-le, as-columns}
+use Rattle.case_lines.proofs.Columns.{long_line, few_tabs, packet_le, decoded_le, as-columns}
 use Rattle.case_lines.proofs.answers.answer_case.Statement.{statement}
 use Rattle.case_lines.proofs.answers.answer_case.Tie as tie
 
@@ -13,7 +13,7 @@ put-word-requires : tie.Need-put-word-requires
 put-word-requires c κs = tt
 
 returns : tie.Need-returns
-returns c = told (long-line _ c.before.before.before.before.before.if1.true) c.before.before.put_word.ensures
+returns c = told (long_line _ c.before.before.before.before.before.if1.true) c.before.before.put_word.ensures
 
 part-after-requires : tie.Need-part-after-requires
 part-after-requires c κs = tt
@@ -44,7 +44,7 @@ returns-2 c =
     let test = c.before.before.before.before.before in
     let tabs = test.before.before.before in
     told
-    (few-tabs _ _ _ _ _ tabs.before.before.before.before.if1.false tabs.before.before.before.part-after.ensures
+    (few_tabs _ _ _ _ _ tabs.before.before.before.before.if1.false tabs.before.before.before.part-after.ensures
     tabs.before.before.part-after2.ensures tabs.before.part-after3.ensures tabs.part-after4.ensures
     (sym test.before.contains.ensures ∙ not-true _ test.if2.true))
     c.before.before.put-word2.ensures
@@ -67,10 +67,10 @@ part-before-requires-5 c κs = tt
 put-columns-requires : tie.Need-put-columns-requires
 put-columns-requires c κs =
     let tabs = c.before.before.before.before.before.before.before.before.before.before.before in (
-      packet-le _ _ _ _ _ tabs.before.before.before.before.if1.false tabs.before.before.before.part-after.ensures
+      packet_le _ _ _ _ _ tabs.before.before.before.before.if1.false tabs.before.before.before.part-after.ensures
           tabs.before.before.part-after2.ensures tabs.before.part-after3.ensures tabs.part-after4.ensures
           _ c.before.before.before.before.before.before.part-before2.ensures,
-      decoded-le _ _ _ _ _ tabs.before.before.before.before.if1.false tabs.before.before.before.part-after.ensures
+      decoded_le _ _ _ _ _ tabs.before.before.before.before.if1.false tabs.before.before.before.part-after.ensures
           tabs.before.before.part-after2.ensures tabs.before.part-after3.ensures tabs.part-after4.ensures
           _ c.before.before.before.before.part-before4.ensures,
     )

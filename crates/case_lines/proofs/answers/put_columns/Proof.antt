@@ -2,9 +2,9 @@
 use mathlib.Core.Path.{refl, sym, ◌∙◌}
 use borrow.Author.Tests.{not-true, not-false}
 use Rattle.write_bytes.proofs.Putting.{told, same_length as same}
-use Rattle.line_packets.proofs.FourColumns.{failed-packet, parsed-packet, packet-value, hex-packet, hex-decoded}
-use Rattle.case_columns.proofs.Queries.{query-is, query-says}
-use Rattle.case_lines.proofs.Columns.{no-query, no-packet, good-columns}
+use Rattle.line_packets.proofs.FourColumns.{failed_packet, parsed_packet_lem, packet_value, hex_packet, hex_decoded}
+use Rattle.case_columns.proofs.Queries.{query_is, query_says}
+use Rattle.case_lines.proofs.Columns.{no_query_lem, no_packet, good_columns}
 use Rattle.case_lines.proofs.answers.put_columns.Statement.{statement}
 use Rattle.case_lines.proofs.answers.put_columns.Tie as tie
 
@@ -25,7 +25,7 @@ returns c =
     let test = c.before.before.before.before.before in
     let queried = test.before.before in
     told
-    (no-query _ _ _ _ _ _ (sym (query-is _ _ queried.parse-query.ensures) ∙ (sym test.before.is-query.ensures ∙ not-true _ test.if1.true)))
+    (no_query_lem _ _ _ _ _ _ (sym (query_is _ _ queried.parse-query.ensures) ∙ (sym test.before.is-query.ensures ∙ not-true _ test.if1.true)))
     c.before.before.put_word.ensures
 
 same_length : tie.Need-same-length
@@ -50,7 +50,7 @@ returns-2 : tie.Need-returns-2
 returns-2 c =
     let found = c.before.before.before.before.before in
     told
-    (no-packet _ _ _ _ _ _ (failed-packet _ _ _ _ (sym found.before.before.parse-packet.ensures ∙ found.enum_told.given.1)))
+    (no_packet _ _ _ _ _ _ (failed_packet _ _ _ _ (sym found.before.before.parse-packet.ensures ∙ found.enum_told.given.1)))
     c.before.before.put-word2.ensures
 
 same-length-2 : tie.Need-same-length-2
@@ -61,7 +61,7 @@ put-formed-requires c κs =
     let found = c.before.before.before.before in
     let start = found.before.before.before.before.before.before.before.before.before.before.before.before.before in
     let e = sym found.before.before.parse-packet.ensures ∙ found.located.given.1 in
-    (hex-packet _ _ _ _ _ e, hex-decoded _ _ _ _ _ e, start.requires.0, start.requires.1)
+    (hex_packet _ _ _ _ _ e, hex_decoded _ _ _ _ _ e, start.requires.0, start.requires.1)
 
 returns-3 : tie.Need-returns-3
 returns-3 c =
@@ -69,9 +69,9 @@ returns-3 c =
     let test = found.before.before.before in
     let queried = test.before.before in
     let e = sym found.before.before.parse-packet.ensures ∙ found.located.given.1 in
-    let y = sym (query-is _ _ queried.parse-query.ensures) ∙ (sym test.before.is-query.ensures ∙ not-false _ test.if1.false) in
+    let y = sym (query_is _ _ queried.parse-query.ensures) ∙ (sym test.before.is-query.ensures ∙ not-false _ test.if1.false) in
     told
-    (good-columns _ _ _ _ _ _ y (parsed-packet _ _ _ _ _ e) _ (packet-value _ _ _ _ _ e) _ (query-says _ _ queried.parse-query.ensures y))
+    (good_columns _ _ _ _ _ _ y (parsed_packet_lem _ _ _ _ _ e) _ (packet_value _ _ _ _ _ e) _ (query_says _ _ queried.parse-query.ensures y))
     c.before.before.put-formed.ensures
 
 same-length-3 : tie.Need-same-length-3

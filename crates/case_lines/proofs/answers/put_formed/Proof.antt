@@ -1,8 +1,8 @@
 use native.Mathlib.Omega.{arith}
 use Rattle.write_bytes.proofs.Putting.{told, same_length as same}
-use Rattle.line_numbers.proofs.HexBytes.{pairs-in, pairs-are}
-use Rattle.case_lines.specs.CaseLines.{maxLine}
-use Rattle.case_lines.proofs.Columns.{room-is, accepted-is, refused-is}
+use Rattle.line_numbers.proofs.HexBytes.{pairs_in, pairs_are}
+use Rattle.case_lines.specs.CaseLines.{max_line}
+use Rattle.case_lines.proofs.Columns.{room_is, accepted_is, refused_is}
 use borrow.Author.Rules.{rules}
 use Rattle.case_lines.proofs.answers.put_formed.Statement.{statement}
 use Rattle.case_lines.proofs.answers.put_formed.Tie as tie
@@ -29,7 +29,7 @@ part-put-query-end : tie.Need-slice-bounds-put-query-end
 part-put-query-end c =
     let put = c.before.before.before.before.before.before.before in
     let start = put.before.before.before.before.before.before.before.before.before in
-    omega (arith, pairs-in maxLine (omega arith) _ _ _ _ put.put-pairs.ensures start.requires.2 (room-is put.before.put-pairs-arg.given.0.1))
+    omega (arith, pairs_in max_line (omega arith) _ _ _ _ put.put-pairs.ensures start.requires.2 (room_is put.before.put-pairs-arg.given.0.1))
 
 sub-put-query-2 : tie.Need-overflow-sub-put-query-2
 sub-put-query-2 c = search rules
@@ -41,7 +41,7 @@ part-put-query-end-2 : tie.Need-slice-bounds-put-query-end-2
 part-put-query-end-2 c =
     let put = c.before.before.before.before.before.before in
     let start = put.before.before.before.before.before.before.before.before.before.before.before in
-    omega (arith, pairs-in maxLine (omega arith) _ _ _ _ put.put-pairs2.ensures start.requires.3 (room-is put.before.put-pairs-arg2.given.0.1))
+    omega (arith, pairs_in max_line (omega arith) _ _ _ _ put.put-pairs2.ensures start.requires.3 (room_is put.before.put-pairs-arg2.given.0.1))
 
 put-query-requires : tie.Need-put-query-requires
 put-query-requires c κs = tt
@@ -59,15 +59,15 @@ returns c =
     let arm = first.before.before in
     let read = arm.before.before in
     let start = read.before.before.before.before.before in
-    let packet = pairs-are maxLine (omega arith) _ _ _ _ first.put-pairs.ensures start.requires.2 (room-is first.before.put-pairs-arg.given.0.1) in
-    let room = room-is second.before.put-pairs-arg2.given.0.1 in
-    let decoded = pairs-are maxLine (omega arith) _ _ _ _ second.put-pairs2.ensures start.requires.3 room in
-    told (accepted-is _ _ _ packet decoded read.read.ensures.0 arm.enum_told.given.1) c.before.before.put-query.ensures
+    let packet = pairs_are max_line (omega arith) _ _ _ _ first.put-pairs.ensures start.requires.2 (room_is first.before.put-pairs-arg.given.0.1) in
+    let room = room_is second.before.put-pairs-arg2.given.0.1 in
+    let decoded = pairs_are max_line (omega arith) _ _ _ _ second.put-pairs2.ensures start.requires.3 room in
+    told (accepted_is _ _ _ packet decoded read.read.ensures.0 arm.enum_told.given.1) c.before.before.put-query.ensures
 
 returns-2 : tie.Need-returns-2
 returns-2 c =
     let arm = c.before.before.before.before.before in
-    told (refused-is _ _ _ _ _ arm.before.before.read.ensures.0 arm.outcome.given.1) c.before.before.put-unread.ensures
+    told (refused_is _ _ _ _ _ arm.before.before.read.ensures.0 arm.outcome.given.1) c.before.before.put-unread.ensures
 
 same_length : tie.Need-same-length
 same_length c = same (returns c)

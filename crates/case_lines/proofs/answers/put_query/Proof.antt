@@ -1,7 +1,7 @@
 use mathlib.Core.Path.{sym, ap, ◌∙◌}
 use Rattle.write_bytes.proofs.Putting.{told, same_length as same}
-use Rattle.case_lists.specs.AnswerTexts.{answerText}
-use Rattle.case_lines.specs.CaseAnswers.{queryText}
+use Rattle.case_lists.specs.AnswerTexts.{answer_text}
+use Rattle.case_lines.specs.CaseAnswers.{query_text}
 use Rattle.case_lines.proofs.Queries.{queried, queried-first}
 use borrow.Author.Rules.{rules}
 use Rattle.case_lines.proofs.answers.put_query.Statement.{statement}
@@ -29,24 +29,24 @@ put-answer-requires-2 : tie.Need-put-answer-requires-2
 put-answer-requires-2 c κs = tt
 
 returns : tie.Need-returns
-unfolding queryText
+unfolding query_text
 returns c = told (queried _ _ _ _ _ _ c.before.before.before.before.enum_told.given.1) c.before.before.put-list.ensures
 
 returns-2 : tie.Need-returns-2
-unfolding queryText
+unfolding query_text
 returns-2 c =
     told
-    (queried _ _ _ _ _ _ c.before.before.before.before.before.enum-told2.given.1 ∙ ap answerText (sym c.before.before.before.next.ensures.0))
+    (queried _ _ _ _ _ _ c.before.before.before.before.before.enum-told2.given.1 ∙ ap answer_text (sym c.before.before.before.next.ensures.0))
     c.before.before.put-answer.ensures
 
 returns-3 : tie.Need-returns-3
-unfolding queryText
+unfolding query_text
 returns-3 c =
     let test = c.before.before.before.before.before in
     let args = test.before.before.before.before.args in
     told
     (queried-first _ _ _ _ _ args.queried.placement args.queried.kind test.match.keys3
-    ∙ ap answerText (sym c.before.before.before.first.ensures.0))
+    ∙ ap answer_text (sym c.before.before.before.first.ensures.0))
     c.before.before.put-answer2.ensures
 
 same_length : tie.Need-same-length

@@ -1,6 +1,6 @@
 use mathlib.Core.Path.{◌≡◌, refl, ap, ◌∙◌}
 use Rattle.write_bytes.proofs.Putting.{told, same_length as same}
-use Rattle.case_lists.specs.AnswerTexts.{foundText}
+use Rattle.case_lists.specs.AnswerTexts.{found_text}
 use borrow.Author.Rules.{rules}
 use Rattle.case_lists.proofs.answers.put_answer.Statement.{statement}
 use Rattle.case_lists.proofs.answers.put_answer.Tie as tie
@@ -27,15 +27,15 @@ put-refused-requires : tie.Need-put-refused-requires
 put-refused-requires c κs = search rules
 
 returns : tie.Need-returns
-returns c = told (ap (λ f. foundText f c.before.before.before.before.before.before.before.before.args.a.placement)
+returns c = told (ap (λ f. found_text f c.before.before.before.before.before.before.before.before.args.a.placement)
     c.before.before.before.before.enum_told.given.1) c.before.before.put-placement.ensures
 
 returns-2 : tie.Need-returns-2
-returns-2 c = told (ap (λ f. foundText f c.before.before.before.before.before.before.before.before.before.args.a.placement)
+returns-2 c = told (ap (λ f. found_text f c.before.before.before.before.before.before.before.before.before.args.a.placement)
     c.before.before.before.before.before.enum-told2.given.1) c.before.before.put_word.ensures
 
 returns-3 : tie.Need-returns-3
-returns-3 c = told (ap (λ f. foundText f c.before.before.before.before.before.before.before.before.before.args.a.placement)
+returns-3 c = told (ap (λ f. found_text f c.before.before.before.before.before.before.before.before.before.args.a.placement)
     c.before.before.before.before.before.found.given.1) c.before.before.Put-refused.ensures
 
 same_length : tie.Need-same-length

@@ -4,24 +4,24 @@ use Prim.Native.Nat.{◌-◌}
 use native.Mathlib.Omega.{arith}
 use borrow.Author.Tests.{not-true, not-false}
 use Rattle.definitions.specs.Lists.{keep}
-use Rattle.definitions.specs.Placements.{lexLess}
+use Rattle.definitions.specs.Placements.{lex_less}
 use Rattle.write_bytes.specs.Puts.{puts}
 use Rattle.write_bytes.proofs.Putting.{same_length as same}
-use Rattle.search.specs.Searching.{searchedTable}
-use Rattle.match_placements.specs.Listing.{listIn}
-use Rattle.case_lists.specs.AnswerTexts.{placementsAfter, maxAfter}
-use Rattle.case_lists.proofs.Rest.{list-ordered}
-use Rattle.case_lists.proofs.Listing.{left-none, left-on, left_over}
+use Rattle.search.specs.Searching.{searched_table}
+use Rattle.match_placements.specs.Listing.{list_in}
+use Rattle.case_lists.specs.AnswerTexts.{placements_after, max_after}
+use Rattle.case_lists.proofs.Rest.{list_ordered}
+use Rattle.case_lists.proofs.Listing.{left_none, left_on, left_over}
 use Rattle.case_lists.proofs.lists.put_after.Statement.{statement}
 use Rattle.case_lists.proofs.lists.put_after.Tie as tie
 
 abbrev invariant-loop : tie.invariant-loop
 invariant-loop out₀ at protocol flow items count bytes header payload decoded dir m bound₀ next₀ k₀ dots out bound next k =
-    puts out₀ next₀ (placementsAfter maxAfter (keep (lexLess bound₀) (listIn (searchedTable protocol flow items count bytes) header payload decoded dir m)))
-    ≡ puts out next (placementsAfter (maxAfter - k) (keep (lexLess bound) (listIn (searchedTable protocol flow items count bytes) header payload decoded dir m)))
+    puts out₀ next₀ (placements_after max_after (keep (lex_less bound₀) (list_in (searched_table protocol flow items count bytes) header payload decoded dir m)))
+    ≡ puts out next (placements_after (max_after - k) (keep (lex_less bound) (list_in (searched_table protocol flow items count bytes) header payload decoded dir m)))
 
 abbrev decreases-loop : tie.decreases-loop
-decreases-loop out₀ at protocol flow items count bytes header payload decoded dir m bound₀ next₀ k₀ dots out bound next k = maxAfter - k
+decreases-loop out₀ at protocol flow items count bytes header payload decoded dir m bound₀ next₀ k₀ dots out bound next k = max_after - k
 
 loop-holds : tie.Need-loop-init invariant-loop decreases-loop
 loop-holds c = refl
@@ -32,9 +32,9 @@ find-requires c κs = c.before.before.before.before.before.before.requires
 returns : tie.Need-returns invariant-loop decreases-loop
 returns c =
     let x = c.before.before.before.before.before.before.before.before.before.args in
-    let t = searchedTable x.protocol x.flow x.items x.count x.bytes.now in
-    let v = list-ordered t x.header x.payload.now x.decoded.now x.dir x.m in
-    left-none _ v _ _ _ _ _ _ _ c.before.before.before.before.loop.invariant _ c.before.before.find.ensures (not-true _ c.if1.true)
+    let t = searched_table x.protocol x.flow x.items x.count x.bytes.now in
+    let v = list_ordered t x.header x.payload.now x.decoded.now x.dir x.m in
+    left_none _ v _ _ _ _ _ _ _ c.before.before.before.before.loop.invariant _ c.before.before.find.ensures (not-true _ c.if1.true)
 
 put-requires : tie.Need-put-requires invariant-loop decreases-loop
 put-requires c κs = tt
@@ -54,9 +54,9 @@ loop-again c =
     let w = p.before.before.before.before.before in
     let l = w.before.before in
     let x = l.before.before.before.before.before.args in
-    let t = searchedTable x.protocol x.flow x.items x.count x.bytes.now in
-    let v = list-ordered t x.header x.payload.now x.decoded.now x.dir x.m in
-    left-on _ v _ _ _ _ _ _ _ l.loop.invariant _ w.find.ensures w.before.loop-test.true (not-false _ p.before.before.before.if1.false)
+    let t = searched_table x.protocol x.flow x.items x.count x.bytes.now in
+    let v = list_ordered t x.header x.payload.now x.decoded.now x.dir x.m in
+    left_on _ v _ _ _ _ _ _ _ l.loop.invariant _ w.find.ensures w.before.loop-test.true (not-false _ p.before.before.before.if1.false)
     p.put.ensures c.before.before.before.put-placement.ensures
 
 find-requires-2 : tie.Need-find-requires-2 invariant-loop decreases-loop
@@ -65,9 +65,9 @@ find-requires-2 c κs = c.before.before.before.before.before.before.requires
 returns-2 : tie.Need-returns-2 invariant-loop decreases-loop
 returns-2 c =
     let x = c.before.before.before.before.before.before.before.before.before.args in
-    let t = searchedTable x.protocol x.flow x.items x.count x.bytes.now in
-    let v = list-ordered t x.header x.payload.now x.decoded.now x.dir x.m in
-    left-none _ v _ _ _ _ _ _ _ c.before.before.before.before.loop.invariant _ c.before.before.find2.ensures (not-true _ c.if2.true)
+    let t = searched_table x.protocol x.flow x.items x.count x.bytes.now in
+    let v = list_ordered t x.header x.payload.now x.decoded.now x.dir x.m in
+    left_none _ v _ _ _ _ _ _ _ c.before.before.before.before.loop.invariant _ c.before.before.find2.ensures (not-true _ c.if2.true)
 
 slice-aggregate-put-word : tie.Need-slice-aggregate-put-word invariant-loop decreases-loop
 slice-aggregate-put-word c = refl
@@ -80,8 +80,8 @@ returns-3 c =
     let w = c.before.before.before.before.before.before.before in
     let l = w.before.before in
     let x = l.before.before.before.before.before.args in
-    let t = searchedTable x.protocol x.flow x.items x.count x.bytes.now in
-    let v = list-ordered t x.header x.payload.now x.decoded.now x.dir x.m in
+    let t = searched_table x.protocol x.flow x.items x.count x.bytes.now in
+    let v = list_ordered t x.header x.payload.now x.decoded.now x.dir x.m in
     left_over _ v _ _ _ _ _ _ _ l.loop.invariant _ w.find2.ensures w.before.loop-test.false
     (not-false _ c.before.before.before.before.before.if2.false) c.before.before.put_word.ensures
 

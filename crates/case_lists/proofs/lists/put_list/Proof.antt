@@ -3,10 +3,10 @@ use mathlib.Core.Path.{sym, ◌∙◌}
 use native.Mathlib.Omega.{arith}
 use lib.ListN.{length}
 use borrow.Author.Rules.{length_unmapped}
-use Rattle.definitions.specs.Limits.{documentLimits}
+use Rattle.definitions.specs.Limits.{document_limits}
 use Rattle.write_bytes.proofs.Putting.{told, same_length as same}
-use Rattle.match_placements.proofs.CheckedInput.{input-told, refused-check, seen-checked, searchable, check-here, list-here}
-use Rattle.match_placements.proofs.ByParts.{list-by-parts}
+use Rattle.match_placements.proofs.CheckedInput.{input_told, refused_check, seen_checked, searchable, check_here, list_here}
+use Rattle.match_placements.proofs.ByParts.{list_by_parts}
 use Rattle.case_lists.proofs.lists.put_list.Statement.{statement}
 use Rattle.case_lists.proofs.lists.put_list.Tie as tie
 
@@ -37,9 +37,9 @@ put-seen-requires c κs =
     let x = start.args in
     let g = start.well-formed.1.1.0 in
     let formed = w.well-formed-2.ensures x.t3.protocol x.t3.flow (omega (arith, g)) in
-    let told-input = input-told x.t3 x.p.now x.decoded.now formed a.check-input.ensures in
-    let ok = seen-checked x.t3 x.p.now x.decoded.now told-input s.before.before.seen2.given.1 s.payload-of.ensures.0 in
-    let n = length_unmapped _ x.t3.bytes documentLimits.room g.1.1.1.1.1.1.0.1.0.1 in
+    let told-input = input_told x.t3 x.p.now x.decoded.now formed a.check-input.ensures in
+    let ok = seen_checked x.t3 x.p.now x.decoded.now told-input s.before.before.seen2.given.1 s.payload-of.ensures.0 in
+    let n = length_unmapped _ x.t3.bytes document_limits.room g.1.1.1.1.1.1.0.1.0.1 in
     searchable ok (omega (arith, n))
 
 returns : tie.Need-returns
@@ -51,8 +51,8 @@ returns c =
     let x = start.args in
     let g = start.well-formed.1.1.0 in
     let formed = w.well-formed-2.ensures x.t3.protocol x.t3.flow (omega (arith, g)) in
-    let told-input = input-told x.t3 x.p.now x.decoded.now formed a.check-input.ensures in
-    let check = refused-check x.t3 x.p.now x.decoded.now told-input k.seen.given.1 x.dir x.m in
+    let told-input = input_told x.t3 x.p.now x.decoded.now formed a.check-input.ensures in
+    let check = refused_check x.t3 x.p.now x.decoded.now told-input k.seen.given.1 x.dir x.m in
     told (rw check) c.before.before.Put-refused.ensures
 
 returns-2 : tie.Need-returns-2
@@ -64,10 +64,10 @@ returns-2 c =
     let x = start.args in
     let g = start.well-formed.1.1.0 in
     let formed = w.well-formed-2.ensures x.t3.protocol x.t3.flow (omega (arith, g)) in
-    let told-input = input-told x.t3 x.p.now x.decoded.now formed a.check-input.ensures in
-    let ok = seen-checked x.t3 x.p.now x.decoded.now told-input s.before.before.seen2.given.1 s.payload-of.ensures.0 in
-    let l = list-here ok x.dir x.m ∙ sym (list-by-parts x.t3 _ s.payload-of.result.now x.decoded.now x.dir x.m) in
-    told (rw (check-here ok x.dir x.m, l)) c.before.before.put-seen.ensures
+    let told-input = input_told x.t3 x.p.now x.decoded.now formed a.check-input.ensures in
+    let ok = seen_checked x.t3 x.p.now x.decoded.now told-input s.before.before.seen2.given.1 s.payload-of.ensures.0 in
+    let l = list_here ok x.dir x.m ∙ sym (list_by_parts x.t3 _ s.payload-of.result.now x.decoded.now x.dir x.m) in
+    told (rw (check_here ok x.dir x.m, l)) c.before.before.put-seen.ensures
 
 same_length : tie.Need-same-length
 same_length c = same (returns c)

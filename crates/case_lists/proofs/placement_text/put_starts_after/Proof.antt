@@ -5,13 +5,13 @@ use Rattle.write_bytes.proofs.Putting.{then, onward, same_length as same}
 use Prim.Native.Nat.{◌+◌, ◌-◌, ◌≤◌}
 use lib.ListN.{length, take, drop}
 use Rattle.write_bytes.specs.Puts.{puts}
-use Rattle.case_lists.specs.AnswerTexts.{startsAfter}
-use Rattle.case_lists.proofs.Listing.{starts-on, starts-end}
+use Rattle.case_lists.specs.AnswerTexts.{starts_after}
+use Rattle.case_lists.proofs.Listing.{starts_on, starts_end}
 use Rattle.case_lists.proofs.placement_text.put_starts_after.Statement.{statement}
 use Rattle.case_lists.proofs.placement_text.put_starts_after.Tie as tie
 
 abbrev invariant-loop : tie.invariant-loop
-invariant-loop out₀ at n starts next₀ i₀ out next i = puts out₀ next₀ (startsAfter (drop 1 (take n starts))) ≡ puts out next (startsAfter (drop i (take n starts)))
+invariant-loop out₀ at n starts next₀ i₀ out next i = puts out₀ next₀ (starts_after (drop 1 (take n starts))) ≡ puts out next (starts_after (drop i (take n starts)))
 
 abbrev decreases-loop : tie.decreases-loop
 decreases-loop out₀ at n starts next₀ i₀ out next i = n - i
@@ -44,15 +44,15 @@ loop-again c =
     let x = l.before.before.args in
     let long : x.n ≤ length x.t3 = omega (arith, l.before.before.requires) in
     l.loop.invariant
-    ∙ ap (puts l.loop.out l.loop.next) (starts-on x.t3 x.n l.loop.i p.before.before.loop-test.true long)
-    ∙ onward (startsAfter (drop (l.loop.i + 1) (take x.n x.t3))) (then p.put.ensures c.before.before.put-start.ensures)
+    ∙ ap (puts l.loop.out l.loop.next) (starts_on x.t3 x.n l.loop.i p.before.before.loop-test.true long)
+    ∙ onward (starts_after (drop (l.loop.i + 1) (take x.n x.t3))) (then p.put.ensures c.before.before.put-start.ensures)
 
 returns : tie.Need-returns invariant-loop decreases-loop
 unfolding puts
 returns c =
     let l = c.before.loop in
     let x = c.before.before.before.args in
-    record { is = sym (l.invariant ∙ ap (puts l.out l.next) (starts-end x.t3 x.n l.i c.loop-test.false)) }
+    record { is = sym (l.invariant ∙ ap (puts l.out l.next) (starts_end x.t3 x.n l.i c.loop-test.false)) }
 
 same_length : tie.Need-same-length invariant-loop decreases-loop
 same_length c = same (returns c)

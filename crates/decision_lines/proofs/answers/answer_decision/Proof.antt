@@ -2,7 +2,7 @@
 use mathlib.Core.Path.{refl, sym, ◌∙◌}
 use borrow.Author.Tests.{not-true, not-false}
 use Rattle.write_bytes.proofs.Putting.{told, same_length as same}
-use Rattle.decision_lines.proofs.Columns.{long-line, few-tabs, packet-le, decoded-le, book-le, as-columns}
+use Rattle.decision_lines.proofs.Columns.{long_line, few_tabs, packet_le, decoded_le, book_le, as-columns}
 use Rattle.decision_lines.proofs.answers.answer_decision.Statement.{statement}
 use Rattle.decision_lines.proofs.answers.answer_decision.Tie as tie
 
@@ -13,7 +13,7 @@ put-word-requires : tie.Need-put-word-requires
 put-word-requires c κs = tt
 
 returns : tie.Need-returns
-returns c = told (long-line _ c.before.before.before.before.before.if1.true) c.before.before.put_word.ensures
+returns c = told (long_line _ c.before.before.before.before.before.if1.true) c.before.before.put_word.ensures
 
 part-after-requires : tie.Need-part-after-requires
 part-after-requires c κs = tt
@@ -41,7 +41,7 @@ returns-2 c =
     let test = c.before.before.before.before.before in
     let tabs = test.before.before.before in
     told
-    (few-tabs _ _ _ _ tabs.before.before.before.if1.false
+    (few_tabs _ _ _ _ tabs.before.before.before.if1.false
     tabs.before.before.part-after.ensures tabs.before.part-after2.ensures tabs.part-after3.ensures
     (sym test.before.contains.ensures ∙ not-true _ test.if2.true))
     c.before.before.put-word2.ensures
@@ -66,9 +66,9 @@ put-columns-requires c κs =
     let q1 = tabs.before.before.part-after.ensures in
     let q2 = tabs.before.part-after2.ensures in
     let q3 = tabs.part-after3.ensures in (
-      packet-le _ _ _ _ h q1 q2 q3 columns.before.before.part-before2.ensures,
-      decoded-le _ _ _ _ h q1 q2 q3 columns.part-before4.ensures,
-      book-le _ _ _ _ h q1 q2 q3 columns.before.before.before.before.before.before.part-after4.ensures,
+      packet_le _ _ _ _ h q1 q2 q3 columns.before.before.part-before2.ensures,
+      decoded_le _ _ _ _ h q1 q2 q3 columns.part-before4.ensures,
+      book_le _ _ _ _ h q1 q2 q3 columns.before.before.before.before.before.before.part-after4.ensures,
     )
 
 returns-3 : tie.Need-returns-3

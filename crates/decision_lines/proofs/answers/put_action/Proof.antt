@@ -1,7 +1,7 @@
 -- Each arm puts its variant's word.
 use mathlib.Core.Path.{refl, ap}
 use Rattle.write_bytes.proofs.Putting.{told, same_length as same}
-use Rattle.decision_lines.specs.DecisionLines.{actionText}
+use Rattle.decision_lines.specs.DecisionLines.{action_text}
 use borrow.Author.Rules.{rules}
 use Rattle.decision_lines.proofs.answers.put_action.Statement.{statement}
 use Rattle.decision_lines.proofs.answers.put_action.Tie as tie
@@ -25,10 +25,10 @@ put-word-requires-2 : tie.Need-put-word-requires-2
 put-word-requires-2 c κs = tt
 
 returns : tie.Need-returns
-returns c = let put = c.before.before in told (ap actionText put.before.before.before.enum_told.given.1) put.put_word.ensures
+returns c = let put = c.before.before in told (ap action_text put.before.before.before.enum_told.given.1) put.put_word.ensures
 
 returns-2 : tie.Need-returns-2
-returns-2 c = let put = c.before.before in told (ap actionText put.before.before.before.enum-told2.given.1) put.put-word2.ensures
+returns-2 c = let put = c.before.before in told (ap action_text put.before.before.before.enum-told2.given.1) put.put-word2.ensures
 
 same_length : tie.Need-same-length
 same_length c = same (returns c)

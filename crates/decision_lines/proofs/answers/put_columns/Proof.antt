@@ -2,8 +2,8 @@
 use mathlib.Core.Path.{refl, sym, ◌∙◌}
 use borrow.Author.Tests.{not-true, not-false}
 use Rattle.write_bytes.proofs.Putting.{told, same_length as same}
-use Rattle.line_packets.proofs.FourColumns.{failed-packet, parsed-packet, packet-value, hex-packet, hex-decoded}
-use Rattle.decision_lines.proofs.Columns.{no-book, no-packet, good-columns}
+use Rattle.line_packets.proofs.FourColumns.{failed_packet, parsed_packet_lem, packet_value, hex_packet, hex_decoded}
+use Rattle.decision_lines.proofs.Columns.{no_book, no_packet, good_columns}
 use Rattle.decision_lines.proofs.answers.put_columns.Statement.{statement}
 use Rattle.decision_lines.proofs.answers.put_columns.Tie as tie
 
@@ -20,7 +20,7 @@ returns : tie.Need-returns
 returns c =
     let test = c.before.before.before.before.before in
     told
-    (no-book _ _ _ _ _ (sym test.before.is-hex-pairs.ensures ∙ not-true _ test.if1.true))
+    (no_book _ _ _ _ _ (sym test.before.is-hex-pairs.ensures ∙ not-true _ test.if1.true))
     c.before.before.put_word.ensures
 
 same_length : tie.Need-same-length
@@ -45,7 +45,7 @@ returns-2 : tie.Need-returns-2
 returns-2 c =
     let found = c.before.before.before.before.before in
     told
-    (no-packet _ _ _ _ _ (failed-packet _ _ _ _ (sym found.before.before.parse-packet.ensures ∙ found.enum_told.given.1)))
+    (no_packet _ _ _ _ _ (failed_packet _ _ _ _ (sym found.before.before.parse-packet.ensures ∙ found.enum_told.given.1)))
     c.before.before.put-word2.ensures
 
 same-length-2 : tie.Need-same-length-2
@@ -58,7 +58,7 @@ put-formed-requires c κs =
     let start = test.before.before.before.before.before.before.before.before in
     let e = sym found.before.before.parse-packet.ensures ∙ found.located.given.1 in
     let hex-book = sym test.before.is-hex-pairs.ensures ∙ not-false _ test.if1.false in
-    (hex-packet _ _ _ _ _ e, hex-decoded _ _ _ _ _ e, hex-book, start.requires.0, start.requires.1, start.requires.2)
+    (hex_packet _ _ _ _ _ e, hex_decoded _ _ _ _ _ e, hex-book, start.requires.0, start.requires.1, start.requires.2)
 
 returns-3 : tie.Need-returns-3
 returns-3 c =
@@ -66,7 +66,7 @@ returns-3 c =
     let test = found.before.before.before in
     let e = sym found.before.before.parse-packet.ensures ∙ found.located.given.1 in
     let hex-book = sym test.before.is-hex-pairs.ensures ∙ not-false _ test.if1.false in
-    told (good-columns _ _ _ _ _ hex-book (parsed-packet _ _ _ _ _ e) _ (packet-value _ _ _ _ _ e)) c.before.before.put-formed.ensures
+    told (good_columns _ _ _ _ _ hex-book (parsed_packet_lem _ _ _ _ _ e) _ (packet_value _ _ _ _ _ e)) c.before.before.put-formed.ensures
 
 same-length-3 : tie.Need-same-length-3
 same-length-3 c = same (returns-3 c)

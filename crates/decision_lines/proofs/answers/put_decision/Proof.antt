@@ -1,7 +1,7 @@
 -- Each arm puts its variant's text.
 use mathlib.Core.Path.{ap}
 use Rattle.write_bytes.proofs.Putting.{then, told, same_length as same}
-use Rattle.decision_lines.specs.DecisionLines.{decisionText}
+use Rattle.decision_lines.specs.DecisionLines.{decision_text}
 use borrow.Author.Rules.{rules}
 use Rattle.decision_lines.proofs.answers.put_decision.Statement.{statement}
 use Rattle.decision_lines.proofs.answers.put_decision.Tie as tie
@@ -25,14 +25,14 @@ put-unjudged-requires : tie.Need-put-unjudged-requires
 put-unjudged-requires c κs = tt
 
 returns : tie.Need-returns
-unfolding decisionText
+unfolding decision_text
 returns c =
     let put = c.before.before in
     let action = put.before.before.before.before in
-    told (ap decisionText action.before.before.before.d.given.1) (then action.put-action.ensures put.put-decimal.ensures)
+    told (ap decision_text action.before.before.before.d.given.1) (then action.put-action.ensures put.put-decimal.ensures)
 
 returns-2 : tie.Need-returns-2
-returns-2 c = let put = c.before.before in told (ap decisionText put.before.before.before.d2.given.1) put.put-unjudged.ensures
+returns-2 c = let put = c.before.before in told (ap decision_text put.before.before.before.d2.given.1) put.put-unjudged.ensures
 
 same_length : tie.Need-same-length
 same_length c = same (returns c)

@@ -1,9 +1,9 @@
 -- The pairs of the three columns have room, and what is decided is decided for the bytes that they write.
 use native.Mathlib.Omega.{arith}
 use Rattle.write_bytes.proofs.Putting.{told, same_length as same}
-use Rattle.line_numbers.proofs.HexBytes.{pairs-in, pairs-are}
-use Rattle.decision_lines.specs.DecisionLines.{maxLine}
-use Rattle.decision_lines.proofs.Columns.{room-is, decided-is}
+use Rattle.line_numbers.proofs.HexBytes.{pairs_in, pairs_are}
+use Rattle.decision_lines.specs.DecisionLines.{max_line}
+use Rattle.decision_lines.proofs.Columns.{room_is, decided-is}
 use borrow.Author.Rules.{rules}
 use Rattle.decision_lines.proofs.answers.put_formed.Statement.{statement}
 use Rattle.decision_lines.proofs.answers.put_formed.Tie as tie
@@ -27,7 +27,7 @@ part-decide-end : tie.Need-slice-bounds-decide-end
 part-decide-end c =
     let put = c.before.before.before.before.before.before in
     let start = put.before.before.before.before.before.before.before.before.before.before in
-    omega (arith, pairs-in maxLine (omega arith) _ _ _ _ put.put-pairs3.ensures start.requires.5 (room-is put.before.put-pairs-arg3.given.0.1))
+    omega (arith, pairs_in max_line (omega arith) _ _ _ _ put.put-pairs3.ensures start.requires.5 (room_is put.before.put-pairs-arg3.given.0.1))
 
 sub-decide-2 : tie.Need-overflow-sub-decide-2
 sub-decide-2 c = search rules
@@ -39,7 +39,7 @@ part-decide-end-2 : tie.Need-slice-bounds-decide-end-2
 part-decide-end-2 c =
     let put = c.before.before.before.before.before.before.before.before.before.before.before in
     let start = put.before.before.before.before.before.before in
-    omega (arith, pairs-in maxLine (omega arith) _ _ _ _ put.put-pairs.ensures start.requires.3 (room-is put.before.put-pairs-arg.given.0.1))
+    omega (arith, pairs_in max_line (omega arith) _ _ _ _ put.put-pairs.ensures start.requires.3 (room_is put.before.put-pairs-arg.given.0.1))
 
 sub-decide-3 : tie.Need-overflow-sub-decide-3
 sub-decide-3 c = search rules
@@ -51,7 +51,7 @@ part-decide-end-3 : tie.Need-slice-bounds-decide-end-3
 part-decide-end-3 c =
     let put = c.before.before.before.before.before.before.before.before.before.before in
     let start = put.before.before.before.before.before.before.before.before in
-    omega (arith, pairs-in maxLine (omega arith) _ _ _ _ put.put-pairs2.ensures start.requires.4 (room-is put.before.put-pairs-arg2.given.0.1))
+    omega (arith, pairs_in max_line (omega arith) _ _ _ _ put.put-pairs2.ensures start.requires.4 (room_is put.before.put-pairs-arg2.given.0.1))
 
 decide-requires : tie.Need-decide-requires
 decide-requires c κs = tt
@@ -66,10 +66,10 @@ returns c =
     let second = third.before.before in
     let first = second.before.before in
     let start = first.before.before.before.before.before.before in
-    let packet = pairs-are maxLine (omega arith) _ _ _ _ first.put-pairs.ensures start.requires.3 (room-is first.before.put-pairs-arg.given.0.1) in
-    let room = room-is second.before.put-pairs-arg2.given.0.1 in
-    let decoded = pairs-are maxLine (omega arith) _ _ _ _ second.put-pairs2.ensures start.requires.4 room in
-    let book = pairs-are maxLine (omega arith) _ _ _ _ third.put-pairs3.ensures start.requires.5 (room-is third.before.put-pairs-arg3.given.0.1) in
+    let packet = pairs_are max_line (omega arith) _ _ _ _ first.put-pairs.ensures start.requires.3 (room_is first.before.put-pairs-arg.given.0.1) in
+    let room = room_is second.before.put-pairs-arg2.given.0.1 in
+    let decoded = pairs_are max_line (omega arith) _ _ _ _ second.put-pairs2.ensures start.requires.4 room in
+    let book = pairs_are max_line (omega arith) _ _ _ _ third.put-pairs3.ensures start.requires.5 (room_is third.before.put-pairs-arg3.given.0.1) in
     told (decided-is _ _ packet decoded book decided.decide.ensures.0) c.before.before.put-decision.ensures
 
 same_length : tie.Need-same-length

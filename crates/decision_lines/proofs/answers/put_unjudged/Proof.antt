@@ -5,7 +5,7 @@ use Prim.Native.Nat.{ℕ}
 use Rattle.forms.specs.Bytes.{text}
 use Rattle.definitions.specs.Canonical.{decimal}
 use Rattle.write_bytes.proofs.Putting.{then, told, same_length as same}
-use Rattle.decision_lines.specs.DecisionLines.{decisionText}
+use Rattle.decision_lines.specs.DecisionLines.{decision_text}
 use Rattle.decision_lines.proofs.answers.put_unjudged.Statement.{statement}
 use Rattle.decision_lines.proofs.answers.put_unjudged.Tie as tie
 
@@ -28,7 +28,7 @@ put-decimal-requires-2 : tie.Need-put-decimal-requires-2
 put-decimal-requires-2 c κs = tt
 
 returns : tie.Need-returns
-unfolding decisionText
+unfolding decision_text
 returns c =
     let put = c.before.before.before.before.before.before in
     let first = put.before.before.before.before in

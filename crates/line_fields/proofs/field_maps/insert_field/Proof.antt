@@ -1,6 +1,6 @@
 -- The field of the name, then its span.
 use mathlib.Core.Path.{sym, ◌∙◌}
-use Rattle.line_fields.proofs.Fields.{given-already, no-span-there, one_field}
+use Rattle.line_fields.proofs.Fields.{given_already, no_span_there, one_field}
 use borrow.Author.Rules.{rules}
 use Rattle.line_fields.proofs.field_maps.insert_field.Statement.{statement}
 use Rattle.line_fields.proofs.field_maps.insert_field.Tie as tie
@@ -17,7 +17,7 @@ is-present-requires c κs = search rules
 returns : tie.Need-returns
 returns c =
     let name = c.before.before in
-    given-already _ _ _ name.before.part-before.ensures _ name.field-named.ensures (sym c.before.is-present.ensures ∙ c.if1.true)
+    given_already _ _ _ name.before.part-before.ensures _ name.field-named.ensures (sym c.before.is-present.ensures ∙ c.if1.true)
 
 part-after-requires : tie.Need-part-after-requires
 part-after-requires c κs = search rules
@@ -35,7 +35,7 @@ returns-2 : tie.Need-returns-2
 returns-2 c =
     let free = c.before.before.before.before in
     let name = free.before.before in
-    no-span-there _ _ _ name.before.part-before.ensures _ name.field-named.ensures (sym free.before.is-present.ensures ∙ free.if1.false)
+    no_span_there _ _ _ name.before.part-before.ensures _ name.field-named.ensures (sym free.before.is-present.ensures ∙ free.if1.false)
     _ c.before.before.before.part-after.ensures _ c.before.before.parse-span.ensures c.enum_told.given.1
 
 with-field-requires : tie.Need-with-field-requires

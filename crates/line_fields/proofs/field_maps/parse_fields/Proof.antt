@@ -4,7 +4,7 @@ use borrow.Author.Rules.{rules}
 use native.Mathlib.Omega.{arith}
 use lib.ListN.{length}
 use Rattle.line_parts.proofs.PartsFrom.{part_in}
-use Rattle.line_fields.proofs.Fields.{Inserting, inserting-start, inserting-halt, inserting-on, inserting-out}
+use Rattle.line_fields.proofs.Fields.{Inserting, inserting_start, inserting_halt, inserting_on, inserting_out}
 use Rattle.line_fields.proofs.field_maps.parse_fields.Statement.{statement}
 use Rattle.line_fields.proofs.field_maps.parse_fields.Tie as tie
 
@@ -18,7 +18,7 @@ no-fields-requires : tie.Need-no-fields-requires invariant-loop decreases-loop
 no-fields-requires c κs = tt
 
 loop-holds : tie.Need-loop-init invariant-loop decreases-loop
-loop-holds c = inserting-start _ _ c.no_fields.ensures
+loop-holds c = inserting_start _ _ c.no_fields.ensures
 
 sub-part-before : tie.Need-overflow-sub-part-before invariant-loop decreases-loop
 sub-part-before c = omega arith
@@ -45,7 +45,7 @@ returns : tie.Need-returns invariant-loop decreases-loop
 returns c =
     let field = c.before.before in
     let test = field.before.before.before in
-    inserting-halt _ _ _ test.before.loop.invariant test.loop-test.true _ field.before.part-before.ensures _ field.insert-field.ensures
+    inserting_halt _ _ _ test.before.loop.invariant test.loop-test.true _ field.before.part-before.ensures _ field.insert-field.ensures
     c.enum_told.given.1
 
 add_at : tie.Need-overflow-add-at invariant-loop decreases-loop
@@ -69,11 +69,11 @@ loop-again : tie.Need-loop-preserved invariant-loop decreases-loop
 loop-again c =
     let field = c.before.before.before in
     let test = field.before.before.before in
-    inserting-on _ _ _ test.before.loop.invariant test.loop-test.true _ field.before.part-before.ensures _ field.insert-field.ensures
+    inserting_on _ _ _ test.before.loop.invariant test.loop-test.true _ field.before.part-before.ensures _ field.insert-field.ensures
     _ c.before.next.given.1
 
 returns-2 : tie.Need-returns-2 invariant-loop decreases-loop
-returns-2 c = inserting-out _ _ _ c.before.loop.invariant (omega arith)
+returns-2 c = inserting_out _ _ _ c.before.loop.invariant (omega arith)
 
 pub parse-fields-spec : {M : Type 1} → statement M
 parse-fields-spec =

@@ -1,6 +1,6 @@
 -- `-`, or the fields.
 use mathlib.Core.Path.{sym, ◌∙◌}
-use Rattle.line_fields.proofs.Fields.{no-map, some-map}
+use Rattle.line_fields.proofs.Fields.{no_map, some_map}
 use borrow.Author.Rules.{rules}
 use Rattle.line_fields.proofs.field_maps.parse_map.Statement.{statement}
 use Rattle.line_fields.proofs.field_maps.parse_map.Tie as tie
@@ -15,13 +15,13 @@ no-fields-requires : tie.Need-no-fields-requires
 no-fields-requires c κs = search rules
 
 returns : tie.Need-returns
-returns c = no-map _ (sym c.before.before.is_IsWord.ensures ∙ c.before.if1.true) _ c.no_fields.ensures
+returns c = no_map _ (sym c.before.before.is_IsWord.ensures ∙ c.before.if1.true) _ c.no_fields.ensures
 
 parse-fields-requires : tie.Need-parse-fields-requires
 parse-fields-requires c κs = search rules
 
 returns-2 : tie.Need-returns-2
-returns-2 c = some-map _ (sym c.before.before.is_IsWord.ensures ∙ c.before.if1.false) _ c.parse-fields.ensures
+returns-2 c = some_map _ (sym c.before.before.is_IsWord.ensures ∙ c.before.if1.false) _ c.parse-fields.ensures
 
 pub parse-map-spec : {M : Type 1} → statement M
 parse-map-spec =

@@ -1,6 +1,6 @@
 -- The names, one after the other: those before were tried and were not it.
 use mathlib.Core.Path.{sym, ◌∙◌}
-use Rattle.line_fields.specs.FieldMaps.{fieldNamed}
+use Rattle.line_fields.specs.FieldMaps.{field_named}
 use borrow.Author.Rules.{rules}
 use Rattle.line_fields.proofs.field_names.field_named.Statement.{statement}
 use Rattle.line_fields.proofs.field_names.field_named.Tie as tie
@@ -12,7 +12,7 @@ is-word-requires : tie.Need-is-word-requires
 is-word-requires c κs = search rules
 
 returns : tie.Need-returns
-unfolding fieldNamed
+unfolding field_named
 returns c = rw (sym c.before.is_IsWord.ensures ∙ c.if1.true)
 
 slice-aggregate-is-word-2 : tie.Need-slice-aggregate-is-word-2
@@ -22,7 +22,7 @@ is-word-requires-2 : tie.Need-is-word-requires-2
 is-word-requires-2 c κs = search rules
 
 returns-2 : tie.Need-returns-2
-unfolding fieldNamed
+unfolding field_named
 returns-2 c =
     let c1 = c.before.before.before in
     rw (sym c1.before.is_IsWord.ensures ∙ c1.if1.false, sym c.before.is-word2.ensures ∙ c.if2.true)
@@ -34,7 +34,7 @@ is-word-requires-3 : tie.Need-is-word-requires-3
 is-word-requires-3 c κs = search rules
 
 returns-3 : tie.Need-returns-3
-unfolding fieldNamed
+unfolding field_named
 returns-3 c =
     let c2 = c.before.before.before in
     let c1 = c2.before.before.before in
@@ -51,7 +51,7 @@ is-word-requires-4 : tie.Need-is-word-requires-4
 is-word-requires-4 c κs = search rules
 
 returns-4 : tie.Need-returns-4
-unfolding fieldNamed
+unfolding field_named
 returns-4 c =
     let c3 = c.before.before.before in
     let c2 = c3.before.before.before in
@@ -70,7 +70,7 @@ is-word-requires-5 : tie.Need-is-word-requires-5
 is-word-requires-5 c κs = search rules
 
 returns-5 : tie.Need-returns-5
-unfolding fieldNamed
+unfolding field_named
 returns-5 c =
     let c4 = c.before.before.before in
     let c3 = c4.before.before.before in
@@ -91,7 +91,7 @@ is-word-requires-6 : tie.Need-is-word-requires-6
 is-word-requires-6 c κs = search rules
 
 returns-6 : tie.Need-returns-6
-unfolding fieldNamed
+unfolding field_named
 returns-6 c =
     let c5 = c.before.before.before in
     let c4 = c5.before.before.before in
@@ -108,7 +108,7 @@ returns-6 c =
     )
 
 returns-7 : tie.Need-returns-7
-unfolding fieldNamed
+unfolding field_named
 returns-7 c =
     let c5 = c.before.before.before in
     let c4 = c5.before.before.before in

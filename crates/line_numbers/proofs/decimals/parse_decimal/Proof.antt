@@ -5,7 +5,7 @@ use native.Mathlib.Omega.{arith}
 use lib.ListN.{length, get_or}
 use borrow.Author.Rules.{rules}
 use borrow.Author.Tests.{not-true, not-false}
-use Rattle.line_numbers.proofs.Digits.{no-digits, Kept, kept-start, kept_byte, kept-large, kept_on, kept_out, digit_low, digit-high}
+use Rattle.line_numbers.proofs.Digits.{no_digits, Kept, kept_start, kept_byte, kept_large, kept_on, kept_out, digit_low, digit_high}
 use Rattle.line_numbers.proofs.decimals.parse_decimal.Statement.{statement}
 use Rattle.line_numbers.proofs.decimals.parse_decimal.Tie as tie
 
@@ -16,10 +16,10 @@ abbrev decreases-loop : tie.decreases-loop
 decreases-loop s limit v₀ i₀ v i = length s - i
 
 returns : tie.Need-returns invariant-loop decreases-loop
-returns c = no-digits _ _ c.if1.true
+returns c = no_digits _ _ c.if1.true
 
 loop-holds : tie.Need-loop-init invariant-loop decreases-loop
-loop-holds c = kept-start _ _ c.if1.false
+loop-holds c = kept_start _ _ c.if1.false
 
 shared-slice-read-b : tie.Need-shared-slice-read-b invariant-loop decreases-loop
 shared-slice-read-b c = omega arith
@@ -44,14 +44,14 @@ cast-d c =
     let start = c.before.before.before.before.before.before.before in
     let b = get_or start.args.s.now c.before.before.before.before.loop.i 0 in
     let digit = sym c.before.is-between.ensures ∙ not-false _ c.if2.false in
-    omega (arith, digit-high b digit)
+    omega (arith, digit_high b digit)
 
 sub-if3 : tie.Need-overflow-sub-if3 invariant-loop decreases-loop
 sub-if3 c =
     let start = c.before.before.before.before.before.before.before in
     let b = get_or start.args.s.now c.before.before.before.before.loop.i 0 in
     let digit = sym c.before.is-between.ensures ∙ not-false _ c.if2.false in
-    omega (arith, digit-high b digit, start.requires)
+    omega (arith, digit_high b digit, start.requires)
 
 returns-3 : tie.Need-returns-3 invariant-loop decreases-loop
 returns-3 c =
@@ -59,21 +59,21 @@ returns-3 c =
     let turn = c.before.before.before.before in
     let b = get_or start.args.s.now turn.before.loop.i 0 in
     let digit = sym c.before.before.is-between.ensures ∙ not-false _ c.before.if2.false in
-    kept-large _ _ _ _ turn.before.loop.invariant turn.loop-test.true digit (omega (arith, c.if3.true, digit-high b digit, start.requires))
+    kept_large _ _ _ _ turn.before.loop.invariant turn.loop-test.true digit (omega (arith, c.if3.true, digit_high b digit, start.requires))
 
 mul-v : tie.Need-overflow-mul-v invariant-loop decreases-loop
 mul-v c =
     let start = c.before.before.before.before.before.before.before.before in
     let b = get_or start.args.s.now c.before.before.before.before.before.loop.i 0 in
     let digit = sym c.before.before.is-between.ensures ∙ not-false _ c.before.if2.false in
-    omega (arith, c.if3.false, digit-high b digit, start.requires)
+    omega (arith, c.if3.false, digit_high b digit, start.requires)
 
 add-v : tie.Need-overflow-add-v invariant-loop decreases-loop
 add-v c =
     let start = c.before.before.before.before.before.before.before.before in
     let b = get_or start.args.s.now c.before.before.before.before.before.loop.i 0 in
     let digit = sym c.before.before.is-between.ensures ∙ not-false _ c.before.if2.false in
-    omega (arith, c.if3.false, digit-high b digit, start.requires)
+    omega (arith, c.if3.false, digit_high b digit, start.requires)
 
 add-i : tie.Need-overflow-add-i invariant-loop decreases-loop
 add-i c = omega arith
@@ -87,7 +87,7 @@ loop-again c =
     let turn = c.before.before.before.before in
     let b = get_or start.args.s.now turn.before.loop.i 0 in
     let digit = sym c.before.before.is-between.ensures ∙ not-false _ c.before.if2.false in
-    kept_on _ _ _ _ turn.before.loop.invariant turn.loop-test.true digit (omega (arith, c.if3.false, digit-high b digit, start.requires))
+    kept_on _ _ _ _ turn.before.loop.invariant turn.loop-test.true digit (omega (arith, c.if3.false, digit_high b digit, start.requires))
 
 returns-4 : tie.Need-returns-4 invariant-loop decreases-loop
 returns-4 c = kept_out _ _ _ _ c.before.loop.invariant c.loop-test.false

@@ -6,13 +6,13 @@ use native.Mathlib.Omega.{arith}
 use lib.ListN.{length, drop}
 use Rattle.forms.specs.Form.{has}
 use Rattle.definitions.specs.Lists.{all?}
-use Rattle.definitions.specs.Numbers.{hexDigits}
-use Rattle.line_numbers.proofs.HexForm.{each_on, each-out}
+use Rattle.definitions.specs.Numbers.{hex_digits}
+use Rattle.line_numbers.proofs.HexForm.{each_on, each_out}
 use Rattle.line_numbers.proofs.hex_pairs.all_hex.Statement.{statement}
 use Rattle.line_numbers.proofs.hex_pairs.all_hex.Tie as tie
 
 abbrev invariant-loop : tie.invariant-loop
-invariant-loop s good₀ i₀ good i = all? (has hexDigits) s ≡ (good && all? (has hexDigits) (drop i s))
+invariant-loop s good₀ i₀ good i = all? (has hex_digits) s ≡ (good && all? (has hex_digits) (drop i s))
 
 abbrev decreases-loop : tie.decreases-loop
 decreases-loop s good₀ i₀ good i = length s - i
@@ -35,10 +35,10 @@ loop-less c = omega arith
 loop-again : tie.Need-loop-preserved invariant-loop decreases-loop
 loop-again c =
     let turn = c.before.before in
-    rw c.is-hex-digit.ensures (each_on (has hexDigits) _ turn.before.loop.good _ turn.before.loop.invariant turn.loop-test.true)
+    rw c.is-hex-digit.ensures (each_on (has hex_digits) _ turn.before.loop.good _ turn.before.loop.invariant turn.loop-test.true)
 
 returns : tie.Need-returns invariant-loop decreases-loop
-returns c = each-out (has hexDigits) _ _ _ c.before.loop.invariant c.loop-test.false
+returns c = each_out (has hex_digits) _ _ _ c.before.loop.invariant c.loop-test.false
 
 pub all-hex-spec : {M : Type 1} → statement M
 all-hex-spec =

@@ -1,6 +1,6 @@
--- The three ranges are those of the class (`hex-ranges`).
+-- The three ranges are those of the class (`hex_ranges`).
 use borrow.Author.Rules.{rules}
-use Rattle.line_numbers.proofs.HexDigits.{hex-ranges}
+use Rattle.line_numbers.proofs.HexDigits.{hex_ranges}
 use Rattle.line_numbers.proofs.hex_pairs.is_hex_digit.Statement.{statement}
 use Rattle.line_numbers.proofs.hex_pairs.is_hex_digit.Tie as tie
 
@@ -16,7 +16,7 @@ is-between-requires-3 c κs = search rules
 returns : tie.Need-returns
 returns c =
     let first = c.before.before in
-    rw (first.is-between.ensures, c.before.is-between2.ensures, c.is-between3.ensures) (hex-ranges first.before.args.b)
+    rw (first.is-between.ensures, c.before.is-between2.ensures, c.is-between3.ensures) (hex_ranges first.before.args.b)
 
 pub is-hex-digit-spec : {M : Type 1} → statement M
 is-hex-digit-spec =

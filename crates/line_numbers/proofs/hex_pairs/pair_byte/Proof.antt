@@ -1,6 +1,6 @@
--- The digits of both halves stand side by side, each below 16 (`byte-is`, `byte_fits`).
+-- The digits of both halves stand side by side, each below 16 (`byte_is`, `byte_fits`).
 use native.Mathlib.Omega.{arith}
-use Rattle.line_numbers.proofs.HexDigits.{byte-is, byte_fits}
+use Rattle.line_numbers.proofs.HexDigits.{byte_is, byte_fits}
 use Rattle.line_numbers.proofs.hex_pairs.pair_byte.Statement.{statement}
 use Rattle.line_numbers.proofs.hex_pairs.pair_byte.Tie as tie
 
@@ -32,7 +32,7 @@ cast-result : tie.Need-overflow-cast-result
 cast-result c = omega (arith, byte_fits c.args.two c.requires.0 c.requires.1)
 
 returns : tie.Need-returns
-returns c = byte-is c.args.two c.requires.0 c.requires.1
+returns c = byte_is c.args.two c.requires.0 c.requires.1
 
 pub pair-byte-spec : {M : Type 1} → statement M
 pair-byte-spec =

@@ -6,7 +6,7 @@ use lib.ListN.{length, drop}
 use Rattle.definitions.specs.Cases.{pairs}
 use Rattle.write_bytes.specs.Puts.{puts}
 use Rattle.write_bytes.proofs.Putting.{same_length as same}
-use Rattle.line_numbers.proofs.HexBytes.{pair-hex, pair-on, pairs-out}
+use Rattle.line_numbers.proofs.HexBytes.{pair_hex, pair-on, pairs_out}
 use Rattle.line_numbers.proofs.hex_pairs.put_each.Statement.{statement}
 use Rattle.line_numbers.proofs.hex_pairs.put_each.Tie as tie
 
@@ -29,7 +29,7 @@ pair-byte-requires : tie.Need-pair-byte-requires invariant-loop decreases-loop
 pair-byte-requires c κs =
     let turn = c.before.before.before in
     let start = turn.before.before.before in
-    pair-hex start.args.s.now turn.loop.i _ start.requires (omega arith) c.two_at.ensures
+    pair_hex start.args.s.now turn.loop.i _ start.requires (omega arith) c.two_at.ensures
 
 put-requires : tie.Need-put-requires invariant-loop decreases-loop
 put-requires c κs = tt
@@ -57,7 +57,7 @@ returns c =
     let l = c.before.loop in
     let s = c.before.before.before.before.args.s.now in
     let end : length s ≤ l.i + 1 = omega arith in
-    record { is = sym (l.invariant.1 ∙ ap (puts l.out l.next) (pairs-out s l.i end)) }
+    record { is = sym (l.invariant.1 ∙ ap (puts l.out l.next) (pairs_out s l.i end)) }
 
 same_length : tie.Need-same-length invariant-loop decreases-loop
 same_length c = same (returns c)

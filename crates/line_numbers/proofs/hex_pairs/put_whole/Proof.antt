@@ -4,9 +4,9 @@ use Prim.Native.Nat.{ℕ, ◌+◌, ◌-◌, ◌*◌, ◌/◌, ◌≤◌, ◌<◌
 use native.Mathlib.Omega.{arith}
 use lib.ListN.{length, drop, length-set}
 use Rattle.definitions.specs.Cases.{pairs}
-use Rattle.write_bytes.specs.Puts.{maxCounted, puts}
+use Rattle.write_bytes.specs.Puts.{max_counted, puts}
 use Rattle.write_bytes.proofs.Putting.{same_length as same}
-use Rattle.line_numbers.proofs.HexBytes.{pair-hex, pair-kept, pairs-out}
+use Rattle.line_numbers.proofs.HexBytes.{pair_hex, pair-kept, pairs_out}
 use Rattle.line_numbers.proofs.hex_pairs.put_whole.Statement.{statement}
 use Rattle.line_numbers.proofs.hex_pairs.put_whole.Tie as tie
 
@@ -33,7 +33,7 @@ pair-byte-requires : tie.Need-pair-byte-requires invariant-loop decreases-loop
 pair-byte-requires c κs =
     let turn = c.before.before in
     let start = turn.before.before.before in
-    pair-hex start.args.s.now (2 * turn.loop.j) _ start.requires.0 (omega arith) c.two_at.ensures
+    pair_hex start.args.s.now (2 * turn.loop.j) _ start.requires.0 (omega arith) c.two_at.ensures
 
 add-out : tie.Need-overflow-add-out invariant-loop decreases-loop
 add-out c = omega arith
@@ -55,7 +55,7 @@ loop-again c =
     let x = start.args in
     let byte = c.pair-byte.result in
     let pair : 2 * l.j + 1 < length x.s.now = omega arith in
-    let here : x.at + l.j < maxCounted = omega arith in (
+    let here : x.at + l.j < max_counted = omega arith in (
       omega arith,
       length-set l.out (x.at + l.j) byte ∙ l.invariant.1,
       l.invariant.2 ∙ pair-kept x.s.now l.j _ start.requires.0 pair c.before.two_at.ensures byte c.pair-byte.ensures l.out x.at here,
@@ -70,7 +70,7 @@ returns c =
     let x = c.before.before.before.before.args in
     let l = c.before.loop in
     let end : length x.s.now ≤ 2 * l.j + 1 = omega arith in
-    record { is = sym (l.invariant.2 ∙ ap (puts l.out (x.at + l.j)) (pairs-out x.s.now (2 * l.j) end)) }
+    record { is = sym (l.invariant.2 ∙ ap (puts l.out (x.at + l.j)) (pairs_out x.s.now (2 * l.j) end)) }
 
 same_length : tie.Need-same-length invariant-loop decreases-loop
 same_length c = same (returns c)

@@ -1,6 +1,6 @@
 -- The words, one after the other.
 use mathlib.Core.Path.{sym, ◌∙◌}
-use Rattle.line_packets.specs.Directions.{isDirection, directionOf, parsedDirection}
+use Rattle.line_packets.specs.Directions.{is_direction, direction_of, parsed_direction}
 use borrow.Author.Rules.{rules}
 use Rattle.line_packets.proofs.directions.parse_direction.Statement.{statement}
 use Rattle.line_packets.proofs.directions.parse_direction.Tie as tie
@@ -12,7 +12,7 @@ is-word-requires : tie.Need-is-word-requires
 is-word-requires c κs = search rules
 
 returns : tie.Need-returns
-unfolding parsedDirection isDirection directionOf
+unfolding parsed_direction is_direction direction_of
 returns c = rw (sym c.before.is_IsWord.ensures ∙ c.if1.true)
 
 slice-aggregate-is-word-2 : tie.Need-slice-aggregate-is-word-2
@@ -22,13 +22,13 @@ is-word-requires-2 : tie.Need-is-word-requires-2
 is-word-requires-2 c κs = search rules
 
 returns-2 : tie.Need-returns-2
-unfolding parsedDirection isDirection directionOf
+unfolding parsed_direction is_direction direction_of
 returns-2 c =
     let first = c.before.before.before in
     rw (sym first.before.is_IsWord.ensures ∙ first.if1.false, sym c.before.is-word2.ensures ∙ c.if2.true)
 
 returns-3 : tie.Need-returns-3
-unfolding parsedDirection isDirection directionOf
+unfolding parsed_direction is_direction direction_of
 returns-3 c =
     let first = c.before.before.before in
     rw (sym first.before.is_IsWord.ensures ∙ first.if1.false, sym c.before.is-word2.ensures ∙ c.if2.false)

@@ -1,7 +1,7 @@
 -- Column by column: those before were of their form.
 use mathlib.Core.Path.{sym, ◌∙◌}
 use borrow.Author.Tests.{not-true, not-false}
-use Rattle.line_packets.proofs.FourColumns.{no-direction, no_bytes, no-fields-there, no_buffer, one-packet}
+use Rattle.line_packets.proofs.FourColumns.{no_direction, no_bytes, no-fields-there, no_buffer, one-packet}
 use borrow.Author.Rules.{rules}
 use Rattle.line_packets.proofs.packets.parse_packet.Statement.{statement}
 use Rattle.line_packets.proofs.packets.parse_packet.Tie as tie
@@ -16,7 +16,7 @@ enum_told : tie.Need-enum-told
 enum_told c = search rules
 
 returns : tie.Need-returns
-returns c = no-direction _ _ _ _ (sym c.before.before.parse-direction.ensures ∙ c.enum_told.given.1)
+returns c = no_direction _ _ _ _ (sym c.before.before.parse-direction.ensures ∙ c.enum_told.given.1)
 
 is-hex-pairs-requires : tie.Need-is-hex-pairs-requires
 is-hex-pairs-requires c κs = search rules

@@ -4,12 +4,12 @@ use mathlib.Core.List.{[]}
 use Prim.Native.Nat.{◌+◌, ◌-◌, ◌≤◌}
 use native.Mathlib.Omega.{arith}
 use lib.ListN.{length, take, drop}
-use Rattle.match_answers.proofs.PositiveCounts.{positivesOf, bytes-aside, count-one, count-on, count-out}
+use Rattle.match_answers.proofs.PositiveCounts.{positives_of, bytes_aside, count_one, count_on, count_out}
 use Rattle.match_answers.proofs.positives.positive_count.Statement.{statement}
 use Rattle.match_answers.proofs.positives.positive_count.Tie as tie
 
 abbrev invariant-loop : tie.invariant-loop
-invariant-loop count items n₀ i₀ n i = (n ≤ i) × (positivesOf (take count items) ≡ n + positivesOf (drop i (take count items)))
+invariant-loop count items n₀ i₀ n i = (n ≤ i) × (positives_of (take count items) ≡ n + positives_of (drop i (take count items)))
 
 abbrev decreases-loop : tie.decreases-loop
 decreases-loop count items n₀ i₀ n i = count - i
@@ -29,7 +29,7 @@ positive-in-requires c κs = tt
 add-n : tie.Need-overflow-add-n invariant-loop decreases-loop
 add-n c =
     let x = c.before.before.before.before.args in
-    let one = count-one x.t1 x.count c.before.before.before.loop.i _ c.positive-in.result (c.positive-in.ensures []) in
+    let one = count_one x.t1 x.count c.before.before.before.loop.i _ c.positive-in.result (c.positive-in.ensures []) in
     omega arith
 
 add-i : tie.Need-overflow-add-i invariant-loop decreases-loop
@@ -43,15 +43,15 @@ loop-again c =
     let x = c.before.before.before.before.args in
     let l = c.before.before.before.loop in
     let long : x.count ≤ length x.t1 = omega arith in
-    let one = count-one x.t1 x.count l.i _ c.positive-in.result (c.positive-in.ensures []) in
-    let on = count-on x.t1 x.count l.i _ c.positive-in.result c.before.before.loop-test.true long (c.positive-in.ensures []) in
+    let one = count_one x.t1 x.count l.i _ c.positive-in.result (c.positive-in.ensures []) in
+    let on = count_on x.t1 x.count l.i _ c.positive-in.result c.before.before.loop-test.true long (c.positive-in.ensures []) in
     (omega arith, omega (arith, l.invariant.1, on))
 
 returns : tie.Need-returns invariant-loop decreases-loop
 returns c =
     λ b.
     let x = c.before.before.args in
-    omega (arith, c.before.loop.invariant.1, count-out x.t1 x.count c.before.loop.i c.loop-test.false, bytes-aside (take x.count x.t1) b)
+    omega (arith, c.before.loop.invariant.1, count_out x.t1 x.count c.before.loop.i c.loop-test.false, bytes_aside (take x.count x.t1) b)
 
 pub positive-count-spec : {M : Type 1} → statement M
 positive-count-spec =

@@ -2,8 +2,8 @@
 use mathlib.Core.Path.{◌≡◌, refl}
 use Prim.Native.Nat.{ℕ}
 use Rattle.definitions.specs.Items.{Kind}
-use Rattle.definitions.specs.Placements.{constraintBy, positiveIn}
-use Rattle.definitions.proofs.OtherItems.{other-kind}
+use Rattle.definitions.specs.Placements.{constraint_by, positive_in}
+use Rattle.definitions.proofs.OtherItems.{other_kind}
 use Rattle.match_answers.proofs.positives.positive_in.Statement.{statement}
 use Rattle.match_answers.proofs.positives.positive_in.Tie as tie
 
@@ -14,7 +14,7 @@ returns : tie.Need-returns
 returns c =
     λ b.
     let sl = c.before.args.slot in
-    other-kind (λ (k : Kind). ◌≡◌ {A = ℕ} 0 (positiveIn (constraintBy k sl.item sl.addresses b))) refl (λ a. refl) refl sl.item c.match.keys2
+    other_kind (λ (k : Kind). ◌≡◌ {A = ℕ} 0 (positive_in (constraint_by k sl.item sl.addresses b))) refl (λ a. refl) refl sl.item c.match.keys2
 
 returns-2 : tie.Need-returns-2
 returns-2 c = λ b. rw (c.before.before.item.given.1, c.if1.true)

@@ -5,7 +5,7 @@ use lib.Dec.{leb}
 use borrow.Author.Rules.{rules}
 use Rattle.definitions.specs.Lists.{none?}
 use Rattle.match_patterns.specs.Starts.{standing}
-use Rattle.match_patterns.proofs.Listing.{places-window}
+use Rattle.match_patterns.proofs.Listing.{places_window}
 use Rattle.match_patterns.proofs.FirstStart.{none_passes}
 use Rattle.match_patterns.proofs.nowhere.lies_nowhere.Statement.{statement}
 use Rattle.match_patterns.proofs.nowhere.lies_nowhere.Tie as tie
@@ -21,7 +21,7 @@ returns c =
     let a = c.before.before.before.before.args in
     let w = c.before.window in
     let stands = standing a.p.nocase a.b.now a.f.now in
-    sym (ap none? (places-window a.p a.b.now a.last a.f.now w.result w.ensures)
+    sym (ap none? (places_window a.p a.b.now a.last a.f.now w.result w.ensures)
     ∙ none_passes stands w.result.to w.result.from
     ∙ ap (leb w.result.to) (sym c.next_start.ensures))
 

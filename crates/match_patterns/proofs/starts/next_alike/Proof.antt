@@ -5,15 +5,15 @@ use Prim.Native.Nat.{◌-◌}
 use native.Mathlib.Omega.{arith}
 use borrow.Author.Rules.{rules}
 use Rattle.match_folding.specs.Folding.{FoldTable}
-use Rattle.match_patterns.specs.Starts.{standing, firstStart}
-use Rattle.match_patterns.proofs.FirstStart.{walk-met, walk-on, walk-out}
+use Rattle.match_patterns.specs.Starts.{standing, first_start}
+use Rattle.match_patterns.proofs.FirstStart.{walk_met, walk_on, walk_out}
 use Rattle.match_patterns.proofs.starts.next_alike.Statement.{statement}
 use Rattle.match_patterns.proofs.starts.next_alike.Tie as tie
 
 abbrev invariant-loop : tie.invariant-loop
 invariant-loop b f from to folded at₀ at =
     let stands = standing true b f in
-    FoldTable folded × (firstStart stands from (to - from) ≡ firstStart stands at (to - at))
+    FoldTable folded × (first_start stands from (to - from) ≡ first_start stands at (to - at))
 
 abbrev decreases-loop : tie.decreases-loop
 decreases-loop b f from to folded at₀ at = to - at
@@ -35,7 +35,7 @@ alike-at-requires c κs =
 returns : tie.Need-returns invariant-loop decreases-loop
 returns c =
     let l = c.before.before.before.before.loop in
-    sym (l.invariant.1 ∙ walk-met _ _ _ c.before.before.before.loop-test.true (sym c.before.Alike-at.ensures ∙ c.if1.true))
+    sym (l.invariant.1 ∙ walk_met _ _ _ c.before.before.before.loop-test.true (sym c.before.Alike-at.ensures ∙ c.if1.true))
 
 add_at : tie.Need-overflow-add-at invariant-loop decreases-loop
 add_at c = omega arith
@@ -46,10 +46,10 @@ loop-less c = omega arith
 loop-again : tie.Need-loop-preserved invariant-loop decreases-loop
 loop-again c =
     let l = c.before.before.before.before.loop in
-    (l.invariant.0, l.invariant.1 ∙ walk-on _ _ _ c.before.before.before.loop-test.true (sym c.before.Alike-at.ensures ∙ c.if1.false))
+    (l.invariant.0, l.invariant.1 ∙ walk_on _ _ _ c.before.before.before.loop-test.true (sym c.before.Alike-at.ensures ∙ c.if1.false))
 
 returns-2 : tie.Need-returns-2 invariant-loop decreases-loop
-returns-2 c = sym (c.before.loop.invariant.1 ∙ walk-out _ _ _ c.loop-test.false)
+returns-2 c = sym (c.before.loop.invariant.1 ∙ walk_out _ _ _ c.loop-test.false)
 
 pub next-alike-spec : {M : Type 1} → statement M
 next-alike-spec =

@@ -3,13 +3,13 @@ use mathlib.Core.Path.{◌≡◌, refl, sym, ◌∙◌}
 use mathlib.Core.Bool.{false}
 use Prim.Native.Nat.{◌-◌}
 use native.Mathlib.Omega.{arith}
-use Rattle.match_patterns.specs.Starts.{standing, firstStart}
-use Rattle.match_patterns.proofs.FirstStart.{walk-met, walk-on, walk-out}
+use Rattle.match_patterns.specs.Starts.{standing, first_start}
+use Rattle.match_patterns.proofs.FirstStart.{walk_met, walk_on, walk_out}
 use Rattle.match_patterns.proofs.starts.next_equal.Statement.{statement}
 use Rattle.match_patterns.proofs.starts.next_equal.Tie as tie
 
 abbrev invariant-loop : tie.invariant-loop
-invariant-loop b f from to at₀ at = let stands = standing false b f in firstStart stands from (to - from) ≡ firstStart stands at (to - at)
+invariant-loop b f from to at₀ at = let stands = standing false b f in first_start stands from (to - from) ≡ first_start stands at (to - at)
 
 abbrev decreases-loop : tie.decreases-loop
 decreases-loop b f from to at₀ at = to - at
@@ -23,7 +23,7 @@ equal-at-requires c κs = c.before.before.before.before.requires c.before.loop.a
 returns : tie.Need-returns invariant-loop decreases-loop
 returns c =
     let l = c.before.before.before.loop in
-    sym (l.invariant ∙ walk-met _ _ _ c.before.before.loop-test.true (sym c.before.equal-at.ensures ∙ c.if1.true))
+    sym (l.invariant ∙ walk_met _ _ _ c.before.before.loop-test.true (sym c.before.equal-at.ensures ∙ c.if1.true))
 
 add_at : tie.Need-overflow-add-at invariant-loop decreases-loop
 add_at c = omega arith
@@ -34,10 +34,10 @@ loop-less c = omega arith
 loop-again : tie.Need-loop-preserved invariant-loop decreases-loop
 loop-again c =
     let l = c.before.before.before.loop in
-    l.invariant ∙ walk-on _ _ _ c.before.before.loop-test.true (sym c.before.equal-at.ensures ∙ c.if1.false)
+    l.invariant ∙ walk_on _ _ _ c.before.before.loop-test.true (sym c.before.equal-at.ensures ∙ c.if1.false)
 
 returns-2 : tie.Need-returns-2 invariant-loop decreases-loop
-returns-2 c = sym (c.before.loop.invariant ∙ walk-out _ _ _ c.loop-test.false)
+returns-2 c = sym (c.before.loop.invariant ∙ walk_out _ _ _ c.loop-test.false)
 
 pub next-equal-spec : {M : Type 1} → statement M
 next-equal-spec =

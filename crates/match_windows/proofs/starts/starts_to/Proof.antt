@@ -1,5 +1,5 @@
 -- Each return rewrites with the constructor matched and with the comparison of the window's end with the pattern's length.
-use Rattle.match_windows.proofs.Clips.{reached-natural}
+use Rattle.match_windows.proofs.Clips.{reached_natural}
 use native.Mathlib.Omega.{arith}
 -- Each return rewrites with the constructor matched and with the comparison of the window's end with the pattern's length.
 use mathlib.Core.Path.{◌≡◌, sym, ap, ◌∙◌}
@@ -8,7 +8,7 @@ use lib.IntN.{ℤ, pos, ◌+ℤ◌}
 use lib.Signed.{le_z}
 use mir.Val.{to_z, of_z}
 use Rattle.match_windows.proofs.Sums.{end_back}
-use Rattle.match_windows.specs.Ends.{clip, endsTo}
+use Rattle.match_windows.specs.Ends.{clip, ends_to}
 use Rattle.match_windows.proofs.Exact.{to_none, to_some}
 use mir.Syntax.{w64}
 use borrow.Author.Tests.{not-true, not-false}
@@ -26,7 +26,7 @@ room-requires : tie.Need-room-requires
 room-requires c κs = search rules
 
 returns : tie.Need-returns
-unfolding endsTo
+unfolding ends_to
 returns c = rw c.before.enum_told.given.1 c.room.ensures
 
 window-end-requires : tie.Need-window-end-requires
@@ -49,7 +49,7 @@ returns-2 c =
 place-requires : tie.Need-place-requires
 place-requires c κs = (
   omega arith,
-  reached-natural c.before.before.before.before.before.before.args.n (to_z w64 (of_z w64 c.before.before.window-end.result))
+  reached_natural c.before.before.before.before.before.before.args.n (to_z w64 (of_z w64 c.before.before.window-end.result))
       (sym c.before.reaches.ensures ∙ not-false _ c.if1.false),
 )
 

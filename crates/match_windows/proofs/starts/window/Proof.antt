@@ -8,7 +8,7 @@ use mir.Val.{to_z, of_z}
 use mir.ValLaws.{to_z-of_z}
 use borrow.Author.Tests.{le-leb}
 use Rattle.match_windows.specs.Ends.{clip}
-use Rattle.match_windows.proofs.Clips.{raised-back}
+use Rattle.match_windows.proofs.Clips.{raised_back}
 use Rattle.match_windows.proofs.Exact.{spans}
 use borrow.Author.Rules.{rules}
 use Rattle.match_windows.proofs.starts.window.Statement.{statement}
@@ -26,7 +26,7 @@ add-place c = search rules
 place-requires : tie.Need-place-requires
 place-requires c κs =
     let s = to_z w64 (of_z w64 c.before.window-start.result) in
-    (omega arith, rw (raised-back s c.raised.result (record { sfits = c.raised.type-inv }) c.raised.ensures.is) (le-leb 0 (clip s) (omega arith)))
+    (omega arith, rw (raised_back s c.raised.result (record { sfits = c.raised.type-inv }) c.raised.ensures.is) (le-leb 0 (clip s) (omega arith)))
 
 starts-to-requires : tie.Need-starts-to-requires
 starts-to-requires c κs = search rules
@@ -39,7 +39,7 @@ returns c =
     let r = c.before.before.raised in
     spans a.p a.last a.len s (record { from = c.before.place.result; to = c.starts-to.result })
     (to_z-of_z w64 w.result (record { sfits = w.type-inv }) ∙ w.ensures.is)
-    (c.before.place.ensures ∙ ap (λ (x : ℤ). min (clip x) (a.len + 1)) (raised-back s r.result (record { sfits = r.type-inv }) r.ensures.is))
+    (c.before.place.ensures ∙ ap (λ (x : ℤ). min (clip x) (a.len + 1)) (raised_back s r.result (record { sfits = r.type-inv }) r.ensures.is))
     c.starts-to.ensures
 
 pub window-spec : {M : Type 1} → statement M

@@ -1,5 +1,5 @@
 -- Each arm rewrites with the constructor matched and hands on its callee's start.
-use Rattle.match_windows.proofs.Bases.{free-start, begins-back}
+use Rattle.match_windows.proofs.Bases.{free_start, begins_back}
 use borrow.Author.Rules.{rules}
 use Rattle.match_windows.proofs.starts.window_start.Statement.{statement}
 use Rattle.match_windows.proofs.starts.window_start.Tie as tie
@@ -19,12 +19,12 @@ shifted-requires c κs = search rules
 returns : tie.Need-returns
 returns c = rw (
   c.before.enum_told.given.1,
-  ← free-start c.before.before.before.args.last c.before.before.before.args.len
+  ← free_start c.before.before.before.args.last c.before.before.before.args.len
       c.before.before.before.args.within,
-) (begins-back (record { sfits = c.reached.type-inv }) c.reached.ensures)
+) (begins_back (record { sfits = c.reached.type-inv }) c.reached.ensures)
 
 returns-2 : tie.Need-returns-2
-returns-2 c = rw c.before.before.distance.given.1 (begins-back (record { sfits = c.shifted.type-inv }) c.shifted.ensures)
+returns-2 c = rw c.before.before.distance.given.1 (begins_back (record { sfits = c.shifted.type-inv }) c.shifted.ensures)
 
 pub window-start-spec : {M : Type 1} → statement M
 window-start-spec =

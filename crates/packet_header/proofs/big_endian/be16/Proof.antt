@@ -2,7 +2,7 @@
 use native.Mathlib.Omega.{arith}
 use Prim.Native.Nat.{ℕ, ◌<◌}
 use lib.ListN.{get_or}
-use Rattle.packet_header.proofs.Widths.{be-below}
+use Rattle.packet_header.proofs.Widths.{be_below}
 use borrow.Author.Rules.{rules}
 use Rattle.packet_header.proofs.big_endian.be16.Statement.{statement}
 use Rattle.packet_header.proofs.big_endian.be16.Tie as tie
@@ -14,7 +14,7 @@ cast-result : tie.Need-overflow-cast-result
 cast-result c =
     let a = c.before.before.args in
     let bytes : (k : ℕ) → get_or a.d.now k 0 < 256 = λ k. (c.before.shared-slice-known.given k).fits in
-    omega (arith, c.be-at.ensures, be-below a.d.now bytes a.at 2)
+    omega (arith, c.be-at.ensures, be_below a.d.now bytes a.at 2)
 
 returns : tie.Need-returns
 returns c = search rules

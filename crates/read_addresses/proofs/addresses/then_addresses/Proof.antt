@@ -1,4 +1,4 @@
-use Rattle.read_addresses.proofs.Commas.{bracket-read, single-read}
+use Rattle.read_addresses.proofs.Commas.{bracket_read, single_read}
 use borrow.Author.Rules.{rules}
 use Rattle.read_addresses.proofs.addresses.then_addresses.Statement.{statement}
 use Rattle.read_addresses.proofs.addresses.then_addresses.Tie as tie
@@ -27,14 +27,14 @@ returns c =
     let o = l.before in
     let k = o.before in
     let i = k.before.before.before.requires in
-    bracket-read i k.before.next-is.ensures k.if1.true o.then-literal.ensures l.then-list.ensures c.then-literal2.ensures
+    bracket_read i k.before.next-is.ensures k.if1.true o.then-literal.ensures l.then-list.ensures c.then-literal2.ensures
 
 returns-2 : tie.Need-returns-2
 returns-2 c =
     let a = c.before.before.before in
     let k = a.before in
     let i = k.before.before.before.requires in
-    single-read i k.before.next-is.ensures k.if1.false a.then-address.ensures c.before.one_kept.ensures
+    single_read i k.before.next-is.ensures k.if1.false a.then-address.ensures c.before.one_kept.ensures
 
 pub then-addresses-spec : {M : Type 1} → statement M
 then-addresses-spec =

@@ -2,7 +2,7 @@ use native.Mathlib.Omega.{arith}
 use borrow.Author.Rules.{rules}
 use borrow.Author.Tests.{not-true, not-false}
 use Rattle.scan_cursors.proofs.Onward.{left}
-use Rattle.read_addresses.proofs.Commas.{Gathered, gathered-one, gathered-out, count-in, gathered-less, gathered-on}
+use Rattle.read_addresses.proofs.Commas.{Gathered, gathered_one, gathered_out, count_in, gathered-less, gathered-on}
 use Rattle.read_addresses.proofs.addresses.then_list.Statement.{statement}
 use Rattle.read_addresses.proofs.addresses.then_list.Tie as tie
 
@@ -19,7 +19,7 @@ one-kept-requires : tie.Need-one-kept-requires invariant-loop decreases-loop
 one-kept-requires c κs = tt
 
 loop-holds : tie.Need-loop-init invariant-loop decreases-loop
-loop-holds c = gathered-one _ c.before.before.before.before.requires c.before.before.then-address.ensures
+loop-holds c = gathered_one _ c.before.before.before.before.requires c.before.before.then-address.ensures
 
 next-is-requires : tie.Need-next-is-requires invariant-loop decreases-loop
 next-is-requires c κs = tt
@@ -31,7 +31,7 @@ returns c =
     let o = l.before in
     let a = o.before.before in
     let f = a.before.before in
-    gathered-out _ l.loop.invariant k.before.next-is.ensures f.requires a.then-address.ensures o.one_kept.ensures (not-true _ k.if1.true)
+    gathered_out _ l.loop.invariant k.before.next-is.ensures f.requires a.then-address.ensures o.one_kept.ensures (not-true _ k.if1.true)
 
 then-literal-requires : tie.Need-then-literal-requires invariant-loop decreases-loop
 then-literal-requires c κs = c.before.before.loop.invariant.turns.inside
@@ -47,7 +47,7 @@ add-count c =
     let k = c.before.before.before.before in
     let l = k.before.before in
     let f = l.before.before.before.before.before in
-    omega (arith, count-in f.args.s.now l.loop.invariant k.before.next-is.ensures (not-false _ k.if1.false))
+    omega (arith, count_in f.args.s.now l.loop.invariant k.before.next-is.ensures (not-false _ k.if1.false))
 
 loop-less : tie.Need-loop-smaller invariant-loop decreases-loop
 loop-less c =

@@ -1,5 +1,5 @@
 use Rattle.definitions.specs.Forms.{address_of}
-use Rattle.scan_cursors.proofs.Readings.{fmap-reads, pair_reads}
+use Rattle.scan_cursors.proofs.Readings.{fmap_reads, pair_reads}
 use borrow.Author.Rules.{rules}
 use Rattle.read_addresses.proofs.dotted.then_address.Statement.{statement}
 use Rattle.read_addresses.proofs.dotted.then_address.Tie as tie
@@ -34,7 +34,7 @@ returns c =
     let n3 = d3.then-dotted3.ensures in
     let n4 = pair_reads n3.inside b.then-byte.ensures p.then-prefix.ensures in
     let all = pair_reads d1.before.before.requires n1 (pair_reads n1.inside n2 (pair_reads n2.inside n3 n4)) in
-    rw c.number_of.ensures (fmap-reads address_of all)
+    rw c.number_of.ensures (fmap_reads address_of all)
 
 pub then-address-spec : {M : Type 1} → statement M
 then-address-spec =

@@ -1,4 +1,4 @@
-use Rattle.scan_cursors.proofs.Readings.{preceded-reads, pure-reads}
+use Rattle.scan_cursors.proofs.Readings.{preceded_reads, pure_reads}
 use Rattle.scan_cursors.proofs.Choices.{first_reads, second_reads}
 use borrow.Author.Rules.{rules}
 use Rattle.read_addresses.proofs.dotted.then_prefix.Statement.{statement}
@@ -20,11 +20,11 @@ returns : tie.Need-returns
 returns c =
     let l = c.before in
     let k = l.before in
-    let number = preceded-reads k.before.before.before.requires l.then-literal.ensures c.then-byte.ensures in
+    let number = preceded_reads k.before.before.before.requires l.then-literal.ensures c.then-byte.ensures in
     first_reads k.before.next-is.ensures k.if1.true number
 
 returns-2 : tie.Need-returns-2
-returns-2 c = second_reads c.before.next-is.ensures c.if1.false (pure-reads _ _ _ c.before.before.before.requires)
+returns-2 c = second_reads c.before.next-is.ensures c.if1.false (pure_reads _ _ _ c.before.before.before.requires)
 
 pub then-prefix-spec : {M : Type 1} → statement M
 then-prefix-spec =

@@ -1,7 +1,7 @@
 -- Each option has its own form; one whose value is no list stores no bytes.
 use borrow.Author.Rules.{rules}
 use Rattle.read_names.specs.Names.{form_of}
-use Rattle.read_by_name.proofs.Options.{all-single}
+use Rattle.read_by_name.proofs.Options.{all_single}
 use Rattle.read_by_name.proofs.by_name.option_by_name.Statement.{statement}
 use Rattle.read_by_name.proofs.by_name.option_by_name.Tie as tie
 
@@ -30,7 +30,7 @@ pattern-option-requires : tie.Need-pattern-option-requires
 pattern-option-requires c κs = c.before.before.before.before.before.requires
 
 plain-by_name-requires : tie.Need-plain-by_name-requires
-plain-by_name-requires c κs = let start = c.before.before.before in (start.requires.0, all-single start.args.o c.match.keys5)
+plain-by_name-requires c κs = let start = c.before.before.before in (start.requires.0, all_single start.args.o c.match.keys5)
 
 returns : tie.Need-returns
 unfolding form_of

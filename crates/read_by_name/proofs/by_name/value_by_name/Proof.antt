@@ -2,7 +2,7 @@
 use native.Mathlib.Omega.{arith}
 use borrow.Author.Rules.{rules}
 use Rattle.read_names.specs.Names.{form_of}
-use Rattle.read_by_name.proofs.Options.{only-within}
+use Rattle.read_by_name.proofs.Options.{only_within}
 use Rattle.read_by_name.proofs.by_name.value_by_name.Statement.{statement}
 use Rattle.read_by_name.proofs.by_name.value_by_name.Tie as tie
 
@@ -48,4 +48,4 @@ value-by_name-spec =
     (λ c. rw c.before.enum-told16.given.1 c.context-option.ensures)
     (λ c. rw c.before.enum-told17.given.1 c.no-case-option.ensures)
     (λ c. rw c.before.enum-told18.given.1 c.distance-option.ensures)
-    (λ c. let start = c.before.before.before in rw (only-within start.args.o start.requires.1 c.before.match.keys19) c.within-option.ensures))
+    (λ c. let start = c.before.before.before in rw (only_within start.args.o start.requires.1 c.before.match.keys19) c.within-option.ensures))

@@ -1,10 +1,10 @@
 -- Scanning goes from piece to piece to the end of the option; the bytes stored are the pattern's, and no more of them than the text has bytes.
 use mathlib.Core.Path.{refl}
 use mathlib.Core.List.{[]}
-use Rattle.read_value.specs.Values.{optionValueOf}
-use Rattle.scan_cursors.proofs.Readings.{fmap-reads, pair_reads}
-use Rattle.scan_steps.proofs.Closing.{valued-reads}
-use Rattle.read_quoted.proofs.Appended.{ready_on, stored-after, stored-before}
+use Rattle.read_value.specs.Values.{option_value_of}
+use Rattle.scan_cursors.proofs.Readings.{fmap_reads, pair_reads}
+use Rattle.scan_steps.proofs.Closing.{valued_reads}
+use Rattle.read_quoted.proofs.Appended.{ready_on, stored_after, stored_before}
 use borrow.Author.Rules.{rules}
 use Rattle.read_by_name.proofs.lists.pattern_option.Statement.{statement}
 use Rattle.read_by_name.proofs.lists.pattern_option.Tie as tie
@@ -33,7 +33,7 @@ same_length : tie.Need-same-length
 same_length c = search rules
 
 returns : tie.Need-returns
-unfolding optionValueOf
+unfolding option_value_of
 returns c =
     let p = c.before.before.before in
     let m = p.before.before in
@@ -43,12 +43,12 @@ returns c =
     let gap = g.gap_at.ensures in
     let mark = m.then-optional-literal.ensures in
     let end = c.then-closing.ensures in
-    let all = stored-after refl h gap.1 (stored-after refl gap.1.inside mark (stored-before refl mark.inside q.1.stored end.1)) in
-    let v = fmap-reads _ (pair_reads gap.1.inside mark q.1.stored.read) in
+    let all = stored_after refl h gap.1 (stored_after refl gap.1.inside mark (stored_before refl mark.inside q.1.stored end.1)) in
+    let v = fmap_reads _ (pair_reads gap.1.inside mark q.1.stored.read) in
     record {
       al = [];
       b = q.0;
-      reads = valued-reads h gap v end;
+      reads = valued_reads h gap v end;
       kept = g.before.no-addresses.ensures;
       stored = q.1.stored.kept;
       apart = λ n e. (q.1.counted, refl);

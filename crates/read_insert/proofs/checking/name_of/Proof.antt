@@ -1,16 +1,16 @@
--- The loop keeps the padded array of the bytes passed; each store lengthens it by one (`padded-part`).
+-- The loop keeps the padded array of the bytes passed; each store lengthens it by one (`padded_part`).
 use mathlib.Core.Path.{◌≡◌, refl, ◌∙◌}
 use Prim.Native.Nat.{◌-◌, ◌≤◌}
 use native.Mathlib.Omega.{arith}
 use lib.ListN.{take, drop}
-use Rattle.definitions.specs.Limits.{maxName}
+use Rattle.definitions.specs.Limits.{max_name}
 use Rattle.definitions.specs.Lists.{padded}
-use Rattle.list_laws.proofs.Padded.{padded-part}
+use Rattle.list_laws.proofs.Padded.{padded_part}
 use Rattle.read_insert.proofs.checking.name_of.Statement.{statement}
 use Rattle.read_insert.proofs.checking.name_of.Tie as tie
 
 abbrev invariant-loop : tie.invariant-loop
-invariant-loop s from n name₀ i₀ name i = (i ≤ n) × (name ≡ padded maxName 0 (take i (drop from s)))
+invariant-loop s from n name₀ i₀ name i = (i ≤ n) × (name ≡ padded max_name 0 (take i (drop from s)))
 
 abbrev decreases-loop : tie.decreases-loop
 decreases-loop s from n name₀ i₀ name i = n - i
@@ -37,7 +37,7 @@ loop-again : tie.Need-loop-preserved invariant-loop decreases-loop
 loop-again c =
     let args = c.before.before.before.args in
     let loop = c.before.before.loop in
-    (omega arith, rw loop.invariant.1 (padded-part maxName args.s.now args.from loop.i (omega arith) (omega arith)))
+    (omega arith, rw loop.invariant.1 (padded_part max_name args.s.now args.from loop.i (omega arith) (omega arith)))
 
 returns : tie.Need-returns invariant-loop decreases-loop
 returns c = let e : c.before.loop.i ≡ c.before.before.args.n = omega arith in c.before.loop.invariant.1 ∙ rw e

@@ -1,5 +1,5 @@
 -- The state made anew is that of the definition, with what the two callees ensure.
-use Rattle.read_insert.specs.Inserting.{flowInserted}
+use Rattle.read_insert.specs.Inserting.{flow_inserted}
 use Rattle.read_insert.proofs.once.insert_flow.Statement.{statement}
 use Rattle.read_insert.proofs.once.insert_flow.Tie as tie
 
@@ -10,7 +10,7 @@ no-item-requires : tie.Need-no-item-requires
 no-item-requires c κs = tt
 
 returns : tie.Need-returns
-unfolding flowInserted
+unfolding flow_inserted
 returns c = simp (c.no_item.ensures, c.before.before.check-again.ensures)
 
 pub insert-flow-spec : {M : Type 1} → statement M

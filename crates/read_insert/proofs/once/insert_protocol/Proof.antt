@@ -1,5 +1,5 @@
 -- The stores are those of the definition, with what the two callees ensure.
-use Rattle.read_insert.specs.Inserting.{protocolInserted}
+use Rattle.read_insert.specs.Inserting.{protocol_inserted}
 use Rattle.read_insert.proofs.once.insert_protocol.Statement.{statement}
 use Rattle.read_insert.proofs.once.insert_protocol.Tie as tie
 
@@ -10,7 +10,7 @@ no-item-requires : tie.Need-no-item-requires
 no-item-requires c κs = tt
 
 returns : tie.Need-returns
-unfolding protocolInserted
+unfolding protocol_inserted
 returns c = simp (c.no_item.ensures, c.before.check-again.ensures)
 
 pub insert-protocol-spec : {M : Type 1} → statement M

@@ -1,4 +1,4 @@
-use Rattle.scan_steps.proofs.Closing.{comma-reads, no-comma}
+use Rattle.scan_steps.proofs.Closing.{comma_reads, no_comma}
 use borrow.Author.Rules.{rules}
 use Rattle.read_options.proofs.commas.then_comma_reference.Statement.{statement}
 use Rattle.read_options.proofs.commas.then_comma_reference.Tie as tie
@@ -16,10 +16,10 @@ returns : tie.Need-returns
 returns c =
     let l = c.before in
     let k = l.before in
-    comma-reads _ k.before.before.before.requires k.before.next-is.ensures k.if1.true l.then-literal.ensures c.then-reference.ensures
+    comma_reads _ k.before.before.before.requires k.before.next-is.ensures k.if1.true l.then-literal.ensures c.then-reference.ensures
 
 returns-2 : tie.Need-returns-2
-returns-2 c = no-comma _ c.before.before.before.requires c.before.next-is.ensures c.if1.false
+returns-2 c = no_comma _ c.before.before.before.requires c.before.next-is.ensures c.if1.false
 
 pub then-comma-reference-spec : {M : Type 1} → statement M
 then-comma-reference-spec =

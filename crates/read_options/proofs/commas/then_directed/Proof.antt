@@ -1,5 +1,5 @@
 use Rattle.scan_cursors.proofs.Readings.{pair_reads}
-use Rattle.scan_steps.proofs.Closing.{comma-reads, no-comma}
+use Rattle.scan_steps.proofs.Closing.{comma_reads, no_comma}
 use borrow.Author.Rules.{rules}
 use Rattle.read_options.proofs.commas.then_directed.Statement.{statement}
 use Rattle.read_options.proofs.commas.then_directed.Tie as tie
@@ -26,10 +26,10 @@ returns c =
     let k = l.before in
     let comma = l.then-literal.ensures in
     let both = pair_reads comma.inside r.then-reference.ensures c.then-comma-word.ensures in
-    comma-reads _ k.before.before.before.requires k.before.next-is.ensures k.if1.true comma both
+    comma_reads _ k.before.before.before.requires k.before.next-is.ensures k.if1.true comma both
 
 returns-2 : tie.Need-returns-2
-returns-2 c = no-comma _ c.before.before.before.requires c.before.next-is.ensures c.if1.false
+returns-2 c = no_comma _ c.before.before.before.requires c.before.next-is.ensures c.if1.false
 
 pub then-directed-spec : {M : Type 1} → statement M
 then-directed-spec =

@@ -1,6 +1,6 @@
-use Rattle.read_value.specs.Values.{optionValueOf}
-use Rattle.scan_cursors.proofs.Readings.{fmap-reads}
-use Rattle.scan_steps.proofs.Closing.{valued-reads}
+use Rattle.read_value.specs.Values.{option_value_of}
+use Rattle.scan_cursors.proofs.Readings.{fmap_reads}
+use Rattle.scan_steps.proofs.Closing.{valued_reads}
 use borrow.Author.Rules.{rules}
 use Rattle.read_options.proofs.heads.flow_option.Statement.{statement}
 use Rattle.read_options.proofs.heads.flow_option.Tie as tie
@@ -15,11 +15,11 @@ then-closing-requires : tie.Need-then-closing-requires
 then-closing-requires c κs = search rules
 
 returns : tie.Need-returns
-unfolding optionValueOf
+unfolding option_value_of
 returns c =
     let f = c.before in
     let g = f.before in
-    (valued-reads g.before.before.requires g.gap_at.ensures (fmap-reads _ f.then-flow.ensures) c.then-closing.ensures, tt)
+    (valued_reads g.before.before.requires g.gap_at.ensures (fmap_reads _ f.then-flow.ensures) c.then-closing.ensures, tt)
 
 pub flow-option-spec : {M : Type 1} → statement M
 flow-option-spec =

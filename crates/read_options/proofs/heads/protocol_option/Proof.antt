@@ -1,6 +1,6 @@
-use Rattle.read_value.specs.Values.{optionValueOf}
-use Rattle.scan_cursors.proofs.Readings.{fmap-reads}
-use Rattle.scan_steps.proofs.Closing.{valued-reads}
+use Rattle.read_value.specs.Values.{option_value_of}
+use Rattle.scan_cursors.proofs.Readings.{fmap_reads}
+use Rattle.scan_steps.proofs.Closing.{valued_reads}
 use borrow.Author.Rules.{rules}
 use Rattle.read_options.proofs.heads.protocol_option.Statement.{statement}
 use Rattle.read_options.proofs.heads.protocol_option.Tie as tie
@@ -18,12 +18,12 @@ cast-t7 : tie.Need-overflow-cast-t7
 cast-t7 c = search rules
 
 returns : tie.Need-returns
-unfolding optionValueOf
+unfolding option_value_of
 returns c =
     let k = c.before in
     let n = k.before in
     let g = n.before in
-    (valued-reads g.before.before.requires g.gap_at.ensures (fmap-reads _ n.then-protocol.ensures.0) k.then-closing.ensures, tt)
+    (valued_reads g.before.before.requires g.gap_at.ensures (fmap_reads _ n.then-protocol.ensures.0) k.then-closing.ensures, tt)
 
 pub protocol-option-spec : {M : Type 1} → statement M
 protocol-option-spec =

@@ -1,7 +1,7 @@
-use Rattle.read_options.proofs.Negation.{signed-kept}
-use Rattle.read_value.specs.Values.{optionValueOf}
-use Rattle.scan_cursors.proofs.Readings.{fmap-reads, pair_reads}
-use Rattle.scan_steps.proofs.Closing.{valued-reads}
+use Rattle.read_options.proofs.Negation.{signed_kept}
+use Rattle.read_value.specs.Values.{option_value_of}
+use Rattle.scan_cursors.proofs.Readings.{fmap_reads, pair_reads}
+use Rattle.scan_steps.proofs.Closing.{valued_reads}
 use borrow.Author.Rules.{rules}
 use Rattle.read_options.proofs.modifiers.distance_option.Statement.{statement}
 use Rattle.read_options.proofs.modifiers.distance_option.Tie as tie
@@ -25,7 +25,7 @@ signed-of-requires : tie.Need-signed-of-requires
 signed-of-requires c κs = search rules
 
 returns : tie.Need-returns
-unfolding optionValueOf
+unfolding option_value_of
 returns c =
     let k = c.before in
     let r = k.before in
@@ -34,9 +34,9 @@ returns c =
     let g = m.before in
     let minus = m.then-optional-literal.ensures in
     let number = n.then-number.ensures.0 in
-    let value = fmap-reads _ (pair_reads g.gap_at.ensures.1.inside minus (pair_reads minus.inside number r.then-directed.ensures)) in (
-      rw (c.Signed-of.ensures, signed-kept n.then-number.result.value n.then-number.ensures.1 m.then-optional-literal.result.yes)
-          (valued-reads g.before.before.requires g.gap_at.ensures value k.then-closing.ensures),
+    let value = fmap_reads _ (pair_reads g.gap_at.ensures.1.inside minus (pair_reads minus.inside number r.then-directed.ensures)) in (
+      rw (c.Signed-of.ensures, signed_kept n.then-number.result.value n.then-number.ensures.1 m.then-optional-literal.result.yes)
+          (valued_reads g.before.before.requires g.gap_at.ensures value k.then-closing.ensures),
       tt,
     )
 

@@ -1,5 +1,5 @@
-use Rattle.read_value.specs.Values.{optionValueOf}
-use Rattle.scan_steps.proofs.Closing.{bare-reads}
+use Rattle.read_value.specs.Values.{option_value_of}
+use Rattle.scan_steps.proofs.Closing.{bare_reads}
 use borrow.Author.Rules.{rules}
 use Rattle.read_options.proofs.modifiers.no_case_option.Statement.{statement}
 use Rattle.read_options.proofs.modifiers.no_case_option.Tie as tie
@@ -8,8 +8,8 @@ closing-at-requires : tie.Need-closing-at-requires
 closing-at-requires c κs = search rules
 
 returns : tie.Need-returns
-unfolding optionValueOf
-returns c = (bare-reads _ c.before.before.requires c.Closing-at.ensures, tt)
+unfolding option_value_of
+returns c = (bare_reads _ c.before.before.requires c.Closing-at.ensures, tt)
 
 pub no-case-option-spec : {M : Type 1} → statement M
 no-case-option-spec = tie.close (tie.spec closing-at-requires returns)

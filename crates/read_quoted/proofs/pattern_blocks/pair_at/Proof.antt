@@ -1,6 +1,6 @@
 use mathlib.Core.Path.{sym, ◌∙◌}
 use native.Mathlib.Omega.{arith}
-use Rattle.read_quoted.proofs.Hexes.{pair-none, pair-half, pair-in, pair_fits, pair-whole}
+use Rattle.read_quoted.proofs.Hexes.{pair_none, pair_half, pair-in, pair_fits, pair-whole}
 use borrow.Author.Tests.{not-true, not-false}
 use borrow.Author.Rules.{rules}
 use Rattle.read_quoted.proofs.pattern_blocks.pair_at.Statement.{statement}
@@ -10,7 +10,7 @@ is-hex-at-requires : tie.Need-is-hex-at-requires
 is-hex-at-requires c κs = tt
 
 returns : tie.Need-returns
-returns c = pair-none _ _ c.before.before.before.requires (sym c.before.is-hex-at.ensures ∙ not-true _ c.if1.true)
+returns c = pair_none _ _ c.before.before.before.requires (sym c.before.is-hex-at.ensures ∙ not-true _ c.if1.true)
 
 add-is-hex-at : tie.Need-overflow-add-is-hex-at
 add-is-hex-at c = search rules
@@ -24,7 +24,7 @@ add-t8 c = search rules
 returns-2 : tie.Need-returns-2
 returns-2 c =
     let h = c.before.before in
-    pair-half _ _ (sym h.before.is-hex-at.ensures ∙ not-false _ h.if1.false) (sym c.before.is-hex-at2.ensures ∙ not-true _ c.if2.true)
+    pair_half _ _ (sym h.before.is-hex-at.ensures ∙ not-false _ h.if1.false) (sym c.before.is-hex-at2.ensures ∙ not-true _ c.if2.true)
 
 add-value-of : tie.Need-overflow-add-value-of
 add-value-of c = search rules

@@ -4,20 +4,20 @@ use borrow.Author.Rules.{rules}
 use Prim.Native.Nat.{◌-◌}
 use lib.ListN.{length}
 use borrow.Author.Tests.{not-true, not-false}
-use Rattle.read_value.specs.Values.{patternBytesOf}
+use Rattle.read_value.specs.Values.{pattern_bytes_of}
 use Rattle.read_quoted.proofs.Appended.{stores_same, Writes, writes_start}
-use Rattle.read_quoted.proofs.Bytes.{pairWriting, pairs-halt, pair_end, pair-room, pairs-less, pairs-on, pairs-last}
+use Rattle.read_quoted.proofs.Bytes.{pair_writing, pairs_halt, pair_end, pair_room, pairs-less, pairs-on, pairs-last}
 use Rattle.read_quoted.proofs.pattern_blocks.pairs_at.Statement.{statement}
 use Rattle.read_quoted.proofs.pattern_blocks.pairs_at.Tie as tie
 
 abbrev invariant-loop : tie.invariant-loop
-invariant-loop s at bytes₀ used here₀ to₀ bytes here to = Writes pairWriting s at (patternBytesOf bytes₀ used) here (patternBytesOf bytes to)
+invariant-loop s at bytes₀ used here₀ to₀ bytes here to = Writes pair_writing s at (pattern_bytes_of bytes₀ used) here (pattern_bytes_of bytes to)
 
 abbrev decreases-loop : tie.decreases-loop
 decreases-loop s at bytes₀ used here₀ to₀ bytes here to = length s - here
 
 loop-holds : tie.Need-loop-init invariant-loop decreases-loop
-loop-holds c = writes_start pairWriting _ _ _ c.before.before.requires
+loop-holds c = writes_start pair_writing _ _ _ c.before.before.requires
 
 pair-at-requires : tie.Need-pair-at-requires invariant-loop decreases-loop
 pair-at-requires c κs = c.loop.invariant.turns.inside
@@ -26,7 +26,7 @@ enum-known-c : tie.Need-enum-known-c invariant-loop decreases-loop
 enum-known-c c = search rules
 
 returns : tie.Need-returns invariant-loop decreases-loop
-returns c = pairs-halt _ _ _ c.before.before.before.before.before.requires c.before.before.loop.invariant c.before.pair-at.ensures c.match.keys2
+returns c = pairs_halt _ _ _ c.before.before.before.before.before.requires c.before.before.loop.invariant c.before.pair-at.ensures c.match.keys2
 
 same_length : tie.Need-same-length invariant-loop decreases-loop
 same_length c = stores_same (returns c)
@@ -34,7 +34,7 @@ same_length c = stores_same (returns c)
 put-requires : tie.Need-put-requires invariant-loop decreases-loop
 put-requires c κs =
     let p = c.before.before.before.before in
-    pair-room _ _ _ p.before.before.before.before.requires p.before.loop.invariant p.pair-at.ensures c.before.before.c.given.1
+    pair_room _ _ _ p.before.before.before.before.requires p.before.loop.invariant p.pair-at.ensures c.before.before.c.given.1
 
 spaces-at-requires : tie.Need-spaces-at-requires invariant-loop decreases-loop
 spaces-at-requires c κs =

@@ -1,6 +1,6 @@
 -- The bar and spaces before the pairs and the bar after them store nothing.
 use mathlib.Core.Path.{refl}
-use Rattle.read_quoted.proofs.Appended.{ready_on, stored-after, stored-before}
+use Rattle.read_quoted.proofs.Appended.{ready_on, stored_after, stored_before}
 use borrow.Author.Rules.{rules}
 use Rattle.read_quoted.proofs.pattern_blocks.then_block.Statement.{statement}
 use Rattle.read_quoted.proofs.pattern_blocks.then_block.Tie as tie
@@ -31,8 +31,8 @@ returns c =
     let bar = l.then-literal.ensures in
     let gap = g.then-spaces.ensures.1 in
     let q = p.then-pairs.ensures in
-    let pairs = stored-before refl gap.inside q.1 c.then-literal2.ensures in
-    (q.0, stored-after refl l.before.before.before.requires.inside bar (stored-after refl bar.inside gap pairs))
+    let pairs = stored_before refl gap.inside q.1 c.then-literal2.ensures in
+    (q.0, stored_after refl l.before.before.before.requires.inside bar (stored_after refl bar.inside gap pairs))
 
 pub then-block-spec : {M : Type 1} → statement M
 then-block-spec =

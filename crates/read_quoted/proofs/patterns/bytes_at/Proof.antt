@@ -4,23 +4,23 @@ use borrow.Author.Rules.{rules}
 use Prim.Native.Nat.{◌-◌}
 use lib.ListN.{length}
 use borrow.Author.Tests.{not-true, not-false}
-use Rattle.read_value.specs.Values.{patternBytesOf}
-use Rattle.read_quoted.proofs.Appended.{stores_same, Writes, writes_start, writes-ready}
-use Rattle.read_quoted.proofs.Bytes.{elementWriting, elements-halt, elements-less, elements-on, elements-last}
+use Rattle.read_value.specs.Values.{pattern_bytes_of}
+use Rattle.read_quoted.proofs.Appended.{stores_same, Writes, writes_start, writes_ready}
+use Rattle.read_quoted.proofs.Bytes.{element_writing, elements_halt, elements_less, elements_on, elements_last}
 use Rattle.read_quoted.proofs.patterns.bytes_at.Statement.{statement}
 use Rattle.read_quoted.proofs.patterns.bytes_at.Tie as tie
 
 abbrev invariant-loop : tie.invariant-loop
-invariant-loop s at bytes₀ used here₀ to₀ bytes here to = Writes elementWriting s at (patternBytesOf bytes₀ used) here (patternBytesOf bytes to)
+invariant-loop s at bytes₀ used here₀ to₀ bytes here to = Writes element_writing s at (pattern_bytes_of bytes₀ used) here (pattern_bytes_of bytes to)
 
 abbrev decreases-loop : tie.decreases-loop
 decreases-loop s at bytes₀ used here₀ to₀ bytes here to = length s - here
 
 loop-holds : tie.Need-loop-init invariant-loop decreases-loop
-loop-holds c = writes_start elementWriting _ _ _ c.before.before.requires
+loop-holds c = writes_start element_writing _ _ _ c.before.before.requires
 
 element-at-requires : tie.Need-element-at-requires invariant-loop decreases-loop
-element-at-requires c κs = writes-ready elementWriting _ _ _ c.before.before.before.before.requires c.before.loop.invariant
+element-at-requires c κs = writes_ready element_writing _ _ _ c.before.before.before.before.requires c.before.loop.invariant
 
 enum-known-c : tie.Need-enum-known-c invariant-loop decreases-loop
 enum-known-c c = search rules
@@ -28,7 +28,7 @@ enum-known-c c = search rules
 returns : tie.Need-returns invariant-loop decreases-loop
 returns c =
     let e = c.before.before.before in
-    elements-halt _ _ _ e.before.before.before.before.before.requires e.before.before.loop.invariant e.element-at.ensures c.match.keys2
+    elements_halt _ _ _ e.before.before.before.before.before.requires e.before.before.loop.invariant e.element-at.ensures c.match.keys2
 
 same_length : tie.Need-same-length invariant-loop decreases-loop
 same_length c = stores_same (returns c)
@@ -41,7 +41,7 @@ returns-2 c =
     let n = c.before.before.before in
     let e = n.before.before.before.before in
     let more = sym c.before.goes_on.ensures ∙ not-true _ c.if1.true in
-    elements-last _ _ _ e.before.before.before.before.before.requires e.before.before.loop.invariant e.element-at.ensures n.c.given.1 more
+    elements_last _ _ _ e.before.before.before.before.before.requires e.before.before.loop.invariant e.element-at.ensures n.c.given.1 more
 
 same-length-2 : tie.Need-same-length-2 invariant-loop decreases-loop
 same-length-2 c = stores_same (returns-2 c)
@@ -50,14 +50,14 @@ loop-less : tie.Need-loop-smaller invariant-loop decreases-loop
 loop-less c =
     let n = c.before.before.before in
     let e = n.before.before.before.before in
-    elements-less _ _ _ e.before.before.before.before.before.requires e.before.before.loop.invariant e.element-at.ensures n.c.given.1
+    elements_less _ _ _ e.before.before.before.before.before.requires e.before.before.loop.invariant e.element-at.ensures n.c.given.1
 
 loop-again : tie.Need-loop-preserved invariant-loop decreases-loop
 loop-again c =
     let n = c.before.before.before in
     let e = n.before.before.before.before in
     let more = sym c.before.goes_on.ensures ∙ not-false _ c.if1.false in
-    elements-on _ _ _ e.before.before.before.before.before.requires e.before.before.loop.invariant e.element-at.ensures n.c.given.1 more
+    elements_on _ _ _ e.before.before.before.before.before.requires e.before.before.loop.invariant e.element-at.ensures n.c.given.1 more
 
 pub bytes-at-spec : {M : Type 1} → statement M
 bytes-at-spec =

@@ -1,5 +1,5 @@
 use mathlib.Core.Path.{sym, ◌∙◌}
-use Rattle.scan_pieces.proofs.AtPlace.{begins-at, begins-out}
+use Rattle.scan_pieces.proofs.AtPlace.{begins_at, begins_out}
 use borrow.Author.Rules.{rules}
 use Rattle.read_quoted.proofs.patterns.is_plain_at.Statement.{statement}
 use Rattle.read_quoted.proofs.patterns.is_plain_at.Tie as tie
@@ -11,10 +11,10 @@ is-plain-requires : tie.Need-is-plain-requires
 is-plain-requires c κs = tt
 
 returns : tie.Need-returns
-returns c = c.is_plain.ensures ∙ sym (begins-at _ _ _ c.before.before.if1.true)
+returns c = c.is_plain.ensures ∙ sym (begins_at _ _ _ c.before.before.if1.true)
 
 returns-2 : tie.Need-returns-2
-returns-2 c = sym (begins-out _ _ _ c.if1.false)
+returns-2 c = sym (begins_out _ _ _ c.if1.false)
 
 pub is-plain-at-spec : {M : Type 1} → statement M
 is-plain-at-spec = tie.close (tie.spec shared-slice-read-b is-plain-requires returns returns-2)

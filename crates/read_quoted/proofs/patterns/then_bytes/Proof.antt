@@ -1,4 +1,4 @@
-use Rattle.read_quoted.proofs.Appended.{stored-step}
+use Rattle.read_quoted.proofs.Appended.{stored_step}
 use borrow.Author.Rules.{rules}
 use Rattle.read_quoted.proofs.patterns.then_bytes.Statement.{statement}
 use Rattle.read_quoted.proofs.patterns.then_bytes.Tie as tie
@@ -21,7 +21,7 @@ returns c =
     let a = p.before.before in
     let i = a.before.before.before.requires.inside in
     let q = p.bytes-at.ensures in
-    (q.0, stored-step i a.place.ensures c.join.ensures q.1)
+    (q.0, stored_step i a.place.ensures c.join.ensures q.1)
 
 pub then-bytes-spec : {M : Type 1} → statement M
 then-bytes-spec =

@@ -2,7 +2,7 @@
 use mathlib.Core.Path.{refl, ap}
 use native.Mathlib.Omega.{arith}
 use Rattle.read_value.specs.Values.{PatternBytes}
-use Rattle.read_quoted.proofs.Appended.{ready_on, stored-after, stored-before}
+use Rattle.read_quoted.proofs.Appended.{ready_on, stored_after, stored_before}
 use borrow.Author.Rules.{rules}
 use Rattle.read_quoted.proofs.patterns.then_pattern.Statement.{statement}
 use Rattle.read_quoted.proofs.patterns.then_pattern.Tie as tie
@@ -32,10 +32,10 @@ returns c =
     let l = p.before.before in
     let quote = l.then-literal.ensures in
     let q = p.then-bytes.ensures in
-    let bytes = stored-before refl quote.inside q.1 c.then-literal2.ensures in (
+    let bytes = stored_before refl quote.inside q.1 c.then-literal2.ensures in (
       q.0,
       record {
-        stored = stored-after refl l.before.before.before.requires.inside quote bytes;
+        stored = stored_after refl l.before.before.before.requires.inside quote bytes;
         counted = omega (arith, ap (λ (m : PatternBytes). m.used) q.1.kept);
       },
     )

@@ -1,4 +1,4 @@
-use Rattle.read_quoted.proofs.Quotes.{name-read}
+use Rattle.read_quoted.proofs.Quotes.{name_read}
 use borrow.Author.Rules.{rules}
 use Rattle.read_quoted.proofs.quoted_names.then_name.Statement.{statement}
 use Rattle.read_quoted.proofs.quoted_names.then_name.Tie as tie
@@ -21,7 +21,7 @@ returns c =
     let r = l.before in
     let o = r.before in
     let run = r.then-run.ensures in
-    name-read r.then-run.result.from r.then-run.result.len o.before.before.requires o.then-literal.ensures run.0 run.1
+    name_read r.then-run.result.from r.then-run.result.len o.before.before.requires o.then-literal.ensures run.0 run.1
     l.then-literal2.ensures c.limited.ensures
 
 pub then-name-spec : {M : Type 1} → statement M

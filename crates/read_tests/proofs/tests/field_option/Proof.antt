@@ -1,6 +1,6 @@
-use Rattle.read_value.specs.Values.{optionValueOf}
-use Rattle.scan_cursors.proofs.Readings.{fmap-reads, pair_reads, terminated-reads}
-use Rattle.scan_steps.proofs.Closing.{valued-reads}
+use Rattle.read_value.specs.Values.{option_value_of}
+use Rattle.scan_cursors.proofs.Readings.{fmap_reads, pair_reads, terminated_reads}
+use Rattle.scan_steps.proofs.Closing.{valued_reads}
 use borrow.Author.Rules.{rules}
 use Rattle.read_tests.proofs.tests.field_option.Statement.{statement}
 use Rattle.read_tests.proofs.tests.field_option.Tie as tie
@@ -30,7 +30,7 @@ cast-number : tie.Need-overflow-cast-number
 cast-number c = search rules
 
 returns : tie.Need-returns
-unfolding optionValueOf
+unfolding option_value_of
 returns c =
     let k = c.before.before in
     let n = k.before in
@@ -39,9 +39,9 @@ returns c =
     let m = o.before in
     let g = m.before in
     let mask = m.then-mask.ensures.0 in
-    let operator = terminated-reads mask.inside o.then-comparison.ensures e.then-spaces.ensures.1 in
-    let value = fmap-reads _ (pair_reads g.gap_at.ensures.1.inside mask (pair_reads mask.inside operator n.then-numeral.ensures.0)) in
-    (valued-reads g.before.before.requires.0 g.gap_at.ensures value k.then-closing.ensures, tt)
+    let operator = terminated_reads mask.inside o.then-comparison.ensures e.then-spaces.ensures.1 in
+    let value = fmap_reads _ (pair_reads g.gap_at.ensures.1.inside mask (pair_reads mask.inside operator n.then-numeral.ensures.0)) in
+    (valued_reads g.before.before.requires.0 g.gap_at.ensures value k.then-closing.ensures, tt)
 
 pub field-option-spec : {M : Type 1} → statement M
 field-option-spec =

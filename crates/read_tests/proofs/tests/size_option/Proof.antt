@@ -1,6 +1,6 @@
-use Rattle.read_value.specs.Values.{optionValueOf}
-use Rattle.scan_cursors.proofs.Readings.{fmap-reads, pair_reads}
-use Rattle.scan_steps.proofs.Closing.{valued-reads}
+use Rattle.read_value.specs.Values.{option_value_of}
+use Rattle.scan_cursors.proofs.Readings.{fmap_reads, pair_reads}
+use Rattle.scan_steps.proofs.Closing.{valued_reads}
 use borrow.Author.Rules.{rules}
 use Rattle.read_tests.proofs.tests.size_option.Statement.{statement}
 use Rattle.read_tests.proofs.tests.size_option.Tie as tie
@@ -24,7 +24,7 @@ cast-number : tie.Need-overflow-cast-number
 cast-number c = search rules
 
 returns : tie.Need-returns
-unfolding optionValueOf
+unfolding option_value_of
 returns c =
     let k = c.before in
     let f = k.before in
@@ -33,8 +33,8 @@ returns c =
     let g = o.before in
     let order = o.then-size-order.ensures in
     let number = n.then-number.ensures.0 in
-    let value = fmap-reads _ (pair_reads g.gap_at.ensures.1.inside order (pair_reads order.inside number f.then-size-field.ensures)) in
-    (valued-reads g.before.before.requires g.gap_at.ensures value k.then-closing.ensures, tt)
+    let value = fmap_reads _ (pair_reads g.gap_at.ensures.1.inside order (pair_reads order.inside number f.then-size-field.ensures)) in
+    (valued_reads g.before.before.requires g.gap_at.ensures value k.then-closing.ensures, tt)
 
 pub size-option-spec : {M : Type 1} → statement M
 size-option-spec =

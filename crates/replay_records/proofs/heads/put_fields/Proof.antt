@@ -1,6 +1,6 @@
 -- The six spans, one after the other.
 use Rattle.write_bytes.proofs.Putting.{then, same_length as same}
-use Rattle.replay_records.specs.RecordBytes.{fieldsBytes}
+use Rattle.replay_records.specs.RecordBytes.{fields_bytes}
 use Rattle.replay_records.proofs.heads.put_fields.Statement.{statement}
 use Rattle.replay_records.proofs.heads.put_fields.Tie as tie
 
@@ -23,7 +23,7 @@ put-span-requires-6 : tie.Need-put-span-requires-6
 put-span-requires-6 c κs = tt
 
 returns : tie.Need-returns
-unfolding fieldsBytes
+unfolding fields_bytes
 returns c =
     let host = c.before.before in
     let header = host.before.before.before.before in

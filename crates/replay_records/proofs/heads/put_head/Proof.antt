@@ -1,6 +1,6 @@
 -- Direction, bits, the two lengths and the spans, one after the other.
 use Rattle.write_bytes.proofs.Putting.{then, told, same_length as same}
-use Rattle.replay_records.specs.RecordBytes.{headBytes}
+use Rattle.replay_records.specs.RecordBytes.{head_bytes}
 use Rattle.replay_records.proofs.heads.put_head.Statement.{statement}
 use Rattle.replay_records.proofs.heads.put_head.Tie as tie
 
@@ -26,7 +26,7 @@ put-fields-requires : tie.Need-put-fields-requires
 put-fields-requires c κs = tt
 
 returns : tie.Need-returns
-unfolding headBytes
+unfolding head_bytes
 returns c =
     let fields = c.before.before in
     let decoded = fields.before.before.before.before in

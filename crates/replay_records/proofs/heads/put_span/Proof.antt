@@ -2,7 +2,7 @@
 use mathlib.Core.Path.{refl, ap}
 use borrow.Author.Rules.{rules}
 use Rattle.write_bytes.proofs.Putting.{then, told, same_length as same}
-use Rattle.replay_records.specs.RecordBytes.{spanBytes}
+use Rattle.replay_records.specs.RecordBytes.{span_bytes}
 use Rattle.replay_records.proofs.heads.put_span.Statement.{statement}
 use Rattle.replay_records.proofs.heads.put_span.Tie as tie
 
@@ -25,7 +25,7 @@ put-number-requires-2 : tie.Need-put-number-requires-2
 put-number-requires-2 c κs = tt
 
 returns : tie.Need-returns
-returns c = let put = c.before.before in told (ap spanBytes put.before.before.before.enum_told.given.1) put.put_word.ensures
+returns c = let put = c.before.before in told (ap span_bytes put.before.before.before.enum_told.given.1) put.put_word.ensures
 
 same_length : tie.Need-same-length
 same_length c = same (returns c)
@@ -34,7 +34,7 @@ returns-2 : tie.Need-returns-2
 returns-2 c =
     let len = c.before.before in
     let start = len.before.before.before.before in
-    told (ap spanBytes start.before.before.before.f.given.1) (then start.put-number.ensures len.put-number2.ensures)
+    told (ap span_bytes start.before.before.before.f.given.1) (then start.put-number.ensures len.put-number2.ensures)
 
 same-length-2 : tie.Need-same-length-2
 same-length-2 c = same (returns-2 c)

@@ -1,5 +1,5 @@
 use mathlib.Core.Path.{sym, ◌∙◌}
-use Rattle.forms.proofs.Bools.{or-false}
+use Rattle.forms.proofs.Bools.{or_false}
 use Rattle.forms.specs.Form.{has}
 use borrow.Author.Rules.{rules}
 use Rattle.scan_bytes.proofs.bytes.in_class.Statement.{statement}
@@ -43,11 +43,11 @@ is-between-requires-3 c κs = tt
 
 returns : tie.Need-returns
 unfolding has
-returns c = rw c.before.enum_told.given.1 (c.is-between.ensures ∙ sym (or-false _))
+returns c = rw c.before.enum_told.given.1 (c.is-between.ensures ∙ sym (or_false _))
 
 returns-2 : tie.Need-returns-2
 unfolding has
-returns-2 c = rw c.before.enum-told2.given.1 (c.is-between2.ensures ∙ sym (or-false _))
+returns-2 c = rw c.before.enum-told2.given.1 (c.is-between2.ensures ∙ sym (or_false _))
 
 returns-3 : tie.Need-returns-3
 returns-3 c = rw c.before.enum-told3.given.1 c.is-hex.ensures
@@ -60,7 +60,7 @@ returns-5 c = rw c.before.enum-told5.given.1 c.is-name-byte.ensures
 
 returns-6 : tie.Need-returns-6
 unfolding has
-returns-6 c = rw c.before.enum-told6.given.1 (c.is-between3.ensures ∙ sym (or-false _))
+returns-6 c = rw c.before.enum-told6.given.1 (c.is-between3.ensures ∙ sym (or_false _))
 
 pub in-class-spec : {M : Type 1} → statement M
 in-class-spec =

@@ -1,4 +1,4 @@
-use Rattle.scan_bytes.proofs.Tests.{in-this, in-later, in-last}
+use Rattle.scan_bytes.proofs.Tests.{in_this, in_later, in_last}
 use Rattle.forms.specs.Form.{has}
 use mathlib.Core.Path.{sym, ◌∙◌}
 use Rattle.scan_bytes.proofs.bytes.is_hex.Statement.{statement}
@@ -16,16 +16,16 @@ is-between-requires-2 c κs = tt
 
 returns-2 : tie.Need-returns-2
 unfolding has
-returns-2 c = in-later _ _ (sym c.before.before.before.is-between.ensures ∙ c.before.before.if1.false)
-    (in-this _ _ (sym c.before.is-between2.ensures ∙ c.if2.true))
+returns-2 c = in_later _ _ (sym c.before.before.before.is-between.ensures ∙ c.before.before.if1.false)
+    (in_this _ _ (sym c.before.is-between2.ensures ∙ c.if2.true))
 
 is-between-requires-3 : tie.Need-is-between-requires-3
 is-between-requires-3 c κs = tt
 
 returns-3 : tie.Need-returns-3
 unfolding has
-returns-3 c = in-later _ _ (sym c.before.before.before.before.is-between.ensures ∙ c.before.before.before.if1.false)
-    (in-later _ _ (sym c.before.before.is-between2.ensures ∙ c.before.if2.false) (in-last _ c.is-between3.ensures))
+returns-3 c = in_later _ _ (sym c.before.before.before.before.is-between.ensures ∙ c.before.before.before.if1.false)
+    (in_later _ _ (sym c.before.before.is-between2.ensures ∙ c.before.if2.false) (in_last _ c.is-between3.ensures))
 
 pub is-hex-spec : {M : Type 1} → statement M
 is-hex-spec =

@@ -2,7 +2,7 @@ use lib.ListN.{get_or}
 use mathlib.Core.Path.{refl, ◌∙◌}
 use native.Mathlib.Omega.{arith}
 use Prim.Native.Nat.{◌-◌, ◌≤◌}
-use Rattle.scan_bytes.proofs.Saturation.{Sum, sum-on, sum-out, digit-le, product-fits}
+use Rattle.scan_bytes.proofs.Saturation.{Sum, sum_on, sum_out, digit_le, product_fits}
 use Rattle.scan_bytes.proofs.numbers.value_of.Statement.{statement}
 use Rattle.scan_bytes.proofs.numbers.value_of.Tie as tie
 
@@ -24,7 +24,7 @@ digit-value-requires c κs = tt
 mul-cap : tie.Need-overflow-mul-cap invariant-loop decreases-loop
 mul-cap c = omega (
   arith,
-  product-fits c.before.before.before.loop.v c.before.before.before.before.before.args.base 0
+  product_fits c.before.before.before.loop.v c.before.before.before.before.before.args.base 0
       c.before.before.before.loop.invariant.1.small c.before.before.before.before.before.requires.3 (omega arith),
 )
 
@@ -32,12 +32,12 @@ add-cap : tie.Need-overflow-add-cap invariant-loop decreases-loop
 add-cap c = let d = c.digit_value.ensures in
     omega (
       arith,
-      product-fits c.before.before.before.loop.v c.before.before.before.before.before.args.base c.digit_value.result
+      product_fits c.before.before.before.loop.v c.before.before.before.before.before.args.base c.digit_value.result
           c.before.before.before.loop.invariant.1.small c.before.before.before.before.before.requires.3
           (omega (
             arith,
             d,
-            digit-le
+            digit_le
                 (get_or c.before.before.before.before.before.args.s.now c.before.before.before.loop.i 0),
             c.before.shared-slice-known2.given
                 c.before.before.before.loop.i,
@@ -56,13 +56,13 @@ loop-less c = omega arith
 loop-again : tie.Need-loop-preserved invariant-loop decreases-loop
 loop-again c = (
   c.before.before.before.before.loop.invariant.0,
-  sum-on _ _ _ _ _ _ _ c.before.before.before.before.loop.invariant.1
+  sum_on _ _ _ _ _ _ _ c.before.before.before.before.loop.invariant.1
       c.before.before.before.loop-test.true c.before.before.before.before.before.before.requires.1 _ (c.cap.ensures
       ∙ rw c.before.digit_value.ensures),
 )
 
 returns : tie.Need-returns invariant-loop decreases-loop
-returns c = sum-out _ _ _ _ _ _ _ c.before.loop.invariant.1 c.loop-test.false
+returns c = sum_out _ _ _ _ _ _ _ c.before.loop.invariant.1 c.loop-test.false
 
 pub value-of-spec : {M : Type 1} → statement M
 value-of-spec =

@@ -5,7 +5,7 @@ use borrow.Author.Tests.{not-true, not-false}
 use lib.ListN.{length}
 use Rattle.forms.specs.Form.{has}
 use Rattle.scan_bytes.specs.Classes.{class_of}
-use Rattle.list_laws.proofs.Runs.{Run, run_on, run-halt, run_out}
+use Rattle.list_laws.proofs.Runs.{Run, run_on, run_halt, run_out}
 use Rattle.scan_bytes.proofs.runs.run_of.Statement.{statement}
 use Rattle.scan_bytes.proofs.runs.run_of.Tie as tie
 
@@ -25,7 +25,7 @@ in-class-requires : tie.Need-in-class-requires invariant-loop decreases-loop
 in-class-requires c κs = tt
 
 returns : tie.Need-returns invariant-loop decreases-loop
-returns c = run-halt _ _ _ _ c.before.before.before.before.loop.invariant c.before.before.before.loop-test.true
+returns c = run_halt _ _ _ _ c.before.before.before.before.loop.invariant c.before.before.before.loop-test.true
     (sym c.before.in-class.ensures ∙ not-true _ c.if1.true)
 
 add-i : tie.Need-overflow-add-i invariant-loop decreases-loop

@@ -1,6 +1,6 @@
 use mathlib.Core.List.{[], ◌∷◌}
 use mathlib.Core.Path.{sym, ◌∙◌}
-use Rattle.scan_pieces.proofs.AtPlace.{begun-in, byte-none, literal-begun}
+use Rattle.scan_pieces.proofs.AtPlace.{begun_in, byte_none, literal_begun}
 use native.Mathlib.Omega.{arith}
 use Rattle.scan_pieces.proofs.literals.literal_at.Statement.{statement}
 use Rattle.scan_pieces.proofs.literals.literal_at.Tie as tie
@@ -12,13 +12,13 @@ add-t6 : tie.Need-overflow-add-t6
 add-t6 c =
     let f = c.before.before.before in
     let b = f.args.b in
-    omega (arith, begun-in ((b, b) ∷ []) f.args.s.now f.args.at (sym c.before.stands.ensures ∙ c.if1.true))
+    omega (arith, begun_in ((b, b) ∷ []) f.args.s.now f.args.at (sym c.before.stands.ensures ∙ c.if1.true))
 
 returns : tie.Need-returns
-returns c = literal-begun _ _ _ (sym c.before.stands.ensures ∙ c.if1.true)
+returns c = literal_begun _ _ _ (sym c.before.stands.ensures ∙ c.if1.true)
 
 returns-2 : tie.Need-returns-2
-returns-2 c = byte-none _ _ _ c.before.before.before.requires (sym c.before.stands.ensures ∙ c.if1.false) _
+returns-2 c = byte_none _ _ _ c.before.before.before.requires (sym c.before.stands.ensures ∙ c.if1.false) _
 
 pub literal-at-spec : {M : Type 1} → statement M
 literal-at-spec = tie.close (tie.spec stands-requires add-t6 returns returns-2)

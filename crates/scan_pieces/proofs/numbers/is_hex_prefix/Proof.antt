@@ -1,7 +1,7 @@
 use mathlib.Core.List.{[], ◌∷◌}
 use mathlib.Core.Path.{sym, ◌∙◌}
 use native.Mathlib.Omega.{arith}
-use Rattle.scan_pieces.proofs.AtPlace.{begun-in}
+use Rattle.scan_pieces.proofs.AtPlace.{begun_in}
 use Rattle.scan_pieces.proofs.numbers.is_hex_prefix.Statement.{statement}
 use Rattle.scan_pieces.proofs.numbers.is_hex_prefix.Tie as tie
 
@@ -11,7 +11,7 @@ stands-requires c κs = tt
 add-starts : tie.Need-overflow-add-starts
 add-starts c =
     let f = c.before.before.before in
-    omega (arith, begun-in ((48, 48) ∷ []) f.args.s.now f.args.at (sym c.before.stands.ensures ∙ c.if1.true))
+    omega (arith, begun_in ((48, 48) ∷ []) f.args.s.now f.args.at (sym c.before.stands.ensures ∙ c.if1.true))
 
 starts-requires : tie.Need-starts-requires
 starts-requires c κs = tt

@@ -1,12 +1,12 @@
-use Rattle.scan_pieces.proofs.AtPlace.{begins-in}
-use Rattle.scan_bytes.specs.Classes.{caseClass}
+use Rattle.scan_pieces.proofs.AtPlace.{begins_in}
+use Rattle.scan_bytes.specs.Classes.{case_class}
 use lib.ListN.{get_or}
 use mathlib.Core.Path.{sym, ◌∙◌}
 use native.Mathlib.Omega.{arith}
 use borrow.Author.Tests.{not-true, not-false}
 use Prim.Native.Nat.{◌-◌}
 use lib.ListN.{length}
-use Rattle.scan_pieces.proofs.Wording.{Word, word_on, word-halt, word_out}
+use Rattle.scan_pieces.proofs.Wording.{Word, word_on, word_halt, word_out}
 use Rattle.scan_pieces.proofs.words.word_at.Statement.{statement}
 use Rattle.scan_pieces.proofs.words.word_at.Tie as tie
 
@@ -28,14 +28,14 @@ starts-requires c κs = tt
 returns : tie.Need-returns invariant-loop decreases-loop
 returns c =
     let l = c.before.before.before in
-    word-halt _ _ _ _ _ l.before.loop.invariant l.loop-test.true (sym c.before.starts.ensures ∙ not-true _ c.if1.true)
+    word_halt _ _ _ _ _ l.before.loop.invariant l.loop-test.true (sym c.before.starts.ensures ∙ not-true _ c.if1.true)
 
 add-from : tie.Need-overflow-add-from invariant-loop decreases-loop
 add-from c =
     let l = c.before.before.before.before in
     let f = l.before.before.before in
     let stood = sym c.before.starts.ensures ∙ not-false _ c.if1.false in
-    omega (arith, begins-in (caseClass (get_or f.args.w.now l.loop.i 0)) f.args.s.now l.loop.from stood)
+    omega (arith, begins_in (case_class (get_or f.args.w.now l.loop.i 0)) f.args.s.now l.loop.from stood)
 
 add-i : tie.Need-overflow-add-i invariant-loop decreases-loop
 add-i c = omega arith

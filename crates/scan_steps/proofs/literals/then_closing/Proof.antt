@@ -1,4 +1,4 @@
-use Rattle.scan_cursors.proofs.Readings.{step-reads}
+use Rattle.scan_cursors.proofs.Readings.{step_reads}
 use borrow.Author.Rules.{rules}
 use Rattle.scan_steps.proofs.literals.then_closing.Statement.{statement}
 use Rattle.scan_steps.proofs.literals.then_closing.Tie as tie
@@ -13,7 +13,7 @@ join-requires : tie.Need-join-requires
 join-requires c κs = tt
 
 returns : tie.Need-returns
-returns c = (_, step-reads c.before.before.before.before.requires c.before.before.place.ensures c.join.ensures c.before.Closing-at.ensures.1)
+returns c = (_, step_reads c.before.before.before.before.requires c.before.before.place.ensures c.join.ensures c.before.Closing-at.ensures.1)
 
 pub then-closing-spec : {M : Type 1} → statement M
 then-closing-spec = tie.close (tie.spec place-requires closing-at-requires join-requires returns)

@@ -1,4 +1,4 @@
-use Rattle.scan_cursors.proofs.Readings.{step-reads}
+use Rattle.scan_cursors.proofs.Readings.{step_reads}
 use borrow.Author.Rules.{rules}
 use Rattle.scan_steps.proofs.numbers.then_number.Statement.{statement}
 use Rattle.scan_steps.proofs.numbers.then_number.Tie as tie
@@ -14,7 +14,7 @@ join-requires c κs = tt
 
 returns : tie.Need-returns
 returns c = (
-  step-reads c.before.before.before.before.requires.0 c.before.before.place.ensures c.join.ensures c.before.number_at.ensures.0,
+  step_reads c.before.before.before.before.requires.0 c.before.before.place.ensures c.join.ensures c.before.number_at.ensures.0,
   c.before.number_at.ensures.1,
 )
 

@@ -1,7 +1,7 @@
 -- The comma decides whether the word must stand.
 use mathlib.Core.Bool.{true}
-use Rattle.scan_pieces.proofs.Wording.{keyword-reads}
-use Rattle.scan_steps.proofs.Closing.{comma-reads, no-comma}
+use Rattle.scan_pieces.proofs.Wording.{keyword_reads}
+use Rattle.scan_steps.proofs.Closing.{comma_reads, no_comma}
 use borrow.Author.Rules.{rules}
 use Rattle.scan_steps.proofs.words.then_comma_word.Statement.{statement}
 use Rattle.scan_steps.proofs.words.then_comma_word.Tie as tie
@@ -21,11 +21,11 @@ returns c =
     let k = l.before in
     let comma = l.then-literal.ensures in
     let start = k.before.before.before.before in
-    let word = keyword-reads start.args.w.now true comma.inside c.then-word.ensures in
-    comma-reads _ start.requires k.before.next-is.ensures k.if1.true comma word
+    let word = keyword_reads start.args.w.now true comma.inside c.then-word.ensures in
+    comma_reads _ start.requires k.before.next-is.ensures k.if1.true comma word
 
 returns-2 : tie.Need-returns-2
-returns-2 c = no-comma _ c.before.before.before.before.requires c.before.next-is.ensures c.if1.false
+returns-2 c = no_comma _ c.before.before.before.before.requires c.before.next-is.ensures c.if1.false
 
 pub then-comma-word-spec : {M : Type 1} → statement M
 then-comma-word-spec = tie.close (tie.spec next-is-requires then-literal-requires then-word-requires returns returns-2)

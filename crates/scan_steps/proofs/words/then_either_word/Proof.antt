@@ -1,5 +1,5 @@
 use mathlib.Core.Path.{sym, ◌∙◌}
-use Rattle.scan_steps.proofs.EitherWord.{one-reads, other-reads}
+use Rattle.scan_steps.proofs.EitherWord.{one_reads, other_reads}
 use borrow.Author.Rules.{rules}
 use Rattle.scan_steps.proofs.words.then_either_word.Statement.{statement}
 use Rattle.scan_steps.proofs.words.then_either_word.Tie as tie
@@ -17,7 +17,7 @@ returns : tie.Need-returns
 returns c =
     let n = c.before.before in
     let f = n.before.before.before.before.before in (
-      one-reads f.args.one.now f.args.other.now f.requires.1 f.requires.0 n.next-is-letter.ensures c.before.if1.true c.then-word.ensures,
+      one_reads f.args.one.now f.args.other.now f.requires.1 f.requires.0 n.next-is-letter.ensures c.before.if1.true c.then-word.ensures,
       sym c.before.if1.true ∙ n.next-is-letter.ensures,
     )
 
@@ -28,7 +28,7 @@ returns-2 : tie.Need-returns-2
 returns-2 c =
     let n = c.before.before in
     let f = n.before.before.before.before.before in (
-      other-reads f.args.one.now f.args.other.now f.requires.1 f.requires.0 n.next-is-letter.ensures c.before.if1.false c.then-word2.ensures,
+      other_reads f.args.one.now f.args.other.now f.requires.1 f.requires.0 n.next-is-letter.ensures c.before.if1.false c.then-word2.ensures,
       sym c.before.if1.false ∙ n.next-is-letter.ensures,
     )
 

@@ -1,7 +1,7 @@
 -- No placement is after itself; any other start chosen last has passed the one to pass.
 use mathlib.Core.Path.{◌∙◌}
 use Rattle.definitions.specs.Lists.{keep}
-use Rattle.definitions.specs.Placements.{lexLess}
+use Rattle.definitions.specs.Placements.{lex_less}
 use Rattle.search_state.specs.Choosing.{answer, extend}
 use Rattle.search_state.proofs.chosen.finish.Statement.{statement}
 use Rattle.search_state.proofs.chosen.finish.Tie as tie
@@ -10,7 +10,7 @@ no-match-requires : tie.Need-no-match-requires
 no-match-requires c κs = tt
 
 returns : tie.Need-returns
-unfolding answer keep lexLess
+unfolding answer keep lex_less
 returns c = λ p. c.no-match.ensures ∙ rw c.before.if1.true
 
 returns-2 : tie.Need-returns-2

@@ -4,8 +4,8 @@ use mathlib.Core.Bool.{true, false}
 use native.Mathlib.Omega.{arith}
 use borrow.Author.Tests.{not-true, not-false}
 use Rattle.definitions.specs.declared.packets.Start.{Start}
-use Rattle.definitions.specs.Starts.{start_at, startBefore}
-use Rattle.laws.proofs.StartOrder.{before-number, not-before-number}
+use Rattle.definitions.specs.Starts.{start_at, start_before}
+use Rattle.laws.proofs.StartOrder.{before_number, not_before_number}
 use Rattle.search_state.proofs.chosen.start_from.Statement.{statement}
 use Rattle.search_state.proofs.chosen.start_from.Tie as tie
 
@@ -23,18 +23,18 @@ returns-2 c =
     let i = c.before.before.before in
     let x = i.before.args in
     let start : c.before.before.start-at.result ≡ start_at x.from = c.before.before.start-at.ensures in
-    let h : startBefore (start_at x.from) x.b ≡ true =
-    ap (λ (s : Start). startBefore s x.b) (sym start) ∙ sym c.before.start-before.ensures ∙ c.if2.true in
-    rw (not-false x.on-bound i.if1.false) (omega (arith, before-number x.from x.b h))
+    let h : start_before (start_at x.from) x.b ≡ true =
+    ap (λ (s : Start). start_before s x.b) (sym start) ∙ sym c.before.start-before.ensures ∙ c.if2.true in
+    rw (not-false x.on-bound i.if1.false) (omega (arith, before_number x.from x.b h))
 
 returns-3 : tie.Need-returns-3
 returns-3 c =
     let i = c.before.before.before in
     let x = i.before.args in
     let start : c.before.before.start-at.result ≡ start_at x.from = c.before.before.start-at.ensures in
-    let h : startBefore (start_at x.from) x.b ≡ false =
-    ap (λ (s : Start). startBefore s x.b) (sym start) ∙ sym c.before.start-before.ensures ∙ c.if2.false in
-    rw (not-false x.on-bound i.if1.false) (omega (arith, not-before-number x.from x.b h))
+    let h : start_before (start_at x.from) x.b ≡ false =
+    ap (λ (s : Start). start_before s x.b) (sym start) ∙ sym c.before.start-before.ensures ∙ c.if2.false in
+    rw (not-false x.on-bound i.if1.false) (omega (arith, not_before_number x.from x.b h))
 
 pub start-from-spec : {M : Type 1} → statement M
 start-from-spec =

@@ -1,21 +1,21 @@
--- The loop keeps whether all from its place on are unused (`rest-on`); one that is not decides.
+-- The loop keeps whether all from its place on are unused (`rest_on`); one that is not decides.
 use mathlib.Core.Path.{◌≡◌, refl, sym, ◌∙◌}
 use Prim.Native.Nat.{◌-◌, ◌≤◌, ◌<◌}
 use native.Mathlib.Omega.{arith}
 use lib.ListN.{length, drop}
 use borrow.Author.Tests.{not-true, not-false}
-use Rattle.definitions.specs.Limits.{maxAddresses}
+use Rattle.definitions.specs.Limits.{max_addresses}
 use Rattle.definitions.specs.Lists.{all?}
-use Rattle.definitions.specs.WellFormed.{addressUnused}
-use Rattle.list_laws.proofs.Every.{rest-on, rest-not, rest_out}
+use Rattle.definitions.specs.WellFormed.{address_unused}
+use Rattle.list_laws.proofs.Every.{rest_on, rest_not, rest_out}
 use Rattle.table_slots.proofs.addresses.addresses_unused.Statement.{statement}
 use Rattle.table_slots.proofs.addresses.addresses_unused.Tie as tie
 
 abbrev invariant-loop : tie.invariant-loop
-invariant-loop from list i₀ i = all? addressUnused (drop from list) ≡ all? addressUnused (drop i list)
+invariant-loop from list i₀ i = all? address_unused (drop from list) ≡ all? address_unused (drop i list)
 
 abbrev decreases-loop : tie.decreases-loop
-decreases-loop from list i₀ i = maxAddresses - i
+decreases-loop from list i₀ i = max_addresses - i
 
 loop-holds : tie.Need-loop-init invariant-loop decreases-loop
 loop-holds c = refl
@@ -34,7 +34,7 @@ returns c =
     let args = c.before.before.before.before.before.args in
     let loop = c.before.before.before.before.loop in
     let inside : loop.i < length args.t1 = omega arith in
-    sym (rest-not addressUnused _ args.t1 loop.i loop.invariant _ inside (sym c.before.address-unused.ensures ∙ not-true _ c.if1.true))
+    sym (rest_not address_unused _ args.t1 loop.i loop.invariant _ inside (sym c.before.address-unused.ensures ∙ not-true _ c.if1.true))
 
 add-i : tie.Need-overflow-add-i invariant-loop decreases-loop
 add-i c = omega arith
@@ -47,13 +47,13 @@ loop-again c =
     let args = c.before.before.before.before.before.args in
     let loop = c.before.before.before.before.loop in
     let inside : loop.i < length args.t1 = omega arith in
-    rest-on addressUnused _ args.t1 loop.i loop.invariant _ inside (sym c.before.address-unused.ensures ∙ not-false _ c.if1.false)
+    rest_on address_unused _ args.t1 loop.i loop.invariant _ inside (sym c.before.address-unused.ensures ∙ not-false _ c.if1.false)
 
 returns-2 : tie.Need-returns-2 invariant-loop decreases-loop
 returns-2 c =
     let args = c.before.before.args in
     let out : length args.t1 ≤ c.before.loop.i = omega arith in
-    sym (rest_out addressUnused _ args.t1 c.before.loop.i c.before.loop.invariant out)
+    sym (rest_out address_unused _ args.t1 c.before.loop.i c.before.loop.invariant out)
 
 pub addresses-unused-spec : {M : Type 1} → statement M
 addresses-unused-spec =

@@ -1,8 +1,8 @@
 -- A table is answered with its canonical text or the writer's refusal, a refusal of the reader with its number and place, as the definition does by the
--- outcome. What is read is well formed, as the writer asks of its caller (`read-formed`).
+-- outcome. What is read is well formed, as the writer asks of its caller (`read_formed`).
 use mathlib.Core.Path.{refl, sym, ◌∙◌}
 use borrow.Author.Rules.{rules}
-use Rattle.text_lines.proofs.AnswerTexts.{wrote-line, declined-line, read-formed, read-line, refused-line}
+use Rattle.text_lines.proofs.AnswerTexts.{wrote_line, declined_line, read_formed, read_line, refused_line_lem}
 use Rattle.write_bytes.proofs.Putting.{told, same_length as same}
 use Rattle.text_lines.proofs.answers.answer_text.Statement.{statement}
 use Rattle.text_lines.proofs.answers.answer_text.Tie as tie
@@ -17,7 +17,7 @@ write-formed-requires : tie.Need-write-formed-requires
 write-formed-requires c κs =
     let c3 = c.before.before.before in
     let read = c3.read in
-    read-formed c3.before.before.before.args.s.now read.result read.ensures.0 c.before.enum_told.given.1
+    read_formed c3.before.before.before.args.s.now read.result read.ensures.0 c.before.enum_told.given.1
 
 enum-known-w : tie.Need-enum-known-w
 enum-known-w c = search rules
@@ -53,8 +53,8 @@ returns c =
     let read = c12.read in
     let w = c8.write-formed.ensures in
     let formed = write-formed-requires c8.before c8.write-formed.lifetimes in
-    told (read-line s read.result read.ensures.0 c10.enum_told.given.1)
-    (told (wrote-line read.result.table _ refl formed w.1 c6.w.given.0.0 (sym c6.w.given.1 ∙ w.0)) c.before.before.put-ok.ensures)
+    told (read_line s read.result read.ensures.0 c10.enum_told.given.1)
+    (told (wrote_line read.result.table _ refl formed w.1 c6.w.given.0.0 (sym c6.w.given.1 ∙ w.0)) c.before.before.put-ok.ensures)
 
 same-length-2 : tie.Need-same-length-2
 same-length-2 c = search rules
@@ -67,8 +67,8 @@ returns-2 c =
     let c11 = c9.before.before in
     let s = c11.before.before.before.args.s.now in
     let read = c11.read in
-    told (read-line s read.result read.ensures.0 c9.enum_told.given.1)
-    (told (declined-line read.result.table _ refl c5.w2.given.0.0 (sym c5.w2.given.1 ∙ c7.write-formed.ensures.0))
+    told (read_line s read.result read.ensures.0 c9.enum_told.given.1)
+    (told (declined_line read.result.table _ refl c5.w2.given.0.0 (sym c5.w2.given.1 ∙ c7.write-formed.ensures.0))
     c.before.before.Put-refused.ensures)
 
 same-length-3 : tie.Need-same-length-3
@@ -80,7 +80,7 @@ returns-3 c =
     let read = c5.before.before.read in
     let s = c5.before.before.before.before.before.args.s.now in
     let outcome = c5.outcome.given in
-    told (refused-line s read.result read.ensures.0 outcome.0.0 outcome.0.1.0 outcome.1) c.before.before.put-refused2.ensures
+    told (refused_line_lem s read.result read.ensures.0 outcome.0.0 outcome.0.1.0 outcome.1) c.before.before.put-refused2.ensures
 
 pub answer-text-spec : {M : Type 1} → statement M
 answer-text-spec =

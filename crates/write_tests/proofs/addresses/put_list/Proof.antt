@@ -5,21 +5,21 @@ use Prim.Native.Nat.{◌+◌, ◌-◌, ◌≤◌}
 use native.Mathlib.Omega.{arith}
 use lib.ListN.{length, take, drop, get_or}
 use Rattle.definitions.specs.declared.table.Address.{Address}
-use Rattle.definitions.specs.Canonical.{addressText, addressesText}
+use Rattle.definitions.specs.Canonical.{address_text, addresses_text}
 use Rattle.write_bytes.specs.Puts.{puts}
 use Rattle.write_bytes.proofs.Putting.{onward, same_length as same}
-use Rattle.write_tests.proofs.AddressLists.{list_from, list-is, list_on, list-end}
+use Rattle.write_tests.proofs.AddressLists.{list_from, list_is, list_on, list_end}
 use Rattle.write_tests.proofs.addresses.put_list.Statement.{statement}
 use Rattle.write_tests.proofs.addresses.put_list.Tie as tie
 
 abbrev invariant-loop : tie.invariant-loop
-invariant-loop out₀ at n list next₀ i₀ t10 out next i = (i ≤ n) × (puts out₀ next₀ (addressesText (take n list)) ≡ puts out next (list_from i (drop i (take n list))))
+invariant-loop out₀ at n list next₀ i₀ t10 out next i = (i ≤ n) × (puts out₀ next₀ (addresses_text (take n list)) ≡ puts out next (list_from i (drop i (take n list))))
 
 abbrev decreases-loop : tie.decreases-loop
 decreases-loop out₀ at n list next₀ i₀ t10 out next i = n - i
 
 loop-holds : tie.Need-loop-init invariant-loop decreases-loop
-loop-holds c = (omega arith, ap (puts c.before.args.out.now c.before.args.at) (list-is (take c.before.args.n c.before.args.t3)))
+loop-holds c = (omega arith, ap (puts c.before.args.out.now c.before.args.at) (list_is (take c.before.args.n c.before.args.t3)))
 
 slice-aggregate-put-if : tie.Need-slice-aggregate-put-if invariant-loop decreases-loop
 slice-aggregate-put-if c = refl
@@ -54,7 +54,7 @@ loop-again c =
       omega arith,
       loop.invariant.1
           ∙ ap (puts loop.out loop.next) (list_on args.t3 args.n loop.i none more long)
-          ∙ onward (addressText (get_or args.t3 loop.i none) ++ rest) comma
+          ∙ onward (address_text (get_or args.t3 loop.i none) ++ rest) comma
           ∙ onward rest c.before.before.put-address.ensures,
     )
 
@@ -63,7 +63,7 @@ unfolding puts
 returns c =
     let args = c.before.before.before.args in
     let loop = c.before.loop in
-    record { is = sym (loop.invariant.1 ∙ ap (puts loop.out loop.next) (list-end args.t3 args.n loop.i c.loop-test.false)) }
+    record { is = sym (loop.invariant.1 ∙ ap (puts loop.out loop.next) (list_end args.t3 args.n loop.i c.loop-test.false)) }
 
 same_length : tie.Need-same-length invariant-loop decreases-loop
 same_length c = same (returns c)
