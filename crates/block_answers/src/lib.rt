@@ -1,4 +1,6 @@
 // The answers of a block as bytes, put into a lent buffer.
+#![tactic(auto)]
+
 ghost use Rattle.std.specs.Prelude.{take};
 ghost use Rattle.write_bytes.specs.Puts.{Puts};
 ghost use Rattle.block_answers.specs.AnswerBytes.{answer_bytes};

@@ -1,6 +1,8 @@
 // Decides packets by the rule book in the file that its first argument names: records on standard input, three bytes for each packet on standard output
 // (docs/vectors/README.md has both forms). A block of them is decided at a time. For a refused book its refusal is written, as the program `book` does, and
 // nothing is read; for a file that can't be read nothing is written.
+#![tactic(auto)]
+
 ghost use Rattle.std.specs.Prelude.{◌≤◌, length};
 ghost use Rattle.blocks.specs.Held.{HeldWithin};
 
@@ -23,7 +25,7 @@ const ANSWERS: usize = 104856;
 const REFUSAL: usize = 64;
 
 // How many bytes the block holds, from its front on; or that the run is over.
-#[derive(Drop)]
+#[derive(Clone, Copy)]
 enum Input {
     Held(usize),
     Over,

@@ -1,5 +1,7 @@
 // Judges the rule book in the file that its first argument names: its rules counted, or its refusal and the line. Nothing is written for a file that can't be
 // read.
+#![tactic(auto)]
+
 ghost use Rattle.std.specs.Prelude.{◌≤◌};
 
 use book_answers::answer_book;

@@ -1,4 +1,6 @@
 // What the program `book` writes, put into a lent buffer.
+#![tactic(auto)]
+
 ghost use Rattle.definitions.specs.Limits.{document_limits};
 ghost use Rattle.write_bytes.specs.Puts.{Puts};
 ghost use Rattle.book_answers.specs.BookAnswers.{judgement_text, book_output};

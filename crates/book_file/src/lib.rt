@@ -1,4 +1,6 @@
 // The file that an argument of the program names, read into lent room.
+#![tactic(auto)]
+
 ghost use Rattle.std.specs.Prelude.{length};
 ghost use Rattle.book_file.specs.Counted.{CountWithin};
 
@@ -6,7 +8,7 @@ ghost use Rattle.book_file.specs.Counted.{CountWithin};
 pub const ROOM: usize = 65537;
 
 // How many bytes came, or that the file can't be read.
-#[derive(Drop)]
+#[derive(Clone, Copy)]
 pub enum BookFile {
     Read(usize),
     Unread,

@@ -1,1 +1,2 @@
 // Laws of rule books and of what they decide. No code.
+#![tactic(auto)]

@@ -1,4 +1,6 @@
 // A line of a rule book: whether it has the form of a rule, and what it says.
+#![tactic(auto)]
+
 ghost use Rattle.std.specs.Prelude.{◌≡◌};
 ghost use Rattle.book_rules.specs.RuleLines.{parsed_rule_number, parsed_state, parsed_action, parsed_rule};
 
@@ -8,21 +10,21 @@ use line_numbers::decimals::{NumberResult, parse_decimal};
 use line_parts::{contains, is_word, part_after, part_before};
 
 // The state that a word names, or that it names none.
-#[derive(Drop)]
+#[derive(Clone, Copy)]
 pub enum StateResult {
     Parsed(State),
     Failed,
 }
 
 // The action that a word names, or that it names none.
-#[derive(Drop)]
+#[derive(Clone, Copy)]
 pub enum ActionResult {
     Parsed(Action),
     Failed,
 }
 
 // The rule of a line, its text by its place in the line; or that the line has another form.
-#[derive(Drop)]
+#[derive(Clone, Copy)]
 pub enum RuleResult {
     Parsed(LoadedRule),
     Failed,

@@ -1,4 +1,6 @@
 // The column that a line of cases alone has, the query: `all`, `first`, or an earlier placement such as `(2,9)` or `()`.
+#![tactic(auto)]
+
 ghost use Rattle.std.specs.Prelude.{◌≡◌, []};
 ghost use Rattle.definitions.specs.Starts.{start_at};
 ghost use Rattle.definitions.specs.Answers.{placement_of};
@@ -11,7 +13,7 @@ use line_parts::{contains, is_word, part_after, part_before};
 use match_starts::start_at;
 
 // What is asked: all placements, the first, the next one after a placement; or the bytes are no ask.
-#[derive(Drop)]
+#[derive(Clone, Copy)]
 pub enum Kind {
     All,
     First,
@@ -20,7 +22,7 @@ pub enum Kind {
 }
 
 // What is asked, and after which placement; it is empty but for `Next`. An enum with the placement in it would hold an array.
-#[derive(Drop)]
+#[derive(Clone, Copy)]
 pub struct Queried {
     pub kind: Kind,
     pub placement: Placement,

@@ -1,4 +1,6 @@
 // The placements program's work on slices: cases one a line in, answers out, in parts of any length.
+#![tactic(auto)]
+
 pub mod answers;
 
 ghost use Rattle.std.specs.Prelude.{take};

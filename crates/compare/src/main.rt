@@ -1,4 +1,6 @@
 // Compares the rule books in the two files that its arguments name: what changed from the first to the second. Nothing is written unless both can be read.
+#![tactic(auto)]
+
 ghost use Rattle.std.specs.Prelude.{◌≤◌};
 
 use book_file::{BookFile, ROOM, read_book};

@@ -1,4 +1,6 @@
 // WHAT CHANGED BETWEEN TWO RULE BOOKS: the public entry, which takes any bytes.
+#![tactic(auto)]
+
 ghost use Rattle.definitions.specs.Limits.{document_limits};
 ghost use Rattle.write_bytes.specs.Puts.{Puts};
 ghost use Rattle.compare_laws.specs.Comparisons.{compare_output};

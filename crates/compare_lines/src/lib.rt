@@ -1,4 +1,6 @@
 // The lines that are written for two rule books, put into a lent buffer.
+#![tactic(auto)]
+
 ghost use Rattle.forms.specs.Bytes.{text};
 ghost use Rattle.write_bytes.specs.Puts.{Puts};
 ghost use Rattle.compare_laws.specs.Comparisons.{differing, commas, number_line, changed_line};

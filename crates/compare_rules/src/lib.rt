@@ -1,4 +1,6 @@
 // The lines of the rules of two loaded books, put into a lent buffer. It knows what the reader and the equality of tables promise, and nothing of how they do it.
+#![tactic(auto)]
+
 ghost use Rattle.std.specs.Prelude.{◌≡◌, not};
 ghost use Rattle.write_bytes.specs.Puts.{Puts};
 ghost use Rattle.table_equality.specs.SameTables.{same_table};

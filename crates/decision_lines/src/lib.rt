@@ -1,4 +1,6 @@
 // The decisions program's work on slices: packets and books one a line in, decisions out, in parts of any length.
+#![tactic(auto)]
+
 pub mod answers;
 
 ghost use Rattle.std.specs.Prelude.{take};

@@ -1,4 +1,6 @@
 // Decides by a book for a packet, one of each a line: standard input and output (crate line_io) around the work on lines (crate decision_lines).
+#![tactic(auto)]
+
 ghost use Rattle.std.specs.Prelude.{◌<◌};
 
 use decision_lines::{LINE_BYTES, feed, finish};

@@ -3,7 +3,7 @@ use crate::packets::{PacketHeader, Placement};
 use crate::table::Table;
 
 // The causes of refusal: 1 to 12, 20 to 22, 30 to 36, 50 to 53, in this order.
-#[derive(Drop)]
+#[derive(Clone, Copy)]
 pub enum Refusal {
     TextLength,
     TextByte,
@@ -34,42 +34,42 @@ pub enum Refusal {
 }
 
 // A check: it passes, or a refusal.
-#[derive(Drop)]
+#[derive(Clone, Copy)]
 pub enum Check {
     Pass,
     Refuse(Refusal),
 }
 
 // The reader's answer: the table, or a refusal with its place and the empty table.
-#[derive(Drop)]
+#[derive(Clone, Copy)]
 pub enum ReadOutcome {
     Accepted,
     Refused(Refusal, usize),
 }
 
 // An answer of reading with the table beside it.
-#[derive(Drop)]
+#[derive(Clone, Copy)]
 pub struct Reading {
     pub outcome: ReadOutcome,
     pub table: Table,
 }
 
 // The writer's answer: the length of the canonical text, or a refusal.
-#[derive(Drop)]
+#[derive(Clone, Copy)]
 pub enum Writing {
     Written(usize),
     Refused(Refusal),
 }
 
 // A packet's header fields, or a refusal.
-#[derive(Drop)]
+#[derive(Clone, Copy)]
 pub enum PacketAnswer {
     Seen(PacketHeader),
     Refused(Refusal),
 }
 
 // The verdict's answer.
-#[derive(Drop)]
+#[derive(Clone, Copy)]
 pub enum Verdict {
     Met,
     NotMet,
@@ -77,7 +77,7 @@ pub enum Verdict {
 }
 
 // The answer of "first" and "next": a placement, none, or a refusal; the last two with the placement of count 0.
-#[derive(Drop)]
+#[derive(Clone, Copy)]
 pub enum Found {
     Placed,
     Nothing,
@@ -85,14 +85,14 @@ pub enum Found {
 }
 
 // The answer of "first" or "next" with the placement beside it.
-#[derive(Drop)]
+#[derive(Clone, Copy)]
 pub struct Answer {
     pub found: Found,
     pub placement: Placement,
 }
 
 // One query of a list of queries.
-#[derive(Drop)]
+#[derive(Clone, Copy)]
 pub enum Query {
     First,
     Next,

@@ -45,7 +45,7 @@ pub const MAX_PREFIX: u8 = 32;
 pub const OPTIONS: usize = 23;
 
 // Every limit that this code goes by, for its callers.
-#[derive(Drop)]
+#[derive(Clone, Copy)]
 pub struct DocumentLimits {
     pub text: usize,
     pub canonical: usize,

@@ -1,4 +1,6 @@
 // A span's part of a lent buffer.
+#![tactic(auto)]
+
 ghost use Rattle.std.specs.Prelude.{◌≡◌, ◌+◌, ltb};
 ghost use Rattle.definitions.specs.Fields.{is_at, passes, shown};
 ghost use Rattle.field_parts.specs.Parts.{PartOf};

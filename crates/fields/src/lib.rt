@@ -1,4 +1,6 @@
 // The fields of a packet: whether one is there, its bytes as the caller's own part of a lent buffer, and refusal 35.
+#![tactic(auto)]
+
 pub mod places;
 
 ghost use Rattle.std.specs.Prelude.{◌≡◌};

@@ -9,14 +9,14 @@ use definitions::table::Context;
 use field_parts::{part_of, passes_end};
 
 // The buffers that a caller lends.
-#[derive(Drop)]
+#[derive(Clone, Copy)]
 pub enum Buffer {
     Payload,
     Decoded,
 }
 
 // A field's buffer, and its span there.
-#[derive(Drop)]
+#[derive(Clone, Copy)]
 pub struct Place {
     pub buffer: Buffer,
     pub span: FieldSpan,

@@ -110,15 +110,16 @@ unfolding scan over Means bounds
 scanned (pure a) l = ([], refl, (refl, refl), refl)
 scanned (byte c) l = one_answers c l
 scanned (pair f g) l =
-    in_turn _ _ _ _ _ _ (λ a b. (a, b)) (λ x y a b m n. ((x, y, refl, m, n), refl)) (λ m. scan g m) (λ m. over g m) (λ m. scanned g m) l (over f l) (scan f l)
+    in_turn (λ x v. Means false f x v) (λ x v m. bounds f x v m) (λ x v. Means false g x v) (λ x v m. bounds g x v m) (λ x v. Means false (pair f g) x v) (λ x v m. bounds (pair f g) x v m)
+    (λ a b. (a, b)) (λ x y a b m n. ((x, y, refl, m, n), refl)) (λ m. scan g m) (λ m. over g m) (λ m. scanned g m) l (over f l) (scan f l)
     (scanned f l)
 scanned (alt f g) l =
     by_cases (begins (first_set f) l)
-    (λ t. rw t (either _ _ _ _ (λ x a m. (inl m, refl)) l (over f l) (scan f l) (scanned f l)))
-    (λ t. rw t (either _ _ _ _ (λ x a m. (inr m, refl)) l (over g l) (scan g l) (scanned g l)))
+    (λ t. rw t (either (λ x v. Means false f x v) (λ x v m. bounds f x v m) (λ x v. Means false (alt f g) x v) (λ x v m. bounds (alt f g) x v m) (λ x a m. (inl m, refl)) l (over f l) (scan f l) (scanned f l)))
+    (λ t. rw t (either (λ x v. Means false g x v) (λ x v m. bounds g x v m) (λ x v. Means false (alt f g) x v) (λ x v m. bounds (alt f g) x v m) (λ x a m. (inr m, refl)) l (over g l) (scan g l) (scanned g l)))
 scanned (many f) l = rows _ _ (first_set f) (λ m. scan f m) (λ m. over f m) (λ m. scanned f m) (length l) l
-scanned (fmap h f) l = made _ _ _ _ h (λ x a m. ((a, refl, m), refl)) l (over f l) (scan f l) (scanned f l)
-scanned (bound p j f) l = also _ _ _ _ p j (λ x a m. ((m, λ e. never (cc)), refl)) l (over f l) (scan f l) (scanned f l)
+scanned (fmap h f) l = made (λ x v. Means false f x v) (λ x v m. bounds f x v m) (λ x v. Means false (fmap h f) x v) (λ x v m. bounds (fmap h f) x v m) h (λ x a m. ((a, refl, m), refl)) l (over f l) (scan f l) (scanned f l)
+scanned (bound p j f) l = also (λ x v. Means false f x v) (λ x v m. bounds f x v m) (λ x v. Means false (bound p j f) x v) (λ x v m. bounds (bound p j f) x v m) p j (λ x a m. ((m, λ e. never (cc)), refl)) l (over f l) (scan f l) (scanned f l)
 
 -- ---- what is read whole
 

@@ -1,5 +1,7 @@
 // THE NODE GUARD: pass or hold for a packet, by a whole rule book. It knows what the reader and the matcher promise, and nothing of how they do it.
 // Packet and decoded buffer have one lifetime, which ends with the call.
+#![tactic(auto)]
+
 ghost use Rattle.std.specs.Prelude.{◌≡◌};
 ghost use Rattle.definitions.specs.Limits.{document_limits};
 ghost use Rattle.definitions.specs.Decisions.{is_on, decides, decided, decision};

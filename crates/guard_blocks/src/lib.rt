@@ -1,5 +1,7 @@
 // THE NODE GUARD FOR MANY PACKETS: a block of packets by the rules of a judged book. Rules are in the outer loop, so that each text is read once for the whole
 // block, and only as long as some packet is not decided.
+#![tactic(auto)]
+
 ghost use Rattle.std.specs.Prelude.{◌≡◌, true, List, ℕ, ◌+◌, ◌≤◌, ◌<◌, length};
 ghost use Rattle.definitions.specs.Limits.{document_limits};
 ghost use Rattle.definitions.specs.Tables.{table_with};

@@ -1,4 +1,6 @@
 // The answers of a block as numbers, while its rules are gone through: none decided at first, held with rule 0 in the end if none decides.
+#![tactic(auto)]
+
 ghost use Rattle.std.specs.Prelude.{◌≡◌, ◌++◌, map, ◌+◌, ◌≤◌, ◌<◌, length, take, drop, replicate};
 ghost use Rattle.definitions.specs.Lists.{any?};
 ghost use Rattle.definitions.specs.Blocks.{action_number};

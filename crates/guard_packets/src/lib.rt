@@ -1,4 +1,6 @@
 // The records of a block of packets: how long one is, and what it says of its packet.
+#![tactic(auto)]
+
 ghost use Rattle.std.specs.Prelude.{◌≡◌, ◌≤◌, ◌+◌, length};
 ghost use Rattle.definitions.specs.Packet.{big_endian};
 ghost use Rattle.definitions.specs.Blocks.{record_head, record_length, record_direction, record_field, record_fields, block_answered};

@@ -10,14 +10,14 @@ use line_numbers::decimals::{NumberResult, parse_decimal};
 use line_parts::{is_word, part_after, part_before};
 
 // The span that bytes write, or that they write none.
-#[derive(Drop)]
+#[derive(Clone, Copy)]
 pub enum SpanResult {
     Parsed(Span),
     Failed,
 }
 
 // The map that bytes write, or that they write none.
-#[derive(Drop)]
+#[derive(Clone, Copy)]
 pub enum MapResult {
     Parsed(FieldMap),
     Failed,

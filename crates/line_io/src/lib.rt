@@ -1,4 +1,6 @@
 // Standard input and output of a program that answers lines: reads blocks, writes answers, and says what failed.
+#![tactic(auto)]
+
 ghost use Rattle.std.specs.Prelude.{◌≡◌, ◌<◌, ◌≤◌};
 ghost use Rattle.line_io.specs.Blocks.{begins, is_over, rest_of, place_after, Fills, Writes};
 
@@ -10,7 +12,7 @@ pub const BLOCK: usize = 65536;
 
 // How far a run is: the line begun, which bytes of the block are still to be fed, whether all of the input was read, and how many steps are left, none once
 // the run is over. A proved loop has to end, and nothing says that the input does: steps are counted down from a number that no run uses up.
-#[derive(Drop)]
+#[derive(Clone, Copy)]
 pub struct Step {
     pub begun: Begun,
     pub from: usize,

@@ -5,7 +5,7 @@ ghost use Rattle.line_numbers.specs.Decimals.{parsed_number};
 use scan_bytes::bytes::is_between;
 
 // The number that bytes write, or that they write none within the limit.
-#[derive(Drop)]
+#[derive(Clone, Copy)]
 pub enum NumberResult {
     Parsed(u64),
     Failed,

@@ -6,7 +6,7 @@ use definitions::packets::Direction;
 use line_parts::is_word;
 
 // The direction that a word names, or that it names none.
-#[derive(Drop)]
+#[derive(Clone, Copy)]
 pub enum DirectionResult {
     Parsed(Direction),
     Failed,

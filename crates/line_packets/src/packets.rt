@@ -8,14 +8,14 @@ use line_fields::field_maps::{MapResult, parse_map};
 use line_numbers::hex_pairs::is_hex_pairs;
 
 // What the columns say beside the bytes of packet and buffer.
-#[derive(Drop)]
+#[derive(Clone, Copy)]
 pub struct PacketColumns {
     pub direction: Direction,
     pub fields: FieldMap,
 }
 
 // What the columns say, or that one is of another form.
-#[derive(Drop)]
+#[derive(Clone, Copy)]
 pub enum PacketResult {
     Parsed(PacketColumns),
     Failed,

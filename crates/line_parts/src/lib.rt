@@ -1,4 +1,6 @@
 // The parts of a line between delimiters, and whole words.
+#![tactic(auto)]
+
 ghost use Rattle.std.specs.Prelude.{◌≡◌};
 ghost use Rattle.definitions.specs.Lists.{same_bytes};
 ghost use Rattle.definitions.specs.Parts as parts;

@@ -1,4 +1,6 @@
 // A refusal as the line programs write it, put into a lent buffer.
+#![tactic(auto)]
+
 ghost use Rattle.std.specs.Prelude.{◌++◌};
 ghost use Rattle.forms.specs.Bytes.{text};
 ghost use Rattle.definitions.specs.Lines.{refused_line};

@@ -1,5 +1,7 @@
 // Lines in, answers out, in parts of any length: the loop of each program that answers its input line by line, cut into steps. The program calls them in
 // turn, and between two steps it puts the one thing that they do not know, the answer to the line that waits.
+#![tactic(auto)]
+
 ghost use Rattle.std.specs.Prelude.{◌≡◌, ◌++◌, ◌≤◌, ◌<◌, length, take};
 ghost use Rattle.forms.specs.Bytes.{text};
 ghost use Rattle.definitions.specs.Canonical.{decimal};
@@ -12,14 +14,14 @@ use write_bytes::limits::at_most;
 use write_bytes::{COUNTED, put, put_decimal};
 
 // The line begun: its number, and how many of its bytes are kept.
-#[derive(Drop)]
+#[derive(Clone, Copy)]
 pub struct Begun {
     pub number: u64,
     pub len: usize,
 }
 
 // So many bytes of the input were taken, and so many of the output are answers.
-#[derive(Drop)]
+#[derive(Clone, Copy)]
 pub struct Fed {
     pub taken: usize,
     pub put: usize,
@@ -27,7 +29,7 @@ pub struct Fed {
 }
 
 // A feed under way. Where a line waits for its answer, its number and a tab are put, and the answer comes at the place `at`.
-#[derive(Drop)]
+#[derive(Clone, Copy)]
 pub struct Feeding {
     pub fed: Fed,
     pub at: usize,

@@ -1,4 +1,6 @@
 // The line program: standard input and output (crate line_io) around the work on lines (crate text_lines).
+#![tactic(auto)]
+
 ghost use Rattle.std.specs.Prelude.{◌<◌};
 
 use line_io::{BLOCK, Step, fill, rest, start, write_fed, write_last};

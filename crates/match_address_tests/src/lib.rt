@@ -1,4 +1,6 @@
 // Tests of addresses.
+#![tactic(auto)]
+
 ghost use Rattle.std.specs.Prelude.{◌≡◌, ◌-◌, eqb, take};
 ghost use Rattle.definitions.specs.Limits.{max_prefix};
 ghost use Rattle.definitions.specs.Tests.{packet_address, same_bits, in_addresses, address_holds};

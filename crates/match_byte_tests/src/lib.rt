@@ -1,4 +1,6 @@
 // byte_test: the number of some bytes of a field, compared with a value. On an absent field, or past the field's end, it doesn't hold.
+#![tactic(auto)]
+
 ghost use Rattle.std.specs.Prelude.{◌≡◌, ◌+◌, leb, length};
 ghost use Rattle.definitions.specs.ByteCounts.{byte_count};
 ghost use Rattle.definitions.specs.Packet.{big_endian};

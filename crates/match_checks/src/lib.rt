@@ -1,4 +1,6 @@
 // What is checked before any field or item is looked at: refusals 20 and 30 to 34, in this order.
+#![tactic(auto)]
+
 ghost use Rattle.std.specs.Prelude.{◌≡◌};
 ghost use Rattle.match_checks.specs.InputChecks.{input_header};
 

@@ -1,4 +1,6 @@
 // Letter folding by a table: bytes are compared under no_case by their entries.
+#![tactic(auto)]
+
 ghost use Rattle.match_folding.specs.Folding.{FoldTable};
 
 use crate::table::FOLDED;

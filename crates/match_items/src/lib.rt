@@ -1,4 +1,6 @@
 // When an item holds: every test by one function, a negated pattern, and a table's protocol and flow.
+#![tactic(auto)]
+
 pub mod heads;
 pub mod negated;
 

@@ -1,4 +1,6 @@
 // Tests of a field's length. On an absent field none holds.
+#![tactic(auto)]
+
 ghost use Rattle.std.specs.Prelude.{◌≡◌, length};
 ghost use Rattle.definitions.specs.Fields.{field_of, size_context};
 ghost use Rattle.definitions.specs.Tests.{data_follows, size_holds, at_holds};

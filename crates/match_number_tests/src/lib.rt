@@ -1,4 +1,6 @@
 // Tests of the header's numbers.
+#![tactic(auto)]
+
 ghost use Rattle.std.specs.Prelude.{◌≡◌, ◌&&◌, eqb};
 ghost use Rattle.definitions.specs.Packet.{has_ports};
 ghost use Rattle.definitions.specs.Tests.{number_holds, order_holds, header_value, operator_holds, field_holds};

@@ -1,4 +1,6 @@
 // What data_at and byte_test are counted from: the payload's start, or with relative the end of the last positive pattern before, in its field.
+#![tactic(auto)]
+
 ghost use Rattle.std.specs.Prelude.{◌≡◌};
 ghost use Rattle.definitions.specs.Tests.{at_context, at_start};
 

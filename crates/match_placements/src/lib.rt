@@ -1,5 +1,7 @@
 // The list of placements by a datagram's header fields and payload: its first, and the least after a placement held. Refusals 35 and 36 come first, in this
 // order; those before them the caller has tested.
+#![tactic(auto)]
+
 ghost use Rattle.std.specs.Prelude.{◌≡◌};
 ghost use Rattle.search.specs.Searching.{searched_table, Searchable};
 ghost use Rattle.match_placements.specs.Listing.{first_in_list, next_in_list};

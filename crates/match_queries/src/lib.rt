@@ -1,5 +1,7 @@
 // A LIST OF QUERIES (document 01's "asks") of one table, packet, decoded buffer, direction and map: the matcher's "first" and "next", called one after the
 // other as a caller does, every answer written down as document 01 compares answers. Demand 3 is one claim about the whole list.
+#![tactic(auto)]
+
 ghost use Rattle.std.specs.Prelude.{◌≡◌};
 ghost use Rattle.definitions.specs.Queries.{query_answer};
 ghost use Rattle.match_queries.specs.Runs.{query_of_byte, room, written};

@@ -1,4 +1,6 @@
 // An entry of a placement in the code: what makes one of a number, its order, and its text.
+#![tactic(auto)]
+
 ghost use Rattle.std.specs.Prelude.{◌≡◌};
 ghost use Rattle.definitions.specs.Starts.{start_at, start_number, start_before, same_start};
 ghost use Rattle.write_bytes.specs.Puts.{Puts};

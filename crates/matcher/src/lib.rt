@@ -1,6 +1,8 @@
 // THE PUBLIC ENTRIES: the verdict on one packet, and "first" and "next" of its list of placements. They take any table, packet, buffer, direction, map
 // and earlier placement; refusals 20 and 30 to 36 come first, in this order. Packet and decoded buffer have one lifetime, which ends with the call, since no
 // answer lends anything: it costs a caller nothing.
+#![tactic(auto)]
+
 ghost use Rattle.std.specs.Prelude.{◌≡◌, true, List, ℕ};
 ghost use Rattle.definitions.specs.Tables.{table_with};
 ghost use Rattle.definitions.specs.Answers.{verdict_answer, first_answer, next_answer};

@@ -1,4 +1,6 @@
 // One IPv4 packet: refusals 30 to 34 in order, the datagram's header fields by value, and its payload as a part of the packet.
+#![tactic(auto)]
+
 ghost use Rattle.std.specs.Prelude.{◌≡◌};
 ghost use Rattle.definitions.specs.Packet.{header_of, packet_answer};
 ghost use Rattle.definitions.specs.Fields.{shown};

@@ -1,4 +1,6 @@
 // What stands after the IP header of a datagram: the transport header's length, ports, and refusal 34.
+#![tactic(auto)]
+
 ghost use Rattle.std.specs.Prelude.{◌≡◌, ◌≤◌, length};
 ghost use Rattle.definitions.specs.Packet.{protocol_of, after_header, tcp_words, transport_length, port_at, tcp_short, transport_short};
 

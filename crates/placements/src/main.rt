@@ -1,4 +1,6 @@
 // Answers cases, one a line: standard input and output (crate line_io) around the work on lines (crate case_lines).
+#![tactic(auto)]
+
 ghost use Rattle.std.specs.Prelude.{◌<◌};
 
 use case_lines::{LINE_BYTES, feed, finish};

@@ -15,7 +15,7 @@ use scan_cursors::Cursor;
 use scan_steps::literals::{next_is, then_literal};
 
 // The addresses that are kept, how many there are, and where scanning stands after them.
-#[derive(Drop)]
+#[derive(Clone, Copy)]
 pub struct AddressesAt {
     pub list: [Address; ADDRESSES],
     pub count: usize,
@@ -23,7 +23,7 @@ pub struct AddressesAt {
 }
 
 // The addresses that are kept.
-#[derive(Drop)]
+#[derive(Clone, Copy)]
 pub struct Row {
     pub list: [Address; ADDRESSES],
 }

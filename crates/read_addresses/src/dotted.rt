@@ -13,7 +13,7 @@ use scan_steps::literals::{next_is, then_literal};
 use scan_steps::numbers::then_number;
 
 // A byte that digits write, and where scanning stands after it.
-#[derive(Drop)]
+#[derive(Clone, Copy)]
 pub struct ByteAt {
     pub value: u8,
     pub cursor: Cursor,
@@ -68,7 +68,7 @@ fn number_of(a: u8, b: u8, c: u8, d: u8) -> u32
 }
 
 // An address, and where scanning stands after it.
-#[derive(Drop)]
+#[derive(Clone, Copy)]
 pub struct AddressAt {
     pub address: Address,
     pub cursor: Cursor,

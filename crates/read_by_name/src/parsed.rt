@@ -5,7 +5,7 @@ use read_value::Value;
 use scan_cursors::Cursor;
 
 // An option's value, the addresses beside it, how many pattern bytes are in use after it, and where scanning stands.
-#[derive(Drop)]
+#[derive(Clone, Copy)]
 pub struct ParsedOption {
     pub value: Value,
     pub list: [Address; ADDRESSES],

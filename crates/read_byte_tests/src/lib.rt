@@ -1,4 +1,6 @@
 // The option byte_test: its parts from a cursor on, and the option's value after its name, with the place after its `;`.
+#![tactic(auto)]
+
 ghost use Rattle.std.specs.Prelude.{◌≡◌, [], ◌≤◌, ◌<◌, length};
 ghost use Rattle.definitions.specs.ByteCounts.{is_byte_count, width_of};
 ghost use Rattle.definitions.specs.Forms.{width, byte_comparison, flag_words, flags, byte_form};
@@ -19,21 +21,21 @@ use scan_steps::numbers::{then_number, then_numeral};
 use scan_steps::words::{then_comma_word, then_either_word};
 
 // A width, and where scanning stands after it.
-#[derive(Drop)]
+#[derive(Clone, Copy)]
 pub struct WidthAt {
     pub width: Width,
     pub cursor: Cursor,
 }
 
 // An operator, and where scanning stands after it.
-#[derive(Drop)]
+#[derive(Clone, Copy)]
 pub struct ByteOperatorAt {
     pub operator: ByteOperator,
     pub cursor: Cursor,
 }
 
 // Whether `relative` and `little` stood there, and where scanning stands.
-#[derive(Drop)]
+#[derive(Clone, Copy)]
 pub struct FlagsAt {
     pub relative: bool,
     pub little: bool,

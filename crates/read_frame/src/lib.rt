@@ -1,4 +1,6 @@
 // What stands around the options of a text: its front, the dashes of an option, and how reading an option ends.
+#![tactic(auto)]
+
 ghost use Rattle.std.specs.Prelude.{◌≡◌, ◌<◌, length, drop};
 ghost use Rattle.forms.specs.Bytes.{run};
 ghost use Rattle.definitions.specs.Options.{printable};
@@ -15,14 +17,14 @@ use scan_cursors::Cursor;
 pub const OPENING_BYTES: usize = 7;
 
 // The front of a text: options may follow, or a refusal and its place.
-#[derive(Drop)]
+#[derive(Clone, Copy)]
 pub enum Front {
     Opened,
     Refused(Refusal, usize),
 }
 
 // How reading an option after its name ends: on to a place, or a refusal and its place.
-#[derive(Drop)]
+#[derive(Clone, Copy)]
 pub enum Ended {
     Next(usize),
     Refused(Refusal, usize),

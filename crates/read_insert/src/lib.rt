@@ -1,5 +1,7 @@
 // One more option's value is inserted into the state, and at the end the whole is judged. The contracts go by the options that were
 // said, whatever these were.
+#![tactic(auto)]
+
 pub mod checking;
 mod once;
 

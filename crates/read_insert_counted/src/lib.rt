@@ -1,4 +1,6 @@
 // Options that are counted: tests and patterns, each an item more.
+#![tactic(auto)]
+
 ghost use Rattle.std.specs.Prelude.{◌≡◌};
 ghost use Rattle.read_state.specs.Sound.{Sound};
 ghost use Rattle.read_insert_counted.specs.Counting.{test_inserted, addresses_inserted, pattern_inserted};

@@ -1,4 +1,6 @@
 // Options that belong to the last pattern, each once: context, no_case, distance and within.
+#![tactic(auto)]
+
 ghost use Rattle.std.specs.Prelude.{◌≡◌};
 ghost use Rattle.definitions.specs.OptionValues as modifier;
 ghost use Rattle.definitions.specs.Refusals.{refuse_if};

@@ -1,4 +1,6 @@
 // Option names: where a name ends, and the option of document 01's table that has it.
+#![tactic(auto)]
+
 ghost use Rattle.std.specs.Prelude.{◌≡◌, true, ◌+◌, ◌-◌, ◌≤◌, ◌<◌, [], length, get_or, take, drop};
 ghost use Rattle.forms.specs.Bytes.{same_word, run};
 ghost use Rattle.definitions.specs.Options.{in_name};

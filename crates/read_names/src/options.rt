@@ -1,7 +1,7 @@
 // The options of document 01's table and document 02's byte_test, told apart by name and not by number.
 
 // One option of the table. Lookup::Found has it, and what reads after the name goes by it.
-#[derive(Drop)]
+#[derive(Clone, Copy)]
 pub enum OptionName {
     Name,
     Protocol,
@@ -29,7 +29,7 @@ pub enum OptionName {
 }
 
 // What the table has for a name: its option, or no row.
-#[derive(Drop)]
+#[derive(Clone, Copy)]
 pub enum Lookup {
     Found(OptionName),
     Unlisted,

@@ -1,4 +1,6 @@
 // The operators of tests, and the mask, from a cursor on.
+#![tactic(auto)]
+
 ghost use Rattle.std.specs.Prelude.{◌≤◌, ◌<◌};
 ghost use Rattle.forms.specs.Pieces.{opt, literal_as};
 ghost use Rattle.definitions.specs.Forms.{less_or_greater, comparison};
@@ -14,14 +16,14 @@ use scan_steps::literals::{next_is, then_literal, then_spaces};
 use scan_steps::numbers::then_numeral;
 
 // An order, and where scanning stands after it.
-#[derive(Drop)]
+#[derive(Clone, Copy)]
 pub struct OrderAt {
     pub order: Order,
     pub cursor: Cursor,
 }
 
 // An operator, and where scanning stands after it.
-#[derive(Drop)]
+#[derive(Clone, Copy)]
 pub struct OperatorAt {
     pub operator: Operator,
     pub cursor: Cursor,

@@ -9,7 +9,7 @@ use scan_steps::literals::{next_is, then_literal};
 use scan_steps::words::then_comma_word;
 
 // A reference, whether `reverse` follows it, and where scanning stands after them.
-#[derive(Drop)]
+#[derive(Clone, Copy)]
 pub struct DirectedAt {
     pub reference: Reference,
     pub reverse: bool,

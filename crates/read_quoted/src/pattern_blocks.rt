@@ -15,7 +15,7 @@ use scan_pieces::literals::spaces_at;
 use scan_steps::literals::{then_literal, then_spaces};
 
 // How many bytes are in use, and where scanning stands.
-#[derive(Drop)]
+#[derive(Clone, Copy)]
 pub struct BytesAt {
     pub used: usize,
     pub cursor: Cursor,
@@ -43,7 +43,7 @@ fn is_hex_at(s: &[u8], at: usize) -> bool
 }
 
 // The byte that a pair writes, and where scanning stands after it.
-#[derive(Drop)]
+#[derive(Clone, Copy)]
 pub struct PairAt {
     pub byte: u8,
     pub cursor: Cursor,

@@ -93,7 +93,7 @@ fn then_bytes(s: &[u8], c: Cursor, bytes: &mut [u8], used: usize) -> BytesAt
 }
 
 // How many bytes are in use, how many of them are the pattern's, and where scanning stands.
-#[derive(Drop)]
+#[derive(Clone, Copy)]
 pub struct PatternAt {
     pub used: usize,
     pub len: usize,

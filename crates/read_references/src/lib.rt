@@ -1,4 +1,6 @@
 // How many patterns among a table's items, from the first on, have usable references: what refusal 10 goes by.
+#![tactic(auto)]
+
 ghost use Rattle.std.specs.Prelude.{◌≡◌, ◌<◌, ◌≤◌, take};
 ghost use Rattle.definitions.specs.declared.packets.LastMatch.TheVariants.{None};
 ghost use Rattle.definitions.specs.Limits.{max_items};
@@ -12,7 +14,7 @@ use definitions::table::{Item, Pattern, Slot};
 use table_references::usable::{is_usable, last_after};
 
 // So many patterns at the front are usable, with the last positive one among them; `ended` at the first that is not.
-#[derive(Drop)]
+#[derive(Clone, Copy)]
 pub struct Run {
     pub count: usize,
     pub last: LastMatch,

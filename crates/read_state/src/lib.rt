@@ -1,5 +1,7 @@
 // What was read of a text so far: the table's numbers as far as they go, with what the options to come are judged by. The table's items and its pattern bytes
 // stand beside the state, where the loop over the options has them, so that an option hands on what it changes and no more.
+#![tactic(auto)]
+
 ghost use Rattle.std.specs.Prelude.{◌≡◌, []};
 ghost use Rattle.definitions.specs.Refusals.{refuse_if};
 ghost use Rattle.definitions.specs.Tables.{bare, no_slot as empty_slot};
@@ -12,7 +14,7 @@ use definitions::table::{Context, Distance, Flow, Item, Pattern, Slot, Within};
 use read_value::no_addresses;
 
 // Which options were given that may stand once; of the modifiers, after the last pattern.
-#[derive(Drop)]
+#[derive(Clone, Copy)]
 pub struct Given {
     pub name: bool,
     pub protocol: bool,
@@ -25,7 +27,7 @@ pub struct Given {
 
 // The table so far, its name told by the place of its first byte; with what the options to come are judged by: how many patterns and tests, the last
 // pattern's place among the items, and the first dash of each pattern.
-#[derive(Drop)]
+#[derive(Clone, Copy)]
 pub struct State {
     pub from: usize,
     pub len: usize,
@@ -42,7 +44,7 @@ pub struct State {
 
 // What is due for a value, the state after it, and the slot that it puts at a place among the items; a place past their end is none. Where something is
 // due the others say nothing.
-#[derive(Drop)]
+#[derive(Clone, Copy)]
 pub struct Inserted {
     pub check: Check,
     pub state: State,

@@ -1,4 +1,6 @@
 // One step of reading: an option of a text by its name and form, and what it does to the state; the last `)`; or neither where one is due.
+#![tactic(auto)]
+
 ghost use Rattle.std.specs.Prelude.{◌≡◌};
 ghost use Rattle.read_state.specs.State.{After};
 ghost use Rattle.read_steps.specs.Stepping.{Steppable, Steps, step_by, step_only, InsertsOption, closing_step, Placed, Goes};
@@ -15,7 +17,7 @@ use read_names::{name_end, option_named};
 use read_state::{State, no_slot};
 
 // On to a place, the end of the text, or a refusal and its place.
-#[derive(Drop)]
+#[derive(Clone, Copy)]
 pub enum Step {
     Next(usize),
     Done,
@@ -23,7 +25,7 @@ pub enum Step {
 }
 
 // The step, the state after it, and the slot that it puts at a place among the items; a place past their end is none.
-#[derive(Drop)]
+#[derive(Clone, Copy)]
 pub struct Stepped {
     pub step: Step,
     pub state: State,

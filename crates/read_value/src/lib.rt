@@ -1,4 +1,6 @@
 // What the reader's scanning hands to its inserting, by value: an option's value, and the addresses beside it.
+#![tactic(auto)]
+
 ghost use Rattle.std.specs.Prelude.{◌≡◌, replicate};
 ghost use Rattle.definitions.specs.Limits.{max_addresses};
 ghost use Rattle.definitions.specs.Tables.{no_address};
@@ -15,7 +17,7 @@ use scan_cursors::Cursor;
 
 // A name is told by its first byte's place in the text and its length, a pattern by its length: its bytes are the last in use.
 // The addresses of an address test stand beside the value.
-#[derive(Drop)]
+#[derive(Clone, Copy)]
 pub enum Value {
     Name(usize, usize),
     Protocol(u8),
@@ -30,7 +32,7 @@ pub enum Value {
 }
 
 // An option's value, and where scanning stands after it.
-#[derive(Drop)]
+#[derive(Clone, Copy)]
 pub struct Valued {
     pub value: Value,
     pub cursor: Cursor,

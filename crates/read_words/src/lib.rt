@@ -1,5 +1,7 @@
 // The words of options' values, from a cursor on. The first letter decides which word must stand; where two words begin alike, the
 // letter after does.
+#![tactic(auto)]
+
 ghost use Rattle.std.specs.Prelude.{◌≤◌};
 ghost use Rattle.scan_cursors.specs.Reads.{Inside, Reads};
 ghost use Rattle.definitions.specs.Limits.{max_byte};
@@ -15,28 +17,28 @@ use scan_steps::numbers::then_number;
 use scan_steps::words::{then_either_word, then_word};
 
 // A flow, and where scanning stands after it.
-#[derive(Drop)]
+#[derive(Clone, Copy)]
 pub struct FlowAt {
     pub flow: Flow,
     pub cursor: Cursor,
 }
 
 // A context, and where scanning stands after it.
-#[derive(Drop)]
+#[derive(Clone, Copy)]
 pub struct ContextAt {
     pub context: Context,
     pub cursor: Cursor,
 }
 
 // A field of data_size, and where scanning stands after it.
-#[derive(Drop)]
+#[derive(Clone, Copy)]
 pub struct SizeFieldAt {
     pub field: SizeField,
     pub cursor: Cursor,
 }
 
 // A reference, and where scanning stands after it.
-#[derive(Drop)]
+#[derive(Clone, Copy)]
 pub struct ReferenceAt {
     pub reference: Reference,
     pub cursor: Cursor,

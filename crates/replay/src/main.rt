@@ -1,5 +1,7 @@
 // Replays a trace through the rule book in the file that its first argument names: standard input and output (crate line_io) around the work on lines
 // (crate replay_lines). Nothing is written for a file that can't be read.
+#![tactic(auto)]
+
 ghost use Rattle.std.specs.Prelude.{◌≤◌, ◌<◌};
 
 use book_file::{BookFile, ROOM, read_book};
@@ -13,7 +15,7 @@ use replay_totals::{Totals, no_totals};
 const BLOCK: usize = 262144;
 
 // How far a run is, and the totals so far.
-#[derive(Drop)]
+#[derive(Clone, Copy)]
 struct Progress {
     step: Step,
     totals: Totals,

@@ -1,4 +1,6 @@
 // What is said of a trace's next lines, decided together: each rule's text is read once for all of them.
+#![tactic(auto)]
+
 ghost use Rattle.std.specs.Prelude.{◌≡◌, ◌∷◌, [], ◌≤◌, ◌<◌, length, take};
 ghost use Rattle.definitions.specs.Limits.{document_limits};
 ghost use Rattle.definitions.specs.LoadedBooks.{rules_in};
@@ -22,7 +24,7 @@ const MAX_RECORD: usize = 8222;
 pub const RECORDS: usize = 262144;
 
 // So many lines were gathered, and their records have so many bytes.
-#[derive(Drop)]
+#[derive(Clone, Copy)]
 pub struct Gathered {
     pub lines: usize,
     pub bytes: usize,

@@ -1,4 +1,6 @@
 // The replay's work on slices: a book is opened, a trace comes in parts of any length, answers go out, and the totals after the last line.
+#![tactic(auto)]
+
 ghost use Rattle.std.specs.Prelude.{◌≡◌, [], ◌∷◌, ◌<◌, length, get_or, take};
 ghost use Rattle.forms.specs.Bytes.{if◌then◌else◌};
 ghost use Rattle.definitions.specs.Limits.{document_limits};
@@ -26,7 +28,7 @@ use rule_book::load;
 pub const LINE_BYTES: usize = TRACE_BYTES + 1;
 
 // A book that was judged: its rules, none if it is refused, and how many bytes were put, none if it is accepted.
-#[derive(Drop)]
+#[derive(Clone, Copy)]
 pub struct Opened {
     pub rules: Rules,
     pub accepted: bool,
@@ -34,14 +36,14 @@ pub struct Opened {
 }
 
 // What was fed, and the totals with it.
-#[derive(Drop)]
+#[derive(Clone, Copy)]
 pub struct Replayed {
     pub fed: Fed,
     pub totals: Totals,
 }
 
 // Numbers of lines that were decided ahead: those from `next` up to `count` are still to be put.
-#[derive(Drop)]
+#[derive(Clone, Copy)]
 pub struct Ahead {
     pub next: usize,
     pub count: usize,

@@ -1,4 +1,6 @@
 // A line of a trace as the record of a packet, put into a lent block.
+#![tactic(auto)]
+
 pub mod heads;
 
 ghost use Rattle.std.specs.Prelude.{◌≡◌, true};
@@ -17,7 +19,7 @@ use line_parts::{contains, part_after, part_before};
 pub const TRACE_BYTES: usize = 16384;
 
 // Whether the line has its form, and the place after its record.
-#[derive(Drop)]
+#[derive(Clone, Copy)]
 pub struct Recorded {
     pub good: bool,
     pub next: usize,

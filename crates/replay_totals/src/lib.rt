@@ -1,4 +1,6 @@
 // What is said of a line, as a number: its text, and how many lines of each kind there were.
+#![tactic(auto)]
+
 ghost use Rattle.std.specs.Prelude.{◌≡◌};
 ghost use Rattle.write_bytes.specs.Puts.{Puts};
 ghost use Rattle.replay_laws.specs.Replays.{pass, hold, bad, outcome_text};
@@ -9,7 +11,7 @@ use line_stream::next_number;
 use write_bytes::{put, put_decimal, put_word};
 
 // Lines of each kind; the largest number stays.
-#[derive(Drop)]
+#[derive(Clone, Copy)]
 pub struct Totals {
     pub passes: u64,
     pub holds: u64,

@@ -1,4 +1,6 @@
 // A rule book: judged line by line, and loaded. THE PUBLIC ENTRIES of books: they take any bytes.
+#![tactic(auto)]
+
 ghost use Rattle.std.specs.Prelude.{◌≡◌, ◌+◌, ◌≤◌, replicate, take, drop};
 ghost use Rattle.definitions.specs.Limits.{document_limits, max_book, max_rules};
 ghost use Rattle.definitions.specs.Books.{judge as judgement};
@@ -13,7 +15,7 @@ use definitions::limits::{BOOK_BYTES, RULES};
 use line_parts::part_before;
 
 // A line that passes, with its rule; or its refusal.
-#[derive(Drop)]
+#[derive(Clone, Copy)]
 pub enum LineResult {
     Passed(LoadedRule),
     Refused(Refusal),

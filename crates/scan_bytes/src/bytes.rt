@@ -7,7 +7,7 @@ ghost use Rattle.scan_bytes.specs.Classes.{class_of, case_class};
 ghost use Rattle.scan_bytes.specs.declared.bytes.Class.TheVariants.{HexDigit, Quotable, NameByte};
 
 // The classes of bytes that stand in runs.
-#[derive(Drop)]
+#[derive(Clone, Copy)]
 pub enum Class {
     Space,
     Digit,

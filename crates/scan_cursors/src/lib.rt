@@ -1,9 +1,11 @@
 // Where scanning stands in a text.
+#![tactic(auto)]
+
 ghost use Rattle.std.specs.Prelude.{◌≡◌};
 ghost use Rattle.scan_cursors.specs.Reads.{place_of, out_of_range_by, joined, limited_by};
 
 // At a place; at the second place, a number beyond its limit having stood at the first; or stopped at a place, for good.
-#[derive(Drop)]
+#[derive(Clone, Copy)]
 pub enum Cursor {
     Parsed(usize),
     OutOfRange(usize, usize),

@@ -1,4 +1,6 @@
 // The first place of a byte, from any place on. Bytes are passed over in groups, each looked at as a whole, and one by one only near the end of the search.
+#![tactic(auto)]
+
 ghost use Rattle.std.specs.Prelude.{◌≡◌, ◌+◌, ◌≤◌, leb, length, drop};
 ghost use Rattle.definitions.specs.Parts.{find};
 

@@ -53,7 +53,7 @@ pub fn gap_at(s: &[u8], at: usize) -> Cursor
 }
 
 // Whether an optional byte stood there, and where scanning stands.
-#[derive(Drop)]
+#[derive(Clone, Copy)]
 pub struct OptionalLiteral {
     pub yes: bool,
     pub cursor: Cursor,

@@ -14,7 +14,7 @@ use scan_bytes::runs::run_of;
 use scan_cursors::Cursor;
 
 // A number, which is never beyond its limit: it is 0 where one stood there that is.
-#[derive(Drop)]
+#[derive(Clone, Copy)]
 pub struct Numeric {
     pub value: u64,
     pub cursor: Cursor,

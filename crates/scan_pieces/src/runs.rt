@@ -11,7 +11,7 @@ use scan_bytes::runs::run_of;
 use scan_cursors::Cursor;
 
 // A run is told by its first byte's place in the text and its length.
-#[derive(Drop)]
+#[derive(Clone, Copy)]
 pub struct RunAt {
     pub from: usize,
     pub len: usize,

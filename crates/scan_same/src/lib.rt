@@ -1,4 +1,6 @@
 // Whether two slices have the same bytes.
+#![tactic(auto)]
+
 ghost use Rattle.std.specs.Prelude.{◌≡◌};
 ghost use Rattle.definitions.specs.Lists.{same_bytes};
 

@@ -21,7 +21,7 @@ pub fn then_word(s: &[u8], c: Cursor, w: &[u8]) -> Cursor
 }
 
 // Whether it is the first of two words, and where scanning stands.
-#[derive(Drop)]
+#[derive(Clone, Copy)]
 pub struct EitherAt {
     pub first: bool,
     pub cursor: Cursor,

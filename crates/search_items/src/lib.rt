@@ -1,4 +1,6 @@
 // The search: one function handles an item, the other tries a pattern's starts and calls the first for the items left.
+#![tactic(auto)]
+
 ghost use Rattle.std.specs.Prelude.{◌≡◌, ◌∷◌, ◌+◌, ◌≤◌, ◌<◌, drop};
 ghost use Rattle.definitions.specs.Limits.{max_items};
 ghost use Rattle.definitions.specs.Placements.{matched, constraints, placements};

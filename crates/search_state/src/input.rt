@@ -4,7 +4,7 @@ use definitions::packets::{FieldMap, PacketHeader, Start};
 use definitions::table::Slot;
 
 // A table's items, what is seen of the packet, and the starts of the placement to pass.
-#[derive(Drop)]
+#[derive(Clone, Copy)]
 pub struct SearchInput {
     pub items: [Slot; ITEMS],
     pub count: usize,

@@ -7,7 +7,7 @@ use definitions::limits::PATTERNS;
 use definitions::packets::{Placement, Start};
 
 // A placement is found, or none; the placement of none is empty.
-#[derive(Drop)]
+#[derive(Clone, Copy)]
 pub struct Outcome {
     pub found: bool,
     pub placement: Placement,

@@ -1,1 +1,2 @@
 // The reader takes exactly the texts of the grammar. No code.
+#![tactic(auto)]

@@ -1,4 +1,6 @@
 // The bytes of a table: its name, and room that is not in use.
+#![tactic(auto)]
+
 ghost use Rattle.std.specs.Prelude.{◌≡◌, ◌&&◌, ℕ, ◌≤◌, length, take, drop, leb};
 ghost use Rattle.forms.specs.Form.{has};
 ghost use Rattle.definitions.specs.Limits.{max_byte};

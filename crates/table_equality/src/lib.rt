@@ -1,4 +1,6 @@
 // EQUALITY OF TABLES: field by field, whatever stands in them, unused room too. proofs/Exactly.antt: true exactly for equal tables.
+#![tactic(auto)]
+
 ghost use Rattle.std.specs.Prelude.{◌≡◌};
 ghost use Rattle.definitions.specs.Lists.{same_bytes};
 ghost use Rattle.table_equality.specs.SameTables.{same_by, same_offset, same_item, same_address, same_slot, same_table};

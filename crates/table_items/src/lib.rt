@@ -1,4 +1,6 @@
 // What the slots of a table that are passed so far come to, and one slot more: the steps of the test of its items.
+#![tactic(auto)]
+
 ghost use Rattle.std.specs.Prelude.{◌≡◌, ◌≤◌};
 ghost use Rattle.table_items.specs.Passing.{none_passed, may_follow, may_pass, Passable, past_item, ends_well};
 
@@ -9,7 +11,7 @@ use table_references::usable::{is_usable, last_after};
 use table_slots::slot_fits;
 
 // How many patterns there are, how many of the bytes in use are not theirs, and the last positive pattern.
-#[derive(Drop)]
+#[derive(Clone, Copy)]
 pub struct Passed {
     pub patterns: usize,
     pub left: usize,

@@ -1,4 +1,6 @@
 // The numbers of items and addresses, each within its limit. What a number's type rules out needs no test.
+#![tactic(auto)]
+
 ghost use Rattle.std.specs.Prelude.{◌≡◌, leb, nat_abs};
 ghost use Rattle.forms.specs.Bytes.{between};
 ghost use Rattle.definitions.specs.Limits.{max_word, max_addresses};

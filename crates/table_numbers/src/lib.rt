@@ -1,5 +1,7 @@
 // An item in numbers, so that two can be compared: its case, what stands in it, and zeros. The offset of a distance has a sign and stands beside them.
 // proofs/ItemsBack.antt: an item can be told from its numbers and its offset, so nothing is left out.
+#![tactic(auto)]
+
 pub mod case_numbers;
 
 ghost use Rattle.std.specs.Prelude.{◌≡◌};

@@ -1,4 +1,6 @@
 // The slots of a table: those in use hold an item that fits, with its addresses; the others hold nothing.
+#![tactic(auto)]
+
 mod addresses;
 mod items;
 

@@ -1,4 +1,6 @@
 // Whether a table is one that some text reads as: what refusal 20 goes by. Any numbers may stand in the table.
+#![tactic(auto)]
+
 ghost use Rattle.std.specs.Prelude.{◌≡◌, ℕ, ◌≤◌};
 ghost use Rattle.definitions.specs.declared.table.Flow.{Flow};
 ghost use Rattle.definitions.specs.Limits.{max_byte};

@@ -1,4 +1,6 @@
 // Canonical text of byte_test: the value in decimal, `relative` and `little` where they are said.
+#![tactic(auto)]
+
 ghost use Rattle.std.specs.Prelude.{[]};
 ghost use Rattle.definitions.specs.declared.table.Item.TheVariants as item;
 ghost use Rattle.definitions.specs.Canonical.{comparison_text, test_text};

@@ -1,4 +1,6 @@
 // Bytes put one after the other into a lent buffer. A byte past its end is counted and not kept, so one pass both measures and writes.
+#![tactic(auto)]
+
 pub mod limits;
 
 ghost use Rattle.std.specs.Prelude.{[], ◌∷◌, ◌+◌, ◌≤◌, length, take, ◌≡◌};

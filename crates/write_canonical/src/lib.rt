@@ -1,4 +1,6 @@
 // Canonical text of a table, put into a lent buffer: its options between the opening and the end.
+#![tactic(auto)]
+
 ghost use Rattle.std.specs.Prelude.{ℕ};
 ghost use Rattle.definitions.specs.Tables.{table_with};
 ghost use Rattle.definitions.specs.Canonical.{canonical_text};

@@ -1,4 +1,6 @@
 // Keywords, as canonical text has them; what it leaves out is empty. They stand in one table, and one function puts any of them.
+#![tactic(auto)]
+
 ghost use Rattle.definitions.specs.Canonical.{side_name, number_name, order_text, field_name, operator_text, byte_operator_text, size_field_text, reference_text};
 ghost use Rattle.write_keywords.specs.Keywords.{Listed, spelled, Spells, flow_keyword, context_keyword};
 ghost use Rattle.write_bytes.specs.Puts.{Puts};
@@ -10,7 +12,7 @@ use definitions::table::{
 use write_bytes::put_word;
 
 // A keyword: where its bytes start in the table, and the place after them.
-#[derive(Drop)]
+#[derive(Clone, Copy)]
 pub struct Keyword(pub usize, pub usize);
 
 // Any keyword.

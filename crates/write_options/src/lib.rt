@@ -1,4 +1,6 @@
 // Canonical text of a table's options, option by option: any table, whatever numbers stand in it.
+#![tactic(auto)]
+
 ghost use Rattle.std.specs.Prelude.{◌≡◌, ◌≤◌, take};
 ghost use Rattle.definitions.specs.OptionValues.{Name, Protocol};
 ghost use Rattle.definitions.specs.Items.{kind_of};

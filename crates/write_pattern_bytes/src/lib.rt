@@ -1,4 +1,6 @@
 // The bytes of a pattern: plain ones as themselves, the rest in hex, neighbours in one block.
+#![tactic(auto)]
+
 ghost use Rattle.std.specs.Prelude.{◌≡◌, false, ◌<◌};
 ghost use Rattle.definitions.specs.Canonical.{hex_digit, pattern_text};
 ghost use Rattle.write_pattern_bytes.specs.Parts.{byte_text};

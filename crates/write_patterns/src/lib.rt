@@ -1,4 +1,6 @@
 // Canonical text of a pattern and its modifiers.
+#![tactic(auto)]
+
 ghost use Rattle.std.specs.Prelude.{◌≡◌, nat_abs};
 ghost use Rattle.definitions.specs.OptionValues as entry;
 ghost use Rattle.definitions.specs.Canonical.{decimalℤ, distance_option, within_option, pattern_options, modifier_text, option_text, options_text};

@@ -1,5 +1,7 @@
 // Shows the writer's answers that no text can bring about: 20, for a table that was edited, and 22, for a buffer that is too short. Each line is the number,
 // the bytes written, and the buffer afterwards, which was all dots.
+#![tactic(auto)]
+
 ghost use Rattle.std.specs.Prelude.{◌≡◌};
 ghost use Rattle.definitions.specs.Refusals.{write_number, write_length};
 

@@ -1,4 +1,6 @@
 // Canonical text of the tests, each an option with its value.
+#![tactic(auto)]
+
 mod addresses;
 
 ghost use Rattle.std.specs.Prelude.{[], take};

@@ -1,4 +1,6 @@
 // Values of tests as canonical text has them: an address and a mask. What it leaves out is empty.
+#![tactic(auto)]
+
 ghost use Rattle.definitions.specs.Canonical.{octets, address_text};
 ghost use Rattle.write_values.specs.Parts.{mask_text};
 ghost use Rattle.write_bytes.specs.Puts.{Puts};

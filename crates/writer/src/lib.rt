@@ -1,4 +1,6 @@
 // Writing a table as canonical text into a lent buffer.
+#![tactic(auto)]
+
 ghost use Rattle.std.specs.Prelude.{◌≡◌, true, length};
 ghost use Rattle.definitions.specs.Limits.{document_limits};
 ghost use Rattle.definitions.specs.WellFormed.{well_formed};
