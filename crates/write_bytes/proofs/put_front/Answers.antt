@@ -1,6 +1,8 @@
 -- The number is kept within the word's length, so a part of the word is put (`part_most`).
 use mathlib.Core.Path.{refl}
-use Rattle.write_bytes.proofs.Clipping.{part_most}
+use native.Mathlib.Omega.{arith}
+use lib.ListN.{length}
+use Rattle.write_bytes.proofs.Clipping.{at_most_le, part_most}
 use Rattle.write_bytes.proofs.Putting.{told}
 use Rattle.write_bytes.proofs.put_front.Goals as goal
 
@@ -8,3 +10,8 @@ pub returns : goal.returns
 returns c = 
     let x = c.args in
     told (part_most x.n x.w.now refl c.at_most-k.ensures) c.put_word.ensures
+
+pub slice_bounds-put_word-end : goal.slice_bounds-put_word-end
+slice_bounds-put_word-end c =
+    let x = c.args in
+    omega (arith, c.at_most-k.ensures, at_most_le x.n (length x.w.now))
