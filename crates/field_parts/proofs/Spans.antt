@@ -38,10 +38,8 @@ module _ (f : FieldSpan) (b : Bor (List ℕ)) (s : Span) (e : s ≡ shown f b.no
   end_inside = rw e (shown_inside f b.now)
 
   -- what is cut from the span's start to its end, at the start's place
-  pub cut_out : (γ : ℕ)
-      → PartOf b (shown f b.now)
-      (record { ref_ptr = (b.ref_ptr.0, s.start + b.ref_ptr.1); ghost_name = γ; now = take ((s.start + s.len) - s.start) (drop s.start b.now) })
-  cut_out γ =
+  pub cut_out : PartOf b (shown f b.now) (record { ref_ptr = (b.ref_ptr.0, s.start + b.ref_ptr.1); now = take ((s.start + s.len) - s.start) (drop s.start b.now) })
+  cut_out =
       record {
         block = refl;
         offset = rw (← e) (omega arith);

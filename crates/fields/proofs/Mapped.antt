@@ -1,6 +1,6 @@
 -- A test of the six fields of a map, one by one, is the test of any of them.
 use mathlib.Core.Path.{◌≡◌, ap}
-use mathlib.Core.Bool.{Bool, ◌||◌, or_assoc, or_false}
+use mathlib.Core.Bool.{Bool, ◌||◌, or_assoc, or-false}
 use mathlib.Core.List.{List}
 use Prim.Native.Nat.{ℕ}
 use Rattle.definitions.specs.declared.table.Context.{Context}
@@ -14,7 +14,7 @@ use Rattle.definitions.specs.Fields.{mapped, field_passes, fields_check}
 
 in_a_row : (p : Context → Bool) → (p Uri || p Header || p Body || p Banner || p Host || p File) ≡ any? p mapped
 unfolding any?
-in_a_row p = simp (or_assoc, or_false)
+in_a_row p = simp (or_assoc, or-false)
 
 pub check_of_six : (payload decoded : List ℕ) (m : FieldMap) (a b c d e f t : Bool)
     → a ≡ field_passes payload decoded m Uri → b ≡ field_passes payload decoded m Header → c ≡ field_passes payload decoded m Body

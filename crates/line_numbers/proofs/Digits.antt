@@ -11,7 +11,7 @@ use lib.Dec.{leb}
 use borrow.Author.Tests.{le-leb, lt-leb, leb-true}
 use Rattle.forms.specs.Bytes.{between}
 use Rattle.forms.specs.Form.{has}
-use Rattle.forms.proofs.Bools.{both_left, both_right, or_false}
+use Rattle.forms.proofs.Bools.{both_left, both_right, or-false}
 use Rattle.definitions.specs.Lists.{all?, none?}
 use Rattle.definitions.specs.Numbers.{decimal_digits, digit_value, value_of, is_number}
 use Rattle.line_numbers.specs.declared.decimals.NumberResult.TheVariants.{Parsed, Failed}
@@ -21,7 +21,7 @@ use Rattle.line_numbers.specs.Decimals.{parsed_number}
 
 digit_between : (b : ℕ) → has decimal_digits b ≡ between 48 57 b
 unfolding has
-digit_between b = or_false (between 48 57 b)
+digit_between b = or-false (between 48 57 b)
 
 module _ (b : ℕ) (t : between 48 57 b ≡ true) where
   pub digit_low : 48 ≤ b

@@ -7,12 +7,12 @@ use lib.Dec.{leb}
 use borrow.Author.Tests.{le-leb, lt-leb, leb-true}
 use Rattle.forms.specs.Bytes.{between}
 use Rattle.forms.specs.Form.{has}
-use Rattle.forms.proofs.Bools.{by_cases, both_left, both_right, or_false}
+use Rattle.forms.proofs.Bools.{by_cases, both_left, both_right, or-false}
 use Rattle.definitions.specs.Numbers.{hex_digits, digit_value}
 
 pub hex_ranges : (b : ℕ) → ((between 48 57 b || between 65 70 b) || between 97 102 b) ≡ has hex_digits b
 unfolding has
-hex_ranges b = rw (or_false (between 97 102 b)) (or_assoc (between 48 57 b) (between 65 70 b) (between 97 102 b))
+hex_ranges b = rw (or-false (between 97 102 b)) (or_assoc (between 48 57 b) (between 65 70 b) (between 97 102 b))
 
 module _ {A : Type 0} (b : ℕ) where
   in_range : (low high : ℕ) → (low ≤ b → b ≤ high → A) → between low high b ≡ true → A

@@ -1,6 +1,6 @@
 -- When bytes are pairs of hex digits: `-`, or digits to the end, an even count of them and more than none.
 use mathlib.Core.Path.{◌≡◌, refl, sym, ◌∙◌}
-use mathlib.Core.Bool.{Bool, true, false, not, ◌&&◌, and_assoc, and_true, and-false}
+use mathlib.Core.Bool.{Bool, true, false, not, ◌&&◌, and_assoc, and-true, and-false}
 use mathlib.Core.List.{List, [], ◌∷◌}
 use Prim.Native.Nat.{ℕ, ◌+◌, ◌%◌, ◌≤◌, ◌<◌}
 use native.Mathlib.Omega.{arith}
@@ -22,7 +22,7 @@ module _ (p : ℕ → Bool) (s : List ℕ) (good : Bool) (i : ℕ) (e : all? p s
 
   pub each_out : length s ≤ i → good ≡ all? p s
   unfolding all?
-  each_out h = sym (e ∙ rw (drop_of_length-le s h) (and_true good))
+  each_out h = sym (e ∙ rw (drop_of_length-le s h) (and-true good))
 
 not_short : (l : List ℕ) → 2 ≤ length l → same_bytes l (text "-") ≡ false
 unfolding same_bytes

@@ -17,14 +17,14 @@ module _ (s : List ℕ) (at : ℕ) (h : at < length s) where
   head = rw add-one (drop-cons s at 0 h)
 
 -- `--` by its two bytes
-and_true : (t : Bool) → (t && true) ≡ t
-and_true true = refl
-and_true false = refl
+and-true : (t : Bool) → (t && true) ≡ t
+and-true true = refl
+and-true false = refl
 
 module _ (s : List ℕ) (at : ℕ) (h : at < length s) where
   pub dashes_both : get_or s at 0 ≡ 45 → at + 1 < length s → eqb (get_or s (at + 1) 0) 45 ≡ dashes (drop at s)
   unfolding same_bytes
-  dashes_both e g = rw (head s at h, head s (at + 1) g, e) (sym (and_true (eqb (get_or s (at + 1) 0) 45)))
+  dashes_both e g = rw (head s at h, head s (at + 1) g, e) (sym (and-true (eqb (get_or s (at + 1) 0) 45)))
 
   pub dashes_one : get_or s at 0 ≡ 45 → length s ≤ at + 1 → false ≡ dashes (drop at s)
   unfolding same_bytes

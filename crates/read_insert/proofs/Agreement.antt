@@ -7,7 +7,7 @@ use native.Mathlib.Omega.{arith}
 use Rattle.definitions.specs.declared.table.Flow.TheVariants.{Any}
 use Rattle.definitions.specs.declared.table.Pattern as patterns
 use Rattle.definitions.specs.declared.table.Slot.{Slot}
-use Rattle.forms.proofs.Bools.{or_false}
+use Rattle.forms.proofs.Bools.{or-false}
 use Rattle.definitions.specs.Lists.{any?, count}
 use Rattle.definitions.specs.OptionValues.{Modifier, OptionValue, Name, Protocol, Flow}
 use Rattle.definitions.specs.Tables.{bytes_in, slots_in, modified}
@@ -64,7 +64,7 @@ given_by n p f ms =
 
 module _ (es : List OptionValue) (e : OptionValue) where
   pub any_same : (k : OptionValue → Bool) → any? k (e ∷ []) ≡ false → any? k (es ++ (e ∷ [])) ≡ any? k es
-  any_same k h = any_append k es (e ∷ []) ∙ rw h (or_false (any? k es))
+  any_same k h = any_append k es (e ∷ []) ∙ rw h (or-false (any? k es))
 
   pub any_new : (k : OptionValue → Bool) → any? k (e ∷ []) ≡ true → any? k (es ++ (e ∷ [])) ≡ true
   any_new k h = any_append k es (e ∷ []) ∙ rw h (or_true (any? k es))

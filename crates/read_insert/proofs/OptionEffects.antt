@@ -8,7 +8,7 @@ use lib.ListN.{length, length-append}
 use Rattle.definitions.specs.declared.table.Flow.TheVariants.{Any}
 use Rattle.definitions.specs.declared.table.Pattern as patterns
 use Rattle.definitions.specs.declared.table.Slot.{Slot}
-use Rattle.forms.proofs.Bools.{or_false}
+use Rattle.forms.proofs.Bools.{or-false}
 use Rattle.definitions.specs.Lists.{any?, keep, keep_one, count}
 use Rattle.definitions.specs.OptionValues.{Modifier, OptionValue, Name, Protocol, Flow, Test, Pattern, Modified}
 use Rattle.definitions.specs.Tables.{name_in, protocol_in, flow_in, bytes_in, slots_in, slot_of, modified, bare, with}
@@ -166,8 +166,8 @@ last_after_all_lem [] t h z = z
 last_after_all_lem (Name n ∷ es) t h z = last_after_all_lem es t h z
 last_after_all_lem (Protocol p ∷ es) t h z = last_after_all_lem es t h z
 last_after_all_lem (Flow f ∷ es) t h z = last_after_all_lem es t h z
-last_after_all_lem (Test it al ∷ es) t h z = rw (any_append is_pattern es t, h, or_false (any? is_pattern es), last_after_all_lem es t h z)
-last_after_all_lem (Pattern n b ∷ es) t h z = rw (any_append is_pattern es t, h, or_false (any? is_pattern es), last_after_all_lem es t h z)
+last_after_all_lem (Test it al ∷ es) t h z = rw (any_append is_pattern es t, h, or-false (any? is_pattern es), last_after_all_lem es t h z)
+last_after_all_lem (Pattern n b ∷ es) t h z = rw (any_append is_pattern es t, h, or-false (any? is_pattern es), last_after_all_lem es t h z)
 last_after_all_lem (Modified m ∷ es) t h z = last_after_all_lem es t h z
 
 pub last_new : (es : List OptionValue) (neg : Bool) (b : List ℕ) → last_place (es ++ (Pattern neg b ∷ [])) ≡ length (slots_in es)

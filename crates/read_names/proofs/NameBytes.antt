@@ -7,7 +7,7 @@ use lib.Dec.{leb}
 use borrow.Author.Tests.{le-leb, leb-true}
 use Rattle.forms.specs.Bytes.{between, lower}
 use Rattle.forms.specs.Form.{has}
-use Rattle.forms.proofs.Bools.{by_cases, both_left, both_right, or_false}
+use Rattle.forms.proofs.Bools.{by_cases, both_left, both_right, or-false}
 use Rattle.forms.proofs.Words.{span_one}
 use Rattle.definitions.specs.Options.{in_name}
 use Rattle.scan_bytes.specs.Classes.{class_of}
@@ -25,4 +25,4 @@ unfolding has in_name lower
 name_bytes b =
     by_cases (between 65 90 b)
     (λ t. rw (t, small_letter b t))
-    (λ t. rw (t, span_one b 95, span_one b 46, or_false))
+    (λ t. rw (t, span_one b 95, span_one b 46, or-false))

@@ -12,7 +12,7 @@ use lib.Dec.{eqb, leb}
 use borrow.Author.Tests.{eqb-true, eqb-false, leb-true, le-leb, le-ltb}
 use Rattle.forms.specs.Bytes.{between, text, lower, same_word}
 use Rattle.forms.specs.Form.{has, Row, none}
-use Rattle.forms.proofs.Bools.{by_cases, both_left, both_right, or_false}
+use Rattle.forms.proofs.Bools.{by_cases, both_left, both_right, or-false}
 use Rattle.forms.proofs.Sound.{never}
 use Rattle.definitions.specs.declared.table.HeaderField.TheVariants as header_field
 use Rattle.definitions.specs.declared.table.Operator.{Operator}
@@ -42,7 +42,7 @@ use Rattle.roundtrip.proofs.SameOptions.{same_options}
 digit_led : (b : ℕ) → has decimal_digits b ≡ true → eqb b 48 ≡ false → has ((49, 57) ∷ []) b ≡ true
 unfolding has
 digit_led b h z =
-    let u : between 48 57 b ≡ true = sym (or_false (between 48 57 b)) ∙ h in
+    let u : between 48 57 b ≡ true = sym (or-false (between 48 57 b)) ∙ h in
     let i = leb-true 48 b (both_left (leb 48 b) (leb b 57) u) in
     let n = eqb-false b 48 z in
     rw (le-leb 49 b (omega (arith, i, n)), both_right (leb 48 b) (leb b 57) u)

@@ -7,7 +7,7 @@ use lib.Dec.{leb}
 use borrow.Author.Tests.{leb-true}
 use Rattle.forms.specs.Bytes.{between}
 use Rattle.forms.specs.Form.{has}
-use Rattle.forms.proofs.Bools.{by_cases, both_left, or_false}
+use Rattle.forms.proofs.Bools.{by_cases, both_left, or-false}
 use Rattle.scan_bytes.specs.Classes.{case_class}
 
 pub case_same : (y b : ℕ) → between y y b ≡ true → true ≡ has (case_class y) b
@@ -19,7 +19,7 @@ case_low y e = let h = leb-true 97 y (both_left (leb 97 y) (leb y 122) e) in ome
 
 pub case_other : (y b : ℕ) (x : Bool) → between y y b ≡ false → between 97 122 y ≡ true → x ≡ between (y - 32) (y - 32) b → x ≡ has (case_class y) b
 unfolding has
-case_other y b x e t f = rw (t, e, or_false (between (y - 32) (y - 32) b)) f
+case_other y b x e t f = rw (t, e, or-false (between (y - 32) (y - 32) b)) f
 
 pub case_only : (y b : ℕ) → between y y b ≡ false → between 97 122 y ≡ false → false ≡ has (case_class y) b
 unfolding has

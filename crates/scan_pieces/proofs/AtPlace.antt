@@ -11,7 +11,7 @@ use borrow.Author.Tests.{eqb-true, ltb-true, ltb-false}
 use Rattle.forms.specs.Form.{Class, has, byte}
 use Rattle.forms.specs.Scan.{begins}
 use Rattle.forms.specs.Pieces.{literal, opt, literal_as}
-use Rattle.forms.proofs.Bools.{by_cases, or_false}
+use Rattle.forms.proofs.Bools.{by_cases, or-false}
 use Rattle.forms.proofs.Words.{span_one}
 use Rattle.scan_cursors.specs.declared.Cursor.TheVariants.{Parsed, Failed}
 use Rattle.scan_cursors.specs.Reads.{Reads}
@@ -48,7 +48,7 @@ module _ (c : Class) (s : List ℕ) (at : ℕ) where
 -- one byte
 pub has_one : (b x : ℕ) → has ((b, b) ∷ []) x ≡ eqb x b
 unfolding has
-has_one b x = or_false _ ∙ span_one x b
+has_one b x = or-false _ ∙ span_one x b
 
 pub literal_begun : (b : ℕ) (s : List ℕ) (at : ℕ) → begins ((b, b) ∷ []) (drop at s) ≡ true → Reads (literal b) s (Parsed at) b (Parsed (at + 1))
 literal_begun b s at e =

@@ -13,7 +13,7 @@ use borrow.Author.Tests.{eqb-true, leb-true, le-leb}
 use Rattle.forms.specs.Bytes.{between, lower}
 use Rattle.forms.specs.Form.{Class, has, Form, byte, many, fmap, Row, none, more, Means}
 use Rattle.forms.specs.Pieces.{preceded, terminated, or, some, literal}
-use Rattle.forms.proofs.Bools.{by_cases, both_left, both_right, or_false}
+use Rattle.forms.proofs.Bools.{by_cases, both_left, both_right, or-false}
 use Rattle.forms.proofs.Words.{span_one}
 use Rattle.forms.proofs.Parts.{Each, unbounded, both, either, row, made, on}
 use Rattle.definitions.specs.declared.table.Side.{Side}
@@ -57,7 +57,7 @@ some_bytes c x vs m =
 one_byte : (b : ℕ) (x : List ℕ) (v : ℕ) → Means false (literal b) x v → x ≡ b ∷ []
 unfolding Means has
 one_byte b x v m =
-    let e : eqb v b ≡ true = sym (span_one v b) ∙ sym (or_false (between b b v)) ∙ m.1 in
+    let e : eqb v b ≡ true = sym (span_one v b) ∙ sym (or-false (between b b v)) ∙ m.1 in
     m.0 ∙ ap (λ k. k ∷ []) (eqb-true v b e)
 
 -- `x` in either case
@@ -67,7 +67,7 @@ x_byte b h =
     by_cases (between 120 120 b)
     (λ t. let e : b ≡ 120 = eqb-true b 120 (sym (span_one b 120) ∙ t) in rw e)
     (λ t.
-    let u : between 88 88 b ≡ true = sym (or_false (between 88 88 b)) ∙ rw t at h in
+    let u : between 88 88 b ≡ true = sym (or-false (between 88 88 b)) ∙ rw t at h in
     let e : b ≡ 88 = eqb-true b 88 (sym (span_one b 88) ∙ u) in
     rw e)
 
@@ -75,7 +75,7 @@ x_byte b h =
 digit_byte : (b : ℕ) → has ((49, 57) ∷ []) b ≡ true → has decimal_digits b ≡ true
 unfolding has
 digit_byte b h =
-    let u : between 49 57 b ≡ true = sym (or_false (between 49 57 b)) ∙ h in
+    let u : between 49 57 b ≡ true = sym (or-false (between 49 57 b)) ∙ h in
     let i = leb-true 49 b (both_left (leb 49 b) (leb b 57) u) in
     rw (both_right (leb 49 b) (leb b 57) u, le-leb 48 b (omega (arith, i)))
 

@@ -1,6 +1,6 @@
 -- Bits gathered from bytes are none where each byte is zero.
 use mathlib.Core.Path.{◌≡◌, refl, sym, ◌∙◌}
-use mathlib.Core.Bool.{Bool, true, false, ◌&&◌, and_true, and_assoc}
+use mathlib.Core.Bool.{Bool, true, false, ◌&&◌, and-true, and_assoc}
 use mathlib.Core.List.{List}
 use Prim.Native.Nat.{ℕ, ◌+◌, ◌≤◌, ◌<◌}
 use native.Mathlib.Omega.{arith}
@@ -28,4 +28,4 @@ module _ (r : Bool) (s : List ℕ) (bits i : ℕ) (e : r ≡ (eqb bits 0 && all?
 
   pub gather_out : length s ≤ i → r ≡ eqb bits 0
   unfolding all?
-  gather_out h = e ∙ rw (drop_of_length-le s {i = i} h) (and_true (eqb bits 0))
+  gather_out h = e ∙ rw (drop_of_length-le s {i = i} h) (and-true (eqb bits 0))

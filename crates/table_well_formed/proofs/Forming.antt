@@ -1,7 +1,7 @@
 -- The test of a table, as the code parts it: the definitions' tests stand in another order, and each decides alone. Items that fit are no more
 -- than there is room for.
 use mathlib.Core.Path.{◌≡◌, refl, ap}
-use mathlib.Core.Bool.{Bool, true, false, ◌&&◌, and_true, and-false, and_comm}
+use mathlib.Core.Bool.{Bool, true, false, ◌&&◌, and-true, and-false, and_comm}
 use mathlib.Core.List.{List}
 use Prim.Native.Nat.{ℕ, ◌-◌, ◌≤◌}
 use lib.ListN.{length, take, drop}
@@ -33,7 +33,7 @@ regroup true true false a b e g r = simp and-false
 regroup true true true false b e g r = refl
 regroup true true true true false e g r = refl
 regroup true true true true true false g r = refl
-regroup true true true true true true g r = rw and_true (and_comm r g)
+regroup true true true true true true g r = rw and-true (and_comm r g)
 
 pub parted : (t : Table)
     → well_formed t

@@ -1,7 +1,7 @@
 -- The walk over the slots in use: with each slot that may be passed, what is counted and what is still to come make the same answer; a slot that
 -- may not be passed makes it false.
 use mathlib.Core.Path.{◌≡◌, refl, ap, sym, ◌∙◌}
-use mathlib.Core.Bool.{Bool, true, false, ◌&&◌, and_true, and-false}
+use mathlib.Core.Bool.{Bool, true, false, ◌&&◌, and-true, and-false}
 use mathlib.Core.List.{List, [], ◌∷◌}
 use Prim.Native.Nat.{ℕ, suc, ◌+◌, ◌-◌, ◌≤◌, ◌<◌}
 use native.Mathlib.Omega.{arith}
@@ -100,7 +100,7 @@ module _ (count : ℕ) where
 
   walk_out : (w : Passed) → answer count w [] ≡ ends_well w count
   unfolding answer ending counts all? patterns_of bytes_of usable_run
-  walk_out w = rw (add-zero, and_true)
+  walk_out w = rw (add-zero, and-true)
 
   module _ (w : Passed) (sl : Slot) (sls : List Slot) where
     walk_on : may_pass w sl ≡ true → answer count w (sl ∷ sls) ≡ answer count (past_item w sl) sls

@@ -12,15 +12,11 @@ returns-in-IpId c = rw c.in-IpId.is refl
 
 pub returns-in-SourcePort : goal.returns-in-SourcePort
 unfolding item_fits
-returns-in-SourcePort c =
-    let g = c.TODO.well-formed.0.1.1 in
-    rw (c.in-SourcePort.is, le-leb c.args.a.number max_word (omega (arith, g.1.0)))
+returns-in-SourcePort c = rw (c.in-SourcePort.is, le-leb c.args.a.number max_word (omega arith))
 
 pub returns-in-DestinationPort : goal.returns-in-DestinationPort
 unfolding item_fits
-returns-in-DestinationPort c =
-    let g = c.TODO.well-formed.0.1.1 in
-    rw (c.in-DestinationPort.is, le-leb c.args.a.number max_word (omega (arith, g.1.0)))
+returns-in-DestinationPort c = rw (c.in-DestinationPort.is, le-leb c.args.a.number max_word (omega arith))
 
 pub returns-in-Tos : goal.returns-in-Tos
 unfolding item_fits

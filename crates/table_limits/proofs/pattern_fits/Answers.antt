@@ -1,5 +1,5 @@
 -- Each return rewrites with the test that led there; a reach is within its limit by its type.
-use mathlib.Core.Bool.{and_true}
+use mathlib.Core.Bool.{and-true}
 use native.Mathlib.Omega.{arith}
 use borrow.Author.Tests.{lt-ltb, le-ltb}
 use Rattle.definitions.specs.WellFormed.{distance_fits, item_fits}
@@ -15,4 +15,4 @@ unfolding item_fits
 returns c =
     let p = c.args.p in
     let reach = within_fits_lem p.within c.struct_known-1.given.1.1.1.1.1.0 in
-    rw (lt-ltb 0 p.len (omega arith), reach, and_true (distance_fits p.distance)) c.distance_fits.ensures
+    rw (lt-ltb 0 p.len (omega arith), reach, and-true (distance_fits p.distance)) c.distance_fits.ensures

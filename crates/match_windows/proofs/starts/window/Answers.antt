@@ -17,6 +17,6 @@ returns c =
     let s = to_z w64 (of_z w64 w.result) in
     let r = c.raised-first in
     spans a.p a.last a.len s (record { from = c.place-from.result; to = c.starts_to-to.result })
-    (to_z-of_z w64 w.result (record { sfits = w.type-inv }) ∙ w.ensures.is)
-    (c.place-from.ensures ∙ ap (λ (x : ℤ). min (clip x) (a.len + 1)) (raised_back s r.result (record { sfits = r.type-inv }) r.ensures.is))
+    (to_z-of_z w64 w.result (record { sfits = w.type_inv }) ∙ w.ensures.is)
+    (c.place-from.ensures ∙ ap (λ (x : ℤ). min (clip x) (a.len + 1)) (raised_back s r.result (record { sfits = r.type_inv }) r.ensures.is))
     c.starts_to-to.ensures
