@@ -1,15 +1,13 @@
 -- An item that is no pattern is one of the other nine: what holds of their three kinds holds of its kind.
-use mathlib.Core.List.{[], ◌∷◌}
-use types.Run.{OneOf, miss}
-use denote.Enum.Declared.{tag_of}
+use mathlib.Core.Path.{◌≡◌, refl}
 use Rattle.definitions.specs.declared.table.AddressTest.{AddressTest}
+use Rattle.definitions.specs.declared.table.Pattern.{Pattern}
 use Rattle.definitions.specs.declared.table.Item.{Item}
 use Rattle.definitions.specs.declared.table.Item.TheVariants as item
 use Rattle.definitions.specs.Items.{Kind, unused, addressed, plain_test, kind_of}
-use Rattle.definitions.specs.contracts.table.Item as item-type
 
 pub other_kind : (P : Kind → Type 0) → P unused → ((a : AddressTest) → P (addressed a)) → P plain_test → (it : Item)
-    → OneOf (0 ∷ 1 ∷ 2 ∷ 3 ∷ 4 ∷ 5 ∷ 6 ∷ 7 ∷ 8 ∷ []) (tag_of item-type.the_type it) → P (kind_of it)
+    → ((q : Pattern) → it ≡ item.Pattern q → ⊥) → P (kind_of it)
 other_kind P u a p item.Unused k = u
 other_kind P u a p (item.Address t) k = a t
 other_kind P u a p item.SameIp k = p
@@ -19,4 +17,4 @@ other_kind P u a p (item.Field t) k = p
 other_kind P u a p (item.Size t) k = p
 other_kind P u a p (item.At t) k = p
 other_kind P u a p (item.Byte t) k = p
-other_kind P u a p (item.Pattern q) k = absurd (miss (0 ∷ 1 ∷ 2 ∷ 3 ∷ 4 ∷ 5 ∷ 6 ∷ 7 ∷ 8 ∷ []) 9 tt k)
+other_kind P u a p (item.Pattern q) k = absurd (k q refl)

@@ -16,7 +16,7 @@ use Rattle.definitions.specs.Forms.{block, plain_bytes, concatenated, pattern_by
 use Rattle.definitions.specs.Canonical.{hex_digit, pattern_text}
 use Rattle.roundtrip.proofs.AllTests.{all_head, all_tail}
 use Rattle.roundtrip.proofs.Fits.{is_byte}
-use Rattle.roundtrip.proofs.Making.{Of, revalues, is_byte, fmap_of, preceded_of, terminated_of, both_of, alt_left, alt_right, many_of, somes, literal_of}
+use Rattle.roundtrip.proofs.Making.{Of, revalues, is_byte_lem, fmap_of, preceded_of, terminated_of, both_of, alt_left, alt_right, many_of, somes, literal_of}
 use Rattle.roundtrip.proofs.Values.{spaced_pair, part}
 
 -- ---- digits
@@ -43,7 +43,7 @@ pair_of b t =
     let q = digit_of (b % 16) (omega arith) in
     let e : digit_value (hex_digit (b / 16)) * 16 + digit_value (hex_digit (b % 16)) ≡ b = rw (p.1, q.1) (omega arith) in
     terminated_of
-    (revalues e (fmap_of {h = λ (p : ℕ × ℕ). digit_value p.0 * 16 + digit_value p.1} (both_of (is_byte p.0) (is_byte q.0))))
+    (revalues e (fmap_of {h = λ (p : ℕ × ℕ). digit_value p.0 * 16 + digit_value p.1} (both_of (is_byte_lem p.0) (is_byte_lem q.0))))
     (many_of none)
 
 -- ---- parts
@@ -68,7 +68,7 @@ plain_one : (b : ℕ) (x l : List ℕ) → has plain_bytes b ≡ true → Shut x
 plain_one b x l p i =
     record {
       parts = (b ∷ []) ∷ i.parts;
-      row = Row.more (alt_left (fmap_of {h = λ (b : ℕ). b ∷ []} (is_byte p))) i.row;
+      row = Row.more (alt_left (fmap_of {h = λ (b : ℕ). b ∷ []} (is_byte_lem p))) i.row;
       bytes = ap (λ m. b ∷ m) i.bytes;
     }
 

@@ -15,7 +15,7 @@ use Rattle.definitions.specs.Numbers.{decimal_digits, digit_value, value_of, num
 use Rattle.definitions.specs.Canonical.{digits_of, decimal}
 use Rattle.roundtrip.proofs.AllTests.{all_none, all_more, all_append}
 use Rattle.roundtrip.proofs.Making.{Of, retexts, revalues, fmap_of, bound_of, preceded_of, both_of, alt_left, alt_right, many_of, literal_of}
-use Rattle.roundtrip.proofs.Making.{is_byte, byte_row, some_bytes}
+use Rattle.roundtrip.proofs.Making.{is_byte_lem, byte_row, some_bytes}
 
 -- ---- digits
 
@@ -101,7 +101,7 @@ either_of (suc n) =
     let v : value_of 10 0 (d.0 ∷ d.1) ≡ suc n = ap (value_of 10 0) (sym d.2) ∙ digits_value (suc n) (suc n) (le_refl (suc n)) in
     alt_right (retexts (sym d.2)
     (revalues (ap (λ i. (0, i)) v)
-    (fmap_of {h = λ (p : ℕ × List ℕ). (0, value_of 10 0 (p.0 ∷ p.1))} (both_of (is_byte d.3) (many_of (byte_row decimal_digits d.1 d.4))))))
+    (fmap_of {h = λ (p : ℕ × List ℕ). (0, value_of 10 0 (p.0 ∷ p.1))} (both_of (is_byte_lem d.3) (many_of (byte_row decimal_digits d.1 d.4))))))
 
 pub numeral_of : (limit n : ℕ) → leb n limit ≡ true → Of (numeral limit) (decimal n) n
 numeral_of limit n t = fmap_of {h = λ (p : ℕ × ℕ). p.1} {a = (0, n)} (bound_of t (either_of n))

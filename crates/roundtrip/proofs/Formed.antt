@@ -88,9 +88,9 @@ pub record Entries (es : List OptionValue) : Type 0 where
   pub usable : usable_in es ≡ count is_pattern es
   pub complete : missing es ≡ false
 
-no_slot : slot_unused no_slot ≡ true
+no_slot_lem : slot_unused no_slot ≡ true
 unfolding all?
-no_slot = refl
+no_slot_lem = refl
 
 module _ (room : ℕ) (es : List OptionValue) (k : Entries es) where
   taken : take (length (slots_in es)) (padded max_items no_slot (slots_in es)) ≡ slots_in es
@@ -122,7 +122,7 @@ module _ (room : ℕ) (es : List OptionValue) (k : Entries es) where
       rw (taken, drop-append_seam (slots_in es) (replicate z no_slot))
       (both (le-leb (length (slots_in es)) max_items (omega (arith, c, t, q)))
       (both (slots_fit_lem es k.fit (few_addresses_lem es k.occurrences))
-      (both (all_replicate slot_unused z no_slot no_slot)
+      (both (all_replicate slot_unused z no_slot no_slot_lem)
       (both (le-leb (length (patterns_of (slots_in es))) max_patterns (omega (arith, q, patterned)))
       (le-leb (length (slots_in es) - length (patterns_of (slots_in es))) max_tests (omega (arith, c, t, patterned)))))))
 

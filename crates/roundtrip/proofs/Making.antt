@@ -27,9 +27,9 @@ pub pure_of : {A : Type 0} {a : A} → Of (pure a) [] a
 unfolding Means
 pure_of = record { means = (refl, refl) }
 
-pub is_byte : {c : Class} {b : ℕ} → has c b ≡ true → Of (byte c) (b ∷ []) b
+pub is_byte_lem : {c : Class} {b : ℕ} → has c b ≡ true → Of (byte c) (b ∷ []) b
 unfolding Means
-is_byte h = record { means = (refl, h) }
+is_byte_lem h = record { means = (refl, h) }
 
 module _ {A B : Type 0} {f : Form A} {g : Form B} {x y : List ℕ} {a : A} {b : B} (p : Of f x a) (q : Of g y b) where
   pub both_of : Of (pair f g) (x ++ y) (a, b)
@@ -86,7 +86,7 @@ own_span b = both (le-leb b b (le_refl b)) (le-leb b b (le_refl b))
 
 pub literal_of : (b : ℕ) → Of (literal b) (b ∷ []) b
 unfolding has
-literal_of b = is_byte (rw (own_span b))
+literal_of b = is_byte_lem (rw (own_span b))
 
 pub literal_as-of : {A : Type 0} (b : ℕ) (a : A) → Of (literal_as b a) (b ∷ []) a
 literal_as-of b a = fmap_of {h = λ (x : ℕ). a} (literal_of b)
@@ -98,16 +98,16 @@ own_case b = by_cases (between 97 122 b) (λ t. rw (t, own_span b)) (λ t. rw (t
 -- a word in small letters
 pub words : {A : Type 0} (w : List ℕ) (a : A) → Of (keyword w a) w a
 words [] a = pure_of
-words (b ∷ w) a = preceded_of (is_byte (own_case b)) (words w a)
+words (b ∷ w) a = preceded_of (is_byte_lem (own_case b)) (words w a)
 
 -- bytes of a class
 pub byte_row : (c : Class) (l : List ℕ) → all? (has c) l ≡ true → Row (λ y w. Of (byte c) y w) l l
 byte_row c [] t = none
-byte_row c (b ∷ l) t = Row.more (is_byte (all_head (has c) b l t)) (byte_row c l (all_tail (has c) b l t))
+byte_row c (b ∷ l) t = Row.more (is_byte_lem (all_head (has c) b l t)) (byte_row c l (all_tail (has c) b l t))
 
 pub some_bytes : (c : Class) (l : List ℕ) → 1 ≤ length l → all? (has c) l ≡ true → Of (some (byte c)) l l
 some_bytes c [] h t = absurd (omega (arith, h))
-some_bytes c (b ∷ l) h t = somes (is_byte (all_head (has c) b l t)) (byte_row c l (all_tail (has c) b l t))
+some_bytes c (b ∷ l) h t = somes (is_byte_lem (all_head (has c) b l t)) (byte_row c l (all_tail (has c) b l t))
 
 -- ---- an option's value, `;` after it; one space before it
 

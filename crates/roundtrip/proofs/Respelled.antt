@@ -31,7 +31,7 @@ use Rattle.laws.proofs.Refusing.{unbounded_empty}
 use Rattle.definitions.specs.IpId.{WordDigits, ip_id_text, id_equals_text, Respelled, both_end, both_space, same_option, other_spelling}
 use Rattle.roundtrip.proofs.AllTests.{all_head, all_tail}
 use Rattle.roundtrip.proofs.Listed.{ip_id_row, field_row}
-use Rattle.roundtrip.proofs.Making.{Of, pure_of, is_byte, fmap_of, bound_of, preceded_of, terminated_of, both_of, alt_left, alt_right}
+use Rattle.roundtrip.proofs.Making.{Of, pure_of, is_byte_lem, fmap_of, bound_of, preceded_of, terminated_of, both_of, alt_left, alt_right}
 use Rattle.roundtrip.proofs.Making.{many_of, byte_row, some_bytes, literal_of, literal_as-of, values}
 use Rattle.roundtrip.proofs.Read.{told_either}
 use Rattle.roundtrip.proofs.SameOptions.{same_options}
@@ -60,7 +60,7 @@ either_digits (b ∷ digits) some all =
     by_cases (eqb b 48)
     (λ z. rw (eqb-true b 48 z) (zero_first digits rest))
     (λ z. alt_right (fmap_of {h = λ (p : ℕ × List ℕ). (0, value_of 10 0 (p.0 ∷ p.1))}
-    (both_of (is_byte (digit_led b (all_head (has decimal_digits) b digits all) z)) (many_of (byte_row decimal_digits digits rest)))))
+    (both_of (is_byte_lem (digit_led b (all_head (has decimal_digits) b digits all) z)) (many_of (byte_row decimal_digits digits rest)))))
 
 some_length : (digits : List ℕ) → none? digits ≡ false → 1 ≤ length digits
 some_length [] some = never (cc)

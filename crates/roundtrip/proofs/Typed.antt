@@ -2,10 +2,10 @@
 -- by their cells, as many as the type says.
 use mathlib.Core.Path.{◌≡◌, sym, ◌∙◌}
 use mathlib.Core.Bool.{true, false}
-use mathlib.Core.List.{List, [], ◌∷◌, map}
+use mathlib.Core.List.{List, [], ◌∷◌}
 use mathlib.Core.Logic.{◌↔◌}
 use Prim.Native.Nat.{ℕ}
-use lib.ListN.{length, length-map}
+use lib.ListN.{length}
 use borrow.Author.Tests.{eq-eqb, eqb-true}
 use mir.Val.{Val}
 use denote.Laws.{Is}
@@ -24,14 +24,14 @@ use Rattle.roundtrip.proofs.Canonical.{unreadable_exactly}
 
 -- slots, as an array has them
 abbrev Held : List Slot → List Val → Type 0
-Held sls us = shadow (each (slot-type.the_field).row.Denot (slot-type.the_field).row.own_val (map (slot-type.the_field).into sls) us)
+Held sls us = shadow (each (slot-type.the_row).Denot (slot-type.the_row).own_val sls us)
 
 held_whole : (sls : List Slot) (us : List Val) → Held sls us → all? whole_slot sls ≡ true
 held_whole [] us h = all_none whole_slot
 held_whole (sl ∷ sls) [] h = absurd h
 held_whole (sl ∷ sls) (u ∷ us) h =
     all_more whole_slot sl sls
-    (eq-eqb (length sl.addresses) max_addresses (sym (length-map sl.addresses _) ∙ h.0.1.1.1.0.1.0.1))
+    (eq-eqb (length sl.addresses) max_addresses h.0.1.1.1.0.1.0.1)
     (held_whole sls us h.1)
 
 -- a value of the type has the type's shape
@@ -39,9 +39,9 @@ pub typed_shaped : (t : Table) (vs : List Val) → Is table-type.the_row t vs �
 typed_shaped t vs is =
     let fields = is.1.1 in
     record {
-      named = sym (length-map t.name _) ∙ fields.0.1.0.1;
-      roomy = sym (length-map t.bytes _) ∙ fields.1.1.1.1.0.1.0.1;
-      slotted = sym (length-map t.items _) ∙ fields.1.1.1.1.1.1.0.1.0.1;
+      named = fields.0.1.0.1;
+      roomy = fields.1.1.1.1.0.1.0.1;
+      slotted = fields.1.1.1.1.1.1.0.1.0.1;
       addressed = λ sl m. eqb-true (length sl.addresses) max_addresses (all_each whole_slot m (held_whole t.items _ fields.1.1.1.1.1.1.0.1.1));
     }
 

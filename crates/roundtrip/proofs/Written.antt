@@ -137,10 +137,10 @@ relative_of : (r : Bool) → Of (comma false (keyword (text "relative") true)) (
 relative_of true = alt_left (preceded_of (literal_of 44) (words (text "relative") true))
 relative_of false = alt_right pure_of
 
-width_of : (w : Width) → Of width (decimal (byte_count w)) w
-width_of One = fmap_of {h = width_of} {a = 1} (number_that_of is_byte_count 1 refl)
-width_of Two = fmap_of {h = width_of} {a = 2} (number_that_of is_byte_count 2 refl)
-width_of Four = fmap_of {h = width_of} {a = 4} (number_that_of is_byte_count 4 refl)
+width_of_lem : (w : Width) → Of width (decimal (byte_count w)) w
+width_of_lem One = fmap_of {h = width_of} {a = 1} (number_that_of is_byte_count 1 refl)
+width_of_lem Two = fmap_of {h = width_of} {a = 2} (number_that_of is_byte_count 2 refl)
+width_of_lem Four = fmap_of {h = width_of} {a = 4} (number_that_of is_byte_count 4 refl)
 
 byte_operator_of_lem : (o : ByteOperator) → Of byte_comparison (byte_operator_text o) o
 byte_operator_of_lem byte_operator.Greater = alt_left (literal_as-of 62 byte_operator.Greater)
@@ -217,7 +217,7 @@ byte_written a f =
     (values {x = byte_text a}
     (fmap_of {h = byte_test}
     (retexts (simp append_assoc)
-    (both_of (terminated_of (width_of a.width) (literal_of 44))
+    (both_of (terminated_of (width_of_lem a.width) (literal_of 44))
     (both_of (terminated_of (byte_operator_of_lem a.operator) (literal_of 44))
     (both_of (terminated_of (numeral_of max_long a.value h.0) (literal_of 44))
     (both_of (number_of max_word a.offset h.1) (flags_of a.relative a.little))))))))
