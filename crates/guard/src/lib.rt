@@ -12,7 +12,10 @@ use definitions::answers::ReadOutcome;
 use definitions::books::{Action, Decision, Judgement, LoadedRule, Rules, State};
 use definitions::limits::RULES;
 use definitions::packets::{Direction, FieldMap};
-use rule_book::{load, text_at};
+use rule_book::load;
+
+// It stood here before two books were compared, and is still had from here.
+pub use rule_book::text_at;
 
 // Whether a rule is on.
 pub fn is_on(s: State) -> bool

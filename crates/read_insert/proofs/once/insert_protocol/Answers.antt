@@ -1,0 +1,7 @@
+-- The stores are those of the definition, with what the two callees ensure.
+use Rattle.read_insert.specs.Inserting.{protocol_inserted}
+use Rattle.read_insert.proofs.once.insert_protocol.Goals as goal
+
+pub returns : goal.returns
+unfolding protocol_inserted
+returns c = simp (c.no_item.ensures, c.check_again-check.ensures)
