@@ -5,14 +5,11 @@ use mathlib.Core.List.{List, [], ◌∷◌, ◌++◌, append_assoc, append-nil}
 use Prim.Native.Nat.{ℕ, ◌+◌, ◌-◌, ◌≤◌, ◌<◌}
 use native.Mathlib.Omega.{arith}
 use lib.ListN.{length, drop, get_or}
-use types.Run.{OneOf}
-use denote.Enum.Declared.{tag_of}
 use Rattle.forms.specs.Scan.{begins, first_set}
 use Rattle.definitions.specs.Numbers.{hex_digits}
 use Rattle.definitions.specs.Forms as forms
 use Rattle.definitions.specs.Forms.{spaces, hex_pair, block, plain_bytes, pattern_bytes}
 use Rattle.read_value.specs.Values.{PatternBytes, appended}
-use Rattle.scan_cursors.specs.contracts.Cursor as cursor-type
 use Rattle.scan_cursors.specs.declared.Cursor.{Cursor}
 use Rattle.scan_cursors.specs.declared.Cursor.TheVariants.{Parsed, Failed}
 use Rattle.scan_cursors.specs.Reads.{Reads}
@@ -31,7 +28,7 @@ pair_writing = record { full = refl; bytes = λ vs. vs; one = λ v. v ∷ []; no
 
 module _ (s : List ℕ) (at : ℕ) (room : PatternBytes) (ready : Ready s (Parsed at) room) {here : ℕ} {to : PatternBytes}
     (u : Writes pair_writing s at room here to) {v : ℕ} {d : Cursor} (r : Reads hex_pair s (Parsed here) v d) where
-  pub pairs_halt : OneOf (1 ∷ 2 ∷ []) (tag_of cursor-type.the_type d) → Stores hex_pairs s (Parsed at) room to d
+  pub pairs_halt : ((n : ℕ) → d ≡ Parsed n → ⊥) → Stores hex_pairs s (Parsed at) room to d
   pairs_halt k =
       let z = halted d k refl r in
       let q : d ≡ Failed z.0 = z.1 in
@@ -85,7 +82,7 @@ element_writing =
 
 module _ (s : List ℕ) (at : ℕ) (room : PatternBytes) (ready : Ready s (Parsed at) room) {here : ℕ} {to to' : PatternBytes}
     (u : Writes element_writing s at room here to) {d : Cursor} (r : Stores element s (Parsed here) to to' d) where
-  pub elements_halt : OneOf (1 ∷ 2 ∷ []) (tag_of cursor-type.the_type d) → Stores pattern_bytes s (Parsed at) room to' d
+  pub elements_halt : ((n : ℕ) → d ≡ Parsed n → ⊥) → Stores pattern_bytes s (Parsed at) room to' d
   elements_halt k =
       let z = halted d k refl r.1.read in
       let q : d ≡ Failed z.0 = z.1 in

@@ -10,14 +10,13 @@ ghost use Rattle.write_bytes.specs.Puts.{Puts};
 ghost use Rattle.line_stream.specs.Stream.{Feeds};
 ghost use Rattle.line_stream.specs.Whole.{WholeLines};
 ghost use Rattle.line_stream.specs.Ended.{ended_lines};
-ghost use Rattle.replay_laws.specs.Replays.{replay_answer};
+ghost use Rattle.replay_laws.specs.Replays.{replay_answer, refused_output};
 ghost use Rattle.replay_totals.specs.OutcomeNumbers.{outcome_of};
 ghost use Rattle.replay_totals.specs.Totals.{counted};
 ghost use Rattle.replay_lines.specs.Feeding.{is_accepted, opened_text, Ready, Counts, last_output, LastWhole};
 
 use definitions::answers::Refusal;
 use definitions::books::{Judgement, Rules};
-use line_refusals::put_refused_book;
 use line_stream::{Begun, Fed, end_line, first_line, kept, last_line, next_line};
 use replay_batches::{LINES, RECORDS, decide_lines};
 use replay_records::TRACE_BYTES;
@@ -49,6 +48,13 @@ pub struct Ahead {
     pub count: usize,
 }
 
+// `book`, tab, refusal, tab, line, LF.
+fn put_refused_book(out: &mut [u8], r: Refusal, line: usize) -> usize
+    ensures { Puts out.old 0 (refused_output r line) out.new result }
+{
+    line_refusals::put_refused_book(out, 0, b"book\t", r, line)
+}
+
 // OPENING A BOOK: it is judged and loaded; if it is refused, all that a replay writes is put.
 pub fn open(book: &[u8], out: &mut [u8]) -> Opened
     ensures rules { result.rules ≡ (loaded document_limits book.now).rules }
@@ -60,7 +66,7 @@ pub fn open(book: &[u8], out: &mut [u8]) -> Opened
     let rules = b.rules;
     match judgement {
         Judgement::Refused(r, line) => {
-            let put = put_refused_book(out, 0, b"book\t", r, line);
+            let put = put_refused_book(out, r, line);
             Opened {
                 rules,
                 accepted: false,

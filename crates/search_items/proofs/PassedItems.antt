@@ -1,12 +1,11 @@
 -- The items that the search has gone over: tests and negated patterns that hold leave the answer to the items after them.
 use mathlib.Core.Path.{◌≡◌, refl, sym, ap, ◌∙◌}
-use mathlib.Core.Bool.{Bool, true, false, not}
+use mathlib.Core.Bool.{Bool, true, false}
 use mathlib.Core.List.{List, [], ◌∷◌}
 use Prim.Native.Nat.{ℕ, ◌+◌, ◌-◌, ◌≤◌, ◌<◌}
 use native.Mathlib.Omega.{arith}
 use lib.ListN.{length, take, drop, get_or, length-drop}
 use lib.Seq.{take_all, drop-drop}
-use borrow.Author.Tests.{not-true, not-false}
 use Rattle.definitions.specs.declared.table.Pattern.{Pattern}
 use Rattle.definitions.specs.declared.table.Item.TheVariants as item
 use Rattle.definitions.specs.declared.table.Slot.{Slot}
@@ -96,7 +95,7 @@ module _ {q : SearchInput} {k : ℕ} {b s d : List ℕ} {l : LastMatch} {chosen 
           ≡ found q s d l chosen on-bound (tested sl.item sl.addresses ∷ constraints sls left)
       test-first = g.same ∙ ap (found q s d l chosen on-bound) (stepping.constraints_test all sl sls here left no)
 
-      pub gone-test : not t ≡ false → Gone q k b s d l chosen on-bound (i + 1) from
+      pub gone-test : t ≡ true → Gone q k b s d l chosen on-bound (i + 1) from
       gone-test n =
           record {
             few = g.few;
@@ -104,12 +103,12 @@ module _ {q : SearchInput} {k : ℕ} {b s d : List ℕ} {l : LastMatch} {chosen 
             on = omega (arith, g.on);
             inside = g.inside;
             ready = stepping.ready_test all sl sls here left s d l chosen g.ready no;
-            same = test-first ∙ stepping.test_yes view l chosen on-bound passed (constraints sls left) sl.item sl.addresses (sym e ∙ not-false t n);
+            same = test-first ∙ stepping.test_yes view l chosen on-bound passed (constraints sls left) sl.item sl.addresses (sym e ∙ n);
           }
 
-      pub stop-test : not t ≡ true → (r : Outcome) → r ≡ nothing → r ≡ found q s d l chosen on-bound (constraints (items_left q k) b)
+      pub stop-test : t ≡ false → (r : Outcome) → r ≡ nothing → r ≡ found q s d l chosen on-bound (constraints (items_left q k) b)
       stop-test n r h =
-          h ∙ sym (test-first ∙ stepping.test_no view l chosen on-bound passed (constraints sls left) sl.item sl.addresses (sym e ∙ not-true t n))
+          h ∙ sym (test-first ∙ stepping.test_no view l chosen on-bound passed (constraints sls left) sl.item sl.addresses (sym e ∙ n))
 
     module _ {p : Pattern} (e : sl.item ≡ item.Pattern p) where
       pub pattern-inside : from + p.len ≤ length b
@@ -141,7 +140,7 @@ module _ {q : SearchInput} {k : ℕ} {b s d : List ℕ} {l : LastMatch} {chosen 
         nowhere-first : found q s d l chosen on-bound (constraints (items_left q k) b) ≡ found q s d l chosen on-bound (unmatched p own ∷ constraints sls rest)
         nowhere-first = g.same ∙ ap (found q s d l chosen on-bound) (stepping.constraints_unmatched all sl sls here left p e n)
 
-        pub gone-nowhere : not t ≡ false → Gone q k b s d l chosen on-bound (i + 1) (from + p.len)
+        pub gone-nowhere : t ≡ true → Gone q k b s d l chosen on-bound (i + 1) (from + p.len)
         gone-nowhere y =
             record {
               few = g.few;
@@ -150,8 +149,8 @@ module _ {q : SearchInput} {k : ℕ} {b s d : List ℕ} {l : LastMatch} {chosen 
               inside = pattern-inside;
               ready = rw drop-drop at (stepping.ready_nowhere all sl sls here left s d l chosen g.ready p e n);
               same = rw drop-drop at (nowhere-first
-                  ∙ stepping.nowhere_yes view l chosen on-bound passed (constraints sls rest) p own (sym holds ∙ not-false t y));
+                  ∙ stepping.nowhere_yes view l chosen on-bound passed (constraints sls rest) p own (sym holds ∙ y));
             }
 
-        pub stop-nowhere : not t ≡ true → (r : Outcome) → r ≡ nothing → r ≡ found q s d l chosen on-bound (constraints (items_left q k) b)
-        stop-nowhere y r z = z ∙ sym (nowhere-first ∙ stepping.nowhere_no view l chosen on-bound passed (constraints sls rest) p own (sym holds ∙ not-true t y))
+        pub stop-nowhere : t ≡ false → (r : Outcome) → r ≡ nothing → r ≡ found q s d l chosen on-bound (constraints (items_left q k) b)
+        stop-nowhere y r z = z ∙ sym (nowhere-first ∙ stepping.nowhere_no view l chosen on-bound passed (constraints sls rest) p own (sym holds ∙ y))

@@ -1,12 +1,10 @@
 -- One item more: what is wanted of the items left, what the search rests on after it, and what it answers.
-use mathlib.Core.Path.{◌≡◌, refl, sym, ap, ◌∙◌}
+use mathlib.Core.Path.{◌≡◌, refl, ap, ◌∙◌}
 use mathlib.Core.Bool.{Bool, true, false}
-use mathlib.Core.List.{List, [], ◌∷◌, map}
+use mathlib.Core.List.{List, [], ◌∷◌}
 use Prim.Native.Nat.{ℕ, ◌+◌, ◌≤◌, ◌<◌}
 use native.Mathlib.Omega.{arith}
-use lib.ListN.{length, take, drop, get_or, length-take, length-drop, length-map}
-use types.Run.{OneOf}
-use denote.Enum.Declared.{tag_of}
+use lib.ListN.{length, take, drop, get_or, length-take, length-drop}
 use Rattle.forms.proofs.Bools.{by_cases}
 use Rattle.definitions.specs.declared.table.Pattern.{Pattern}
 use Rattle.definitions.specs.declared.table.Item.{Item}
@@ -24,7 +22,6 @@ use Rattle.definitions.specs.Fields.{View}
 use Rattle.definitions.specs.Tests.{test_holds}
 use Rattle.definitions.specs.Placements.{Constraint, matched, unmatched, tested, pattern_constraint, constraint_by, constraints, positives}
 use Rattle.definitions.specs.Placements.{unmatched_holds, placements}
-use Rattle.definitions.specs.contracts.table.Item as item-type
 use Rattle.definitions.proofs.OtherItems.{other_kind}
 use Rattle.list_laws.proofs.Firsts.{first_here, first_out}
 use Rattle.match_windows.specs.Spans.{size_bound}
@@ -39,7 +36,7 @@ use Rattle.search_items.specs.Items.{Small, ReadyItems, Trying}
 -- ---- what is wanted
 
 abbrev pub NoPattern : Item → Type 0
-NoPattern it = OneOf (0 ∷ 1 ∷ 2 ∷ 3 ∷ 4 ∷ 5 ∷ 6 ∷ 7 ∷ 8 ∷ []) (tag_of item-type.the_type it)
+NoPattern it = (q : Pattern) → it ≡ item.Pattern q → ⊥
 
 module _ (all : List Slot) (sl : Slot) (sls : List Slot) (u : all ≡ sl ∷ sls) (b : List ℕ) where
   pub constraints_test : NoPattern sl.item → constraints all b ≡ tested sl.item sl.addresses ∷ constraints sls b
@@ -70,15 +67,11 @@ module _ (all : List Slot) (sl : Slot) (sls : List Slot) (u : all ≡ sl ∷ sls
     unfolding patterns_of bytes_of
     bytes_pattern = rw (u, e)
 
--- an array field of structs is held element by element, so its length is told of a map
-pub length_mapped : {A B : Type 0} (f : A → B) (l : List A) (n : ℕ) → length (map f l) ≡ n → length l ≡ n
-length_mapped f l n e = sym (length-map l f) ∙ e
-
 pub left_here : (q : SearchInput) (k : ℕ) → k < q.count → q.count ≤ length q.items → items_left q k ≡ get_or q.items k slot0 ∷ items_left q (k + 1)
 left_here q k h g = first_here q.items q.count k slot0 h g
 
-pub left_out_lem : (q : SearchInput) (k : ℕ) → q.count ≤ k → items_left q k ≡ []
-left_out_lem q k h = first_out q.items q.count k h
+pub left_out : (q : SearchInput) (k : ℕ) → q.count ≤ k → items_left q k ≡ []
+left_out q k h = first_out q.items q.count k h
 
 -- ---- what the search rests on
 
@@ -115,7 +108,7 @@ module _ (all : List Slot) (sl : Slot) (sls : List Slot) (u : all ≡ sl ∷ sls
           decoded = rd.small.decoded;
           last = rd.small.last;
           pattern = omega (arith, pattern_stored, rd.small.bytes);
-          own_val = own_whole;
+          own = own_whole;
         }
 
     rest_small : Small (drop p.len b) s d l
@@ -148,7 +141,7 @@ module _ (all : List Slot) (sl : Slot) (sls : List Slot) (u : all ≡ sl ∷ sls
 -- a pattern that is to be placed, and the items after it with its start chosen
 module _ (sls : List Slot) (b : List ℕ) (p : Pattern) (own s d : List ℕ) (l : LastMatch) (chosen : Placement) (tr : Trying sls b p own s d l chosen) where
   pub trying_bounded : Bounded s d p own l
-  trying_bounded = record { payload = tr.small.payload; decoded = tr.small.decoded; last = tr.small.last; pattern = tr.len; own_val = tr.own }
+  trying_bounded = record { payload = tr.small.payload; decoded = tr.small.decoded; last = tr.small.last; pattern = tr.len; own = tr.own }
 
   last_small : (at : Start) → at.at + p.len < size_bound → last_end (last_after l p at) < size_bound
   last_small at h = by_cases p.negated (λ t. rw t tr.small.last) (λ t. rw t h)

@@ -1,11 +1,10 @@
 -- The trial of a pattern's starts: from its window's first start worth a try on, each with the items left.
 use mathlib.Core.Path.{◌≡◌, sym, ap, ◌∙◌}
-use mathlib.Core.Bool.{Bool, true, false, not, ◌&&◌}
+use mathlib.Core.Bool.{Bool, true, false, ◌&&◌}
 use mathlib.Core.List.{List, [], ◌∷◌, map}
 use Prim.Native.Nat.{ℕ, ◌+◌, ◌-◌, ◌≤◌, ◌<◌, max}
 use native.Mathlib.Omega.{arith}
 use lib.ListN.{length, drop, get_or}
-use borrow.Author.Tests.{not-true, not-false}
 use Rattle.definitions.specs.declared.table.Pattern.{Pattern}
 use Rattle.definitions.specs.declared.packets.PacketHeader.{PacketHeader}
 use Rattle.definitions.specs.declared.packets.FieldMap.{FieldMap}
@@ -45,15 +44,15 @@ module _ (header : PacketHeader) (s d : List ℕ) (m : FieldMap) (p : Pattern) (
   unfolding starts lies_in
   starts_absent e = keep_none (lies_in (seen header s d m) p own l) (starts_to (length (field_of s d m p.context))) (λ x. rw e)
 
-  pub try_absent : (q : List Start) (t : Bool) → t ≡ present m p.context → not t ≡ true → (r : Outcome) → r ≡ nothing
+  pub try_absent : (q : List Start) (t : Bool) → t ≡ present m p.context → t ≡ false → (r : Outcome) → r ≡ nothing
       → r ≡ answer chosen on-bound q (placements (seen header s d m) (matched p own ∷ ws) l)
   unfolding placements spread
-  try_absent q t e n r h = rw (starts_absent (sym e ∙ not-true t n)) (h ∙ sym (answer_nothing chosen on-bound q))
+  try_absent q t e n r h = rw (starts_absent (sym e ∙ n)) (h ∙ sym (answer_nothing chosen on-bound q))
 
   module _ (f : List ℕ) (w : Window) (sp : Spans p l (length f) w) (q : f ≡ field_of s d m p.context) (t : Bool) (g : t ≡ present m p.context)
-      (n : not t ≡ false) where
+      (n : t ≡ true) where
     starts_are : starts (seen header s d m) p own l ≡ starts_from (standing p.nocase own f) w.from w.to
-    starts_are = starts_present header s d m p own l (sym g ∙ not-false t n) ∙ ap (map start_at) (ap (places_of p own l) (sym q) ∙ places_window p own l f w sp)
+    starts_are = starts_present header s d m p own l (sym g ∙ n) ∙ ap (map start_at) (ap (places_of p own l) (sym q) ∙ places_window p own l f w sp)
 
     try_begin : (ss : List Start) (at : ℕ) → chosen.count < length ss → at ≡ start_from on-bound (get_or ss chosen.count (start_at 0)) w.from
         → answer chosen on-bound (drop chosen.count ss) (placements (seen header s d m) (matched p own ∷ ws) l)
@@ -140,7 +139,7 @@ pub tried_none : {q : SearchInput} {k : ℕ} {rest s d : List ℕ} {l : LastMatc
     {w : Window}
     {t : Bool} {at : ℕ}
     → (k < q.count) × (q.count ≤ max_items) → Trying (items_left q (k + 1)) rest p own s d l chosen → length f < size_bound → chosen.count < length q.bound
-    → Spans p l (length f) w → f ≡ field_of s d q.map p.context → t ≡ present q.map p.context → not t ≡ false
+    → Spans p l (length f) w → f ≡ field_of s d q.map p.context → t ≡ present q.map p.context → t ≡ true
     → at ≡ start_from on-bound (get_or q.bound chosen.count (start_at 0)) w.from → Tried q k rest s d l chosen on-bound p own f w.to at
 tried_none {q} {k} {rest} {s} {d} {l} {chosen} {on-bound} {p} {own} {f} {w} {t} {at} few trying small room sp e g n a =
     record {

@@ -1,0 +1,7 @@
+use Rattle.definitions.specs.Canonical.{option_text}
+use Rattle.write_bytes.proofs.Putting.{then}
+use Rattle.write_options.proofs.put_name.Goals as goal
+
+pub returns : goal.returns
+unfolding option_text
+returns c = then c.put_word-a1.ensures (then (then c.put_front-a2.ensures c.put-a3.ensures) c.put.ensures)

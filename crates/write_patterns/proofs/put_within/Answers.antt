@@ -1,0 +1,15 @@
+use mathlib.Core.Path.{ap, ◌∙◌}
+use mathlib.Core.List.{append-nil}
+use Rattle.definitions.specs.OptionValues as entry
+use Rattle.definitions.specs.Canonical.{within_option, modifier_text, option_text, options_text}
+use Rattle.write_bytes.proofs.Putting.{none_put, told}
+use Rattle.write_patterns.proofs.put_within.Goals as goal
+
+pub returns-in-Unset : goal.returns-in-Unset
+unfolding options_text
+returns-in-Unset c = told (ap (λ x. options_text (within_option x)) c.in-Unset.is) none_put
+
+pub returns-in-Given : goal.returns-in-Given
+unfolding options_text option_text
+returns-in-Given c = told (ap (λ x. options_text (within_option x)) c.in-Given.is ∙ append-nil (modifier_text (entry.Within c.in-Given.reach)))
+    c.put_within_value.ensures
