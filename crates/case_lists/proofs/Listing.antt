@@ -1,11 +1,9 @@
 -- The starts of a placement, and the list of placements, as a search from the placement written last has what is left of it.
-use mathlib.Core.Path.{◌≡◌, refl, sym, ap, ◌∙◌, subst}
+use mathlib.Core.Path.{◌≡◌, refl, sym, ap, ◌∙◌}
 use mathlib.Core.Bool.{true, false, false≢true}
 use mathlib.Core.List.{List, [], ◌∷◌, ◌++◌}
 use Prim.Native.Nat.{ℕ, suc, ◌+◌, ◌-◌, ◌≤◌, ◌<◌}
 use native.Mathlib.Omega.{arith}
-use types.Run.{OneOf, miss}
-use denote.Enum.Declared.{tag_of}
 use lib.ListN.{length, take, drop, get_or}
 use Rattle.forms.specs.Bytes.{text}
 use Rattle.definitions.specs.declared.packets.Start.{Start}
@@ -14,7 +12,6 @@ use Rattle.definitions.specs.declared.answers.Check.{Check}
 use Rattle.definitions.specs.declared.answers.Check.TheVariants.{Pass, Refuse}
 use Rattle.definitions.specs.declared.answers.Found.TheVariants.{Placed}
 use Rattle.definitions.specs.declared.answers.Answer.{Answer}
-use Rattle.definitions.specs.contracts.answers.Found as found_type
 use Rattle.definitions.specs.Starts.{start_at}
 use Rattle.definitions.specs.Lists.{keep}
 use Rattle.definitions.specs.Placements.{lex_less}
@@ -59,10 +56,10 @@ after_over x (q ∷ qs) e n = refl
 
 -- ---- what "first" answers: a refusal that is due, none, or a placement
 
-pub first_not : (w : Check) (l : List (List Start)) (a : Answer) → a ≡ unless w (head_of l) → OneOf (1 ∷ 2 ∷ []) (tag_of found_type.the_type a.found)
+pub first_not : (w : Check) (l : List (List Start)) (a : Answer) → a ≡ unless w (head_of l) → (a.found ≡ Placed → ⊥)
     → check_text w (list_text l) ≡ answer_text a
 first_not Pass [] a e n = sym (ap answer_text e)
-first_not Pass (q ∷ l) a e n = absurd (miss (1 ∷ 2 ∷ []) 0 tt (subst (λ (x : Answer). OneOf (1 ∷ 2 ∷ []) (tag_of found_type.the_type x.found)) e n))
+first_not Pass (q ∷ l) a e n = absurd (n (ap (λ (x : Answer). x.found) e))
 first_not (Refuse r) l a e n = sym (ap answer_text e)
 
 module _ (l : List (List Start)) (v : Ordered l) where

@@ -14,6 +14,7 @@ use Rattle.definitions.specs.declared.packets.Placement.{Placement}
 use Rattle.definitions.specs.declared.answers.Answer.{Answer}
 use Rattle.definitions.specs.declared.answers.Query.{Query}
 use Rattle.definitions.specs.declared.answers.Query.TheVariants.{First, Next}
+use Rattle.definitions.specs.Answers.{first_answer, next_answer}
 use Rattle.definitions.specs.Queries.{answers}
 use Rattle.laws.proofs.Numbers.{first_told, next_told}
 use Rattle.matcher.proofs.first.Reads as first
@@ -42,5 +43,5 @@ module _ (κs : Lfts 1) (t : Table) (p d : Bor (List ℕ)) (dir : Direction) (m 
   pub model_is_allowed : (h : Placement) (queries : List Query) → Allowed h queries (answers t p.now d.now dir m h queries)
   unfolding answers
   model_is_allowed h [] = done
-  model_is_allowed h (First ∷ queries) = by_first (t, (p, (d, (dir, (m, tt))))) (first_told t p.now d.now dir m refl) (model_is_allowed _ queries)
-  model_is_allowed h (Next ∷ queries) = by_next (t, (p, (d, (dir, (m, (h, tt)))))) (next_told t p.now d.now dir m h refl) (model_is_allowed _ queries)
+  model_is_allowed h (First ∷ queries) = by_first (t, (p, (d, (dir, (m, tt))))) (first_told t p.now d.now dir m refl) (model_is_allowed (first_answer t p.now d.now dir m).placement queries)
+  model_is_allowed h (Next ∷ queries) = by_next (t, (p, (d, (dir, (m, (h, tt)))))) (next_told t p.now d.now dir m h refl) (model_is_allowed (next_answer t p.now d.now dir m h).placement queries)

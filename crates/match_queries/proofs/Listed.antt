@@ -9,7 +9,7 @@ use Prim.Native.Nat.{ℕ, ◌*◌}
 use lib.ListN.{length, drop, replicate}
 use contract.Lifetimes.{Lfts}
 use denote.Triple.Clauses.{AtExit}
-use denote.Ref.{Bor}
+use denote.Ref.{Bor, MutBor}
 use borrow.Fn.Kinds.{ended_of}
 use Rattle.definitions.specs.declared.table.Table.{Table}
 use Rattle.definitions.specs.declared.packets.Direction.{Direction}
@@ -73,7 +73,7 @@ module _ (κs : Lfts 1) (t : Table) (p d : Bor (List ℕ)) (dir : Direction) (m 
 
 -- ---- by what `run` writes: `r` is its answer, `s` what its arguments are at its exit
 
-module _ (κs : Lfts 3) (t : Table) (p d : Bor (List ℕ)) (dir : Direction) (m : FieldMap) (held : Placement) (queries out : Bor (List ℕ)) (r : Bool)
+module _ (κs : Lfts 3) (t : Table) (p d : Bor (List ℕ)) (dir : Direction) (m : FieldMap) (held : Placement) (queries : Bor (List ℕ)) (out : MutBor (List ℕ)) (r : Bool)
     (s : AtExit (ended_of 3 run-kinds.ps run-kinds.r) κs) (post : run.Post κs (t, (p, (d, (dir, (m, (held, (queries, (out, tt)))))))) r s) where
   -- the buffer afterwards
   abbrev pub after : List ℕ

@@ -1,12 +1,12 @@
 -- A table that is passed over by protocol and flow is not met (`passed_over`): a packet that is not refused has its protocol in the tenth byte, and a table whose
 -- protocol or flow is another has no placement.
-use mathlib.Core.Path.{◌≡◌, refl, sym, ap, ◌∙◌}
-use mathlib.Core.Bool.{Bool, true, false, not, ◌&&◌, ◌||◌}
+use mathlib.Core.Path.{◌≡◌, refl, ap, ◌∙◌}
+use mathlib.Core.Bool.{Bool, false, not, ◌&&◌, ◌||◌}
 use mathlib.Core.List.{List, []}
 use Prim.Native.Nat.{ℕ, ◌+◌, ◌*◌, ◌<◌, ◌≤◌}
 use native.Mathlib.Omega.{arith}
 use lib.ListN.{length, get_or, take}
-use lib.Dec.{eqb, ltb, leb}
+use lib.Dec.{eqb, ltb}
 use lib.Seq.{get_or-take}
 use borrow.Author.Tests.{ltb-false, le-leb, lt-leb, ne_eqb, eq-eqb}
 use Rattle.definitions.specs.declared.table.Flow.{Flow}

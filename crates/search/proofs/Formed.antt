@@ -1,13 +1,13 @@
 -- What a well-formed table gives the search: no more items than there is room for, each pattern's bytes among the table's, a start for each positive
 -- pattern; and each placement listed has as many starts.
 use mathlib.Core.Path.{◌≡◌, sym, ◌∙◌}
-use mathlib.Core.Bool.{Bool, true, false, not}
+use mathlib.Core.Bool.{Bool, true, false}
 use mathlib.Core.List.{List, [], ◌∷◌, Memᴰ as Mem}
 use Prim.Native.Nat.{ℕ, ◌+◌, ◌≤◌, ◌<◌}
 use native.Mathlib.Omega.{arith}
 use lib.ListN.{length}
 use lib.Dec.{eqb, leb}
-use borrow.Author.Tests.{eqb-true, leb-true, not-true, not-false}
+use borrow.Author.Tests.{eqb-true, leb-true}
 use Rattle.forms.proofs.Bools.{by_cases, both_left, both_right}
 use Rattle.definitions.specs.declared.table.Pattern.{Pattern}
 use Rattle.definitions.specs.declared.table.Item.{Item}
@@ -109,17 +109,17 @@ module _ (t : Table) {s d : List ℕ} (ready : Searchable t.items t.count t.byte
     short q m = let e = meets_length v (items_of t) None q (placements_meet v (items_of t) None q m) in omega (arith, few_positives)
 
     module _ (dir : Direction) (on-bound : Bool) (p : List Start) where
-      pub found_first : (h : Bool) → h ≡ head_holds t v dir → not h ≡ false → (x : Outcome)
+      pub found_first : (h : Bool) → h ≡ head_holds t v dir → h ≡ true → (x : Outcome)
           → x ≡ answer (placement_of []) on-bound p (placements v (constraints (slots_of t) t.bytes) None)
           → x ≡ outcome_of (keep (after_if on-bound p) (listed t v dir))
       unfolding answer listed items_of
       found_first b e n x h =
           h ∙ first_outcome (keep (after_if on-bound p) (placements v (items_of t) None))
           (λ q m. short q (keep_in (after_if on-bound p) q (placements v (items_of t) None) m).0)
-          ∙ rw (sym e ∙ not-false b n)
+          ∙ rw (sym e ∙ n)
 
-pub found_none : (t : Table) (v : View) (dir : Direction) (on-bound : Bool) (p : List Start) (h : Bool) → h ≡ head_holds t v dir → not h ≡ true
+pub found_none : (t : Table) (v : View) (dir : Direction) (on-bound : Bool) (p : List Start) (h : Bool) → h ≡ head_holds t v dir → h ≡ false
     → (x : Outcome) → x ≡ nothing
     → x ≡ outcome_of (keep (after_if on-bound p) (listed t v dir))
 unfolding listed keep
-found_none t v dir on-bound p h e n x i = rw (sym e ∙ not-true h n) i
+found_none t v dir on-bound p h e n x i = rw (sym e ∙ n) i

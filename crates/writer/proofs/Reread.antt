@@ -9,7 +9,7 @@ use Prim.Native.Nat.{ℕ}
 use native.Mathlib.Omega.{arith}
 use lib.ListN.{take}
 use contract.Lifetimes.{Lfts}
-use denote.Ref.{Bor}
+use denote.Ref.{MutBor}
 use denote.Triple.Clauses.{AtExit}
 use borrow.Fn.Kinds.{ended_of, GoodsP}
 use Rattle.definitions.specs.declared.answers.Writing.{Writing}
@@ -28,7 +28,7 @@ use Rattle.writer.proofs.write.Reads as write
 use Rattle.writer.proofs.write.Kinds as write-kinds
 
 -- `good` is what the check knows of the arguments of a call, `post` the contract of `write` at its answer r, and s what the arguments are at its exit
-module _ (κs : Lfts 1) (t : Table) (out : Bor (List ℕ)) (r : Writing) (s : AtExit (ended_of 1 write-kinds.ps write-kinds.r) κs)
+module _ (κs : Lfts 1) (t : Table) (out : MutBor (List ℕ)) (r : Writing) (s : AtExit (ended_of 1 write-kinds.ps write-kinds.r) κs)
     (good : GoodsP κs write-kinds.ps (t, (out, tt))) (post : write.Post κs (t, (out, tt)) r s) where
   pub write_reads : (n : ℕ) → r ≡ Written n → read document_limits (take n s.1.0.now) ≡ accepted_reading t
   write_reads n e = rw post.1.0 (written_reads document_limits t out.now n (typed_shaped t _ good.0) (omega arith) (sym post.0 ∙ e))

@@ -8,7 +8,7 @@ pub returns-then-not-head_holds : goal.returns-then-not-head_holds
 returns-then-not-head_holds c =
     let x = c.args in
     found_none (searched_table x.protocol x.flow x.items x.count x.bytes.now) (seen x.header x.payload.now x.decoded.now x.m) x.dir
-    x.on-bound x.bound c.head_holds.result c.head_holds.ensures c.if-not-head_holds.true-raw c.no_match.result
+    x.on_bound x.bound c.head_holds.result c.head_holds.ensures c.if-not-head_holds.true c.no_match.result
     c.no_match.ensures
 
 pub from_item-requires : goal.from_item-requires
@@ -22,5 +22,5 @@ returns c =
     let head = c.head_holds in
     let x = c.args in
     found_first (searched_table x.protocol x.flow x.items x.count x.bytes.now) c.requires
-    (seen x.header x.payload.now x.decoded.now x.m) x.dir x.on-bound x.bound
-    head.result head.ensures c.if-not-head_holds.false-raw c.from_item.result (rw c.empty.ensures at c.from_item.ensures)
+    (seen x.header x.payload.now x.decoded.now x.m) x.dir x.on_bound x.bound
+    head.result head.ensures c.if-not-head_holds.false c.from_item.result (rw c.empty.ensures at c.from_item.ensures)
