@@ -8,11 +8,11 @@ ghost use Rattle.blocks.specs.Held.{HeldWithin};
 
 use block_answers::put_answers;
 use book_answers::answer_book;
-use book_file::{BookFile, ROOM, read_all, read_book};
+use book_file::{BookFile, ROOM, read_book, read_into};
 use definitions::books::{Judgement, Rules};
 use guard_blocks::decide_block;
-use libc::{STDIN_FILENO, STDOUT_FILENO};
 use rule_book::load;
+use std::io::Read;
 
 // Bytes of a block; answers for as many records as it may hold, of 30 bytes at least; and their bytes.
 const BLOCK: usize = 1048576;
@@ -32,40 +32,41 @@ enum Input {
 }
 
 // Writes the answer to a book; if it can't, says so.
-fn write_book(book: &[u8]) {
+fn write_book(rt: &(impl Print + Eprint), book: &[u8]) {
     let mut out = [0u8; REFUSAL];
     let put = answer_book(&mut out, 0, book);
-    if !io::write_all(STDOUT_FILENO, &out[..put]) {
-        os::fail(b"standard output");
+    if let Err(error) = rt.write_all(&out[..put]) {
+        let _ = eprintln!(rt; "standard output: {error}");
     }
 }
 
 // Writes the answers to the first packets; if it can't, says so.
-fn write_answers(answers: &[u32; MOST], packets: usize) -> bool {
+fn write_answers(rt: &(impl Print + Eprint), answers: &[u32; MOST], packets: usize) -> bool {
     let mut out = [0u8; ANSWERS];
     let put = put_answers(&mut out, 0, answers, packets);
-    let is_written = io::write_all(STDOUT_FILENO, &out[..put]);
-    if !is_written {
-        os::fail(b"standard output");
+    match rt.write_all(&out[..put]) {
+        Ok(()) => true,
+        Err(error) => {
+            let _ = eprintln!(rt; "standard output: {error}");
+            false
+        }
     }
-    is_written
 }
 
 // Fills the block after the bytes that it holds. Where nothing more comes the input has ended.
-fn fill(block: &mut [u8], held: usize) -> Input
+fn fill(rt: &impl Eprint, input: &mut impl Read, block: &mut [u8], held: usize) -> Input
     requires { held ≤ length block.old }
     ensures { HeldWithin (length block.old) result }
 {
-    let read = read_all(STDIN_FILENO, &mut block[held..]);
-    match read {
-        BookFile::Read(n) => {
+    match read_into(input, &mut block[held..]) {
+        Ok(n) => {
             if n == 0 {
                 return Input::Over;
             }
             Input::Held(held + n)
         }
-        BookFile::Unread => {
-            os::fail(b"standard input");
+        Err(error) => {
+            let _ = eprintln!(rt; "standard input: {error}");
             Input::Over
         }
     }
@@ -87,6 +88,7 @@ fn keep_rest(block: &mut [u8], from: usize, end: usize) -> usize
 
 // Decides the whole records that the block holds up to an end, writes their answers and keeps the rest. Where none is whole the run is over.
 fn decide(
+    rt: &(impl Print + Eprint),
     book: &[u8],
     rules: Rules,
     block: &mut [u8],
@@ -100,7 +102,7 @@ fn decide(
     if answered.packets == 0 {
         return Input::Over;
     }
-    if !write_answers(answers, answered.packets) {
+    if !write_answers(rt, answers, answered.packets) {
         return Input::Over;
     }
     Input::Held(keep_rest(block, answered.bytes, end))
@@ -108,6 +110,8 @@ fn decide(
 
 // Reads, and decides what was read.
 fn turn(
+    rt: &(impl Print + Eprint),
+    input: &mut impl Read,
     book: &[u8],
     rules: Rules,
     block: &mut [u8; BLOCK],
@@ -117,21 +121,21 @@ fn turn(
     requires { held ≤ 1048576 }
     ensures { HeldWithin 1048576 result }
 {
-    let Input::Held(end) = fill(block, held) else {
+    let Input::Held(end) = fill(rt, input, block, held) else {
         return Input::Over;
     };
-    decide(book, rules, block, answers, end)
+    decide(rt, book, rules, block, answers, end)
 }
 
 // Decides the input by the rules of a book. A proved loop has to end, and nothing says that the input does: turns are counted down from a number that no run
 // uses up.
-fn run(book: &[u8], rules: Rules) {
+fn run(rt: &(impl Print + Eprint), input: &mut impl Read, book: &[u8], rules: Rules) {
     let mut block = [0u8; BLOCK];
     let mut answers = [0u32; MOST];
     let mut held = 0;
     let mut turns = u64::MAX;
     while turns > 0 {
-        let Input::Held(n) = turn(book, rules, &mut block, &mut answers, held) else {
+        let Input::Held(n) = turn(rt, input, book, rules, &mut block, &mut answers, held) else {
             return;
         };
         held = n;
@@ -140,7 +144,7 @@ fn run(book: &[u8], rules: Rules) {
 }
 
 // Loads the book of the first n bytes: the input is decided by it, or it is refused.
-fn run_book(room: &[u8; ROOM], n: usize)
+fn run_book(rt: &(impl Print + Eprint), input: &mut impl Read, room: &[u8; ROOM], n: usize)
     requires { n ≤ 65537 }
 {
     let bytes = &room[..];
@@ -148,16 +152,16 @@ fn run_book(room: &[u8; ROOM], n: usize)
     let loaded = load(book);
     let judgement = loaded.judgement;
     match judgement {
-        Judgement::Accepted(_) => run(book, loaded.rules),
-        Judgement::Refused(_, _) => write_book(book),
+        Judgement::Accepted(_) => run(rt, input, book, loaded.rules),
+        Judgement::Refused(_, _) => write_book(rt, book),
     }
 }
 
-fn main() {
+fn main(rt: HostRuntime) {
     let mut room = [0u8; ROOM];
-    let file = read_book(1, &mut room);
+    let file = read_book(&rt, &mut room);
     match file {
-        BookFile::Read(n) => run_book(&room, n),
+        BookFile::Read(n) => run_book(&rt, &mut rt.stdin(), &room, n),
         BookFile::Unread => {}
     }
 }

@@ -6,28 +6,27 @@ ghost use Rattle.std.specs.Prelude.{◌≤◌};
 
 use book_answers::answer_book;
 use book_file::{BookFile, ROOM, read_book};
-use libc::STDOUT_FILENO;
 
 // Bytes of the answer's buffer: the longest answer has 42.
 const ANSWER: usize = 64;
 
 // Writes the answer to the book of the first n bytes; if it can't, says so.
-fn write_answer(room: &[u8; ROOM], n: usize)
+fn write_answer(rt: &(impl Print + Eprint), room: &[u8; ROOM], n: usize)
     requires { n ≤ 65537 }
 {
     let bytes = &room[..];
     let mut out = [0u8; ANSWER];
     let put = answer_book(&mut out, 0, &bytes[..n]);
-    if !io::write_all(STDOUT_FILENO, &out[..put]) {
-        os::fail(b"standard output");
+    if let Err(error) = rt.write_all(&out[..put]) {
+        let _ = eprintln!(rt; "standard output: {error}");
     }
 }
 
-fn main() {
+fn main(rt: HostRuntime) {
     let mut room = [0u8; ROOM];
-    let file = read_book(1, &mut room);
+    let file = read_book(&rt, &mut room);
     match file {
-        BookFile::Read(n) => write_answer(&room, n),
+        BookFile::Read(n) => write_answer(&rt, &room, n),
         BookFile::Unread => {}
     }
 }

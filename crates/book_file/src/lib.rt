@@ -1,11 +1,18 @@
 // The file that an argument of the program names, read into lent room.
 #![tactic(auto)]
 
-ghost use Rattle.std.specs.Prelude.{length};
+ghost use Rattle.std.specs.Prelude.{◌≤◌, IfOk, length};
 ghost use Rattle.book_file.specs.Counted.{CountWithin};
+
+use std::io::Read;
+use std::rt::{Env, Files};
+use std::{fs, io, str};
 
 // Bytes that are read at most: one more than a book may have, so that a longer one is known to be longer.
 pub const ROOM: usize = 65537;
+
+// Bytes of an argument: no path that the system takes is longer.
+const PATH: usize = 4096;
 
 // How many bytes came, or that the file can't be read.
 #[derive(Clone, Copy)]
@@ -14,40 +21,51 @@ pub enum BookFile {
     Unread,
 }
 
-// Reads until the room is full or the file ends. A read that fails is not the end of the file.
-pub fn read_all(fd: i32, room: &mut [u8]) -> BookFile
-    ensures { CountWithin (length room.old) result }
+// Reads until the room is full or the input ends, and counts the bytes. A read that fails is not the end of the input.
+pub fn read_into(input: &mut impl Read, room: &mut [u8]) -> io::Result<usize>
+    ensures { IfOk result (λ n. n ≤ length room.old) }
 {
     let mut done = 0;
     while done < room.len() {
-        let rest = &mut room[done..];
-        let got = libc::read(fd, rest);
-        if got < 0 {
-            return BookFile::Unread;
-        }
-        let n = io::count(got, rest);
+        let n = input.read(&mut room[done..])?;
         if n == 0 {
             break;
         }
         done += n;
     }
-    BookFile::Read(done)
+    Ok(done)
 }
 
-// Reads the file that an argument names, the first of them 1. Nothing says what is read, but the count is within the room.
-pub fn read_book(argument: usize, room: &mut [u8; ROOM]) -> BookFile
+// The same, where it doesn't matter why a read failed.
+pub fn read_all(input: &mut impl Read, room: &mut [u8]) -> BookFile
+    ensures { CountWithin (length room.old) result }
+{
+    match read_into(input, room) {
+        Ok(n) => BookFile::Read(n),
+        Err(_) => BookFile::Unread,
+    }
+}
+
+// Reads the file that the first argument names. Nothing says what is read, but the count is within the room.
+pub fn read_book(rt: &(impl Env + Files), room: &mut [u8; ROOM]) -> BookFile
     ensures { CountWithin 65537 result }
 {
-    let mut path = io::buffer();
-    let length = os::arg(argument, &mut path);
-    if os::errno() != 0 {
+    read_argument(rt, 1, room)
+}
+
+// Reads the file that an argument names, the first of them 1, likewise.
+pub fn read_argument(rt: &(impl Env + Files), argument: usize, room: &mut [u8; ROOM]) -> BookFile
+    ensures { CountWithin 65537 result }
+{
+    let mut bytes = [0u8; PATH];
+    let Ok(n) = rt.arg(argument, &mut bytes) else {
         return BookFile::Unread;
-    }
-    let fd = os::open_read(&path[..length]);
-    if fd < 0 {
+    };
+    let Ok(path) = str::from_utf8(&bytes[..n]) else {
         return BookFile::Unread;
-    }
-    let read = read_all(fd, room);
-    libc::close(fd);
-    read
+    };
+    let Ok(mut file) = fs::open(rt, path) else {
+        return BookFile::Unread;
+    };
+    read_all(&mut file, room)
 }

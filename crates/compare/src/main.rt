@@ -3,34 +3,39 @@
 
 ghost use Rattle.std.specs.Prelude.{◌≤◌};
 
-use book_file::{BookFile, ROOM, read_book};
+use book_file::{BookFile, ROOM, read_argument};
 use compare_books::compare;
-use libc::STDOUT_FILENO;
 
 // Bytes of the output's buffer: there are never more.
 const OUTPUT: usize = 2048;
 
 // Writes what changed from the first n bytes of one room to the first m of the other; if it can't, says so.
-fn write_changes(first: &[u8; ROOM], n: usize, second: &[u8; ROOM], m: usize)
+fn write_changes(
+    rt: &(impl Print + Eprint),
+    first: &[u8; ROOM],
+    n: usize,
+    second: &[u8; ROOM],
+    m: usize,
+)
     requires { (n ≤ 65537) × (m ≤ 65537) }
 {
     let a = &first[..];
     let b = &second[..];
     let mut out = [0u8; OUTPUT];
     let put = compare(&mut out, 0, &a[..n], &b[..m]);
-    if !io::write_all(STDOUT_FILENO, &out[..put]) {
-        os::fail(b"standard output");
+    if let Err(error) = rt.write_all(&out[..put]) {
+        let _ = eprintln!(rt; "standard output: {error}");
     }
 }
 
-fn main() {
+fn main(rt: HostRuntime) {
     let mut first = [0u8; ROOM];
     let mut second = [0u8; ROOM];
-    let x = read_book(1, &mut first);
-    let y = read_book(2, &mut second);
+    let x = read_argument(&rt, 1, &mut first);
+    let y = read_argument(&rt, 2, &mut second);
     match x {
         BookFile::Read(n) => match y {
-            BookFile::Read(m) => write_changes(&first, n, &second, m),
+            BookFile::Read(m) => write_changes(&rt, &first, n, &second, m),
             BookFile::Unread => {}
         },
         BookFile::Unread => {}

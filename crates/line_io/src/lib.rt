@@ -4,8 +4,8 @@
 ghost use Rattle.std.specs.Prelude.{◌≡◌, ◌<◌, ◌≤◌};
 ghost use Rattle.line_io.specs.Blocks.{begins, is_over, rest_of, place_after, Fills, Writes};
 
-use libc::{STDERR_FILENO, STDIN_FILENO, STDOUT_FILENO};
 use line_stream::{Begun, Fed};
+use std::io::{Error, Read};
 
 // Bytes of the block that is read, and of the output.
 pub const BLOCK: usize = 65536;
@@ -50,23 +50,23 @@ fn over(s: Step) -> Step
 }
 
 // An answer is longer than the output: says so, so that nothing is lost unsaid, and the run is over.
-fn no_room(s: Step) -> Step
+fn no_room(rt: &impl Eprint, s: Step) -> Step
     ensures { result ≡ is_over s }
 {
-    io::write_all(STDERR_FILENO, b"an answer has no room\n");
+    let _ = eprintln!(rt; "an answer has no room");
     over(s)
 }
 
 // A read failed: says so, and the run is over.
-fn unread(s: Step) -> Step
+fn unread(rt: &impl Eprint, error: Error, s: Step) -> Step
     ensures { result ≡ is_over s }
 {
-    os::fail(b"standard input");
+    let _ = eprintln!(rt; "standard input: {error}");
     over(s)
 }
 
 // Reads a block, if all of the one before is fed.
-pub fn fill(block: &mut [u8], s: Step) -> Step
+pub fn fill(rt: &impl Eprint, input: &mut impl Read, block: &mut [u8], s: Step) -> Step
     requires { 0 < s.left }
     ensures step { Fills block.old block.new s result }
     ensures less { result.left < s.left }
@@ -76,15 +76,15 @@ pub fn fill(block: &mut [u8], s: Step) -> Step
     if s.from < s.end {
         return next;
     }
-    let got = libc::read(STDIN_FILENO, block);
-    if got < 0 {
-        return unread(next);
+    match input.read(block) {
+        Ok(n) => {
+            next.from = 0;
+            next.end = n;
+            next.ended = n == 0;
+            next
+        }
+        Err(error) => unread(rt, error, next),
     }
-    let n = io::count(got, block);
-    next.from = 0;
-    next.end = n;
-    next.ended = n == 0;
-    next
 }
 
 // The bytes of the block that are still to be fed.
@@ -103,15 +103,17 @@ pub fn rest<'a>(block: &'a [u8], s: Step) -> &'a [u8]
 }
 
 // Writes the first bytes of the output; if it can't, says so. There are as many.
-fn write_first(out: &[u8], put: usize) -> bool {
+fn write_first(rt: &(impl Print + Eprint), out: &[u8], put: usize) -> bool {
     if out.len() < put {
         return false;
     }
-    let is_written = io::write_all(STDOUT_FILENO, &out[0..put]);
-    if !is_written {
-        os::fail(b"standard output");
+    match rt.write_all(&out[0..put]) {
+        Ok(()) => true,
+        Err(error) => {
+            let _ = eprintln!(rt; "standard output: {error}");
+            false
+        }
     }
-    is_written
 }
 
 // The place after some more bytes, within the end.
@@ -127,15 +129,15 @@ fn place_after(from: usize, taken: usize, end: usize) -> usize
 }
 
 // Writes the answers of a feed, and goes on after what it took.
-pub fn write_fed(out: &[u8], fed: Fed, s: Step) -> Step
+pub fn write_fed(rt: &(impl Print + Eprint), out: &[u8], fed: Fed, s: Step) -> Step
     ensures step { Writes fed s result }
     ensures most { result.left ≤ s.left }
 {
-    if !write_first(out, fed.put) {
+    if !write_first(rt, out, fed.put) {
         return over(s);
     }
     if fed.taken == 0 {
-        return no_room(s);
+        return no_room(rt, s);
     }
     let begun = fed.begun;
     Step {
@@ -148,15 +150,15 @@ pub fn write_fed(out: &[u8], fed: Fed, s: Step) -> Step
 }
 
 // Writes the answer to a last line that lacks its LF, where all of the input was read. The run is over.
-pub fn write_last(out: &[u8], put: usize, s: Step) -> Step
+pub fn write_last(rt: &(impl Print + Eprint), out: &[u8], put: usize, s: Step) -> Step
     ensures step { result ≡ is_over s }
     ensures most { result.left ≤ s.left }
 {
     if s.ended {
         if out.len() < put {
-            return no_room(s);
+            return no_room(rt, s);
         }
-        write_first(out, put);
+        write_first(rt, out, put);
     }
     over(s)
 }

@@ -10,7 +10,6 @@ use definitions::limits::{ITEMS, NAME_BYTES, PATTERN_BYTES};
 use definitions::table::{
     FieldTest, Flow, HeaderField, Item, NumberField, NumberTest, Operator, Slot, Table,
 };
-use libc::STDOUT_FILENO;
 use read_state::no_slot;
 use refusal_numbers::number_of;
 use write_bytes::{put, put_decimal, put_word};
@@ -50,39 +49,39 @@ fn put_line(out: &mut [u8], w: Writing, buffer: &[u8]) -> usize {
 }
 
 // Shows a line.
-fn show(w: Writing, buffer: &[u8]) {
+fn show(rt: &impl Print, w: Writing, buffer: &[u8]) {
     let mut out = [0u8; SHOWN];
     let end = put_line(&mut out, w, buffer);
     if end <= SHOWN {
-        io::write_all(STDOUT_FILENO, &out[0..end]);
+        let _ = rt.write_all(&out[0..end]);
     }
 }
 
 // Writes a table into a buffer, and shows what came of it.
-fn try_in(t: Table, buffer: &mut [u8]) {
+fn try_in(rt: &impl Print, t: Table, buffer: &mut [u8]) {
     let w = write(t, buffer);
-    show(w, buffer);
+    show(rt, w, buffer);
 }
 
 // Of a table that a text reads as: room for more than its canonical text, for just that, and for a byte less.
-fn try_whole(t: Table) {
+fn try_whole(rt: &impl Print, t: Table) {
     let mut roomy = [b'.'; 37];
-    try_in(t, &mut roomy);
+    try_in(rt, t, &mut roomy);
     let mut exact = [b'.'; 35];
-    try_in(t, &mut exact);
+    try_in(rt, t, &mut exact);
     let mut short = [b'.'; 34];
-    try_in(t, &mut short);
+    try_in(rt, t, &mut short);
 }
 
 // Of two tables that no text reads as: with a name of no bytes, and with a byte in room that is not used.
-fn try_edited(t: Table) {
+fn try_edited(rt: &impl Print, t: Table) {
     let mut nameless = t;
     nameless.len = 0;
     let mut buffer = [b'.'; 37];
-    try_in(nameless, &mut buffer);
+    try_in(rt, nameless, &mut buffer);
     let mut stale = t;
     stale.bytes[PATTERN_BYTES - 1] = 1;
-    try_in(stale, &mut buffer);
+    try_in(rt, stale, &mut buffer);
 }
 
 // The table with one test.
@@ -96,20 +95,20 @@ fn with_test(t: Table, item: Item) -> Table {
 }
 
 // Of a table with an ip_id, the old kind, and of the table with the field test that ip_id reads as.
-fn try_ip_id(t: Table) {
+fn try_ip_id(rt: &impl Print, t: Table) {
     let mut buffer = [b'.'; 50];
     let old = NumberTest {
         field: NumberField::IpId,
         number: 5,
     };
-    try_in(with_test(t, Item::Number(old)), &mut buffer);
+    try_in(rt, with_test(t, Item::Number(old)), &mut buffer);
     let read = FieldTest {
         field: HeaderField::Id,
         mask: 65535,
         operator: Operator::Equal,
         number: 5,
     };
-    try_in(with_test(t, Item::Field(read)), &mut buffer);
+    try_in(rt, with_test(t, Item::Field(read)), &mut buffer);
 }
 
 // The table that the rule with the name `n`, protocol 6 and no items reads as.
@@ -129,9 +128,9 @@ fn small_rule() -> Table {
     }
 }
 
-fn main() {
+fn main(rt: HostRuntime) {
     let table = small_rule();
-    try_whole(table);
-    try_edited(table);
-    try_ip_id(table);
+    try_whole(&rt, table);
+    try_edited(&rt, table);
+    try_ip_id(&rt, table);
 }

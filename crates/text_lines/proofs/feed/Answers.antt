@@ -1,0 +1,23 @@
+-- The loop is line_stream's, the answer a text's.
+use Rattle.line_stream.proofs.Loop as loop
+use Rattle.text_lines.proofs.Whole.{feed_whole}
+use Rattle.text_lines.proofs.feed.Goals as goal
+
+pub loop-t-init : goal.loop-t-init
+loop-t-init c = loop.loop_begins _
+
+pub next_line-t-requires : goal.next_line-t-requires
+next_line-t-requires c = loop.loop-lf _ c.loop-t.invariant c.first_line-t.ensures c.loop-t-test.true
+
+pub loop-t-preserved : goal.loop-t-preserved
+loop-t-preserved c =
+    let answer = c.answer_text-at.ensures in
+    loop.loop_goes _ c.loop-t.invariant c.loop-t-test.true c.kept.ensures answer c.next_line-t.ensures
+
+pub returns : goal.returns
+returns c =
+    let feeds = loop.loop-ends _ c.loop-t.invariant c.first_line-t.ensures c.loop-t-test.false in
+    record {
+      feeds = feeds;
+      whole = feed_whole feeds c.first_line-arg-1.given.0.1;
+    }
