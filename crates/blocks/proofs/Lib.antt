@@ -1,2 +1,3 @@
 -- Laws of counts of bytes.
 pub mod Bytes
+pub mod Counts

@@ -1,14 +1,11 @@
 -- The query by its kind, as the arms of a `match` know it.
 use mathlib.Core.Path.{◌≡◌, refl, ap}
-use mathlib.Core.List.{List, [], ◌∷◌}
+use mathlib.Core.List.{List}
 use Prim.Native.Nat.{ℕ}
-use denote.Enum.Declared.{tag_of}
-use types.Run.{OneOf, miss}
 use Rattle.definitions.specs.declared.table.Table.{Table}
 use Rattle.definitions.specs.declared.packets.Direction.{Direction}
 use Rattle.definitions.specs.declared.packets.FieldMap.{FieldMap}
 use Rattle.definitions.specs.declared.packets.Placement.{Placement}
-use Rattle.case_columns.specs.contracts.Kind.{the_type}
 use Rattle.case_columns.specs.declared.Kind.{Kind}
 use Rattle.case_columns.specs.declared.Kind.TheVariants.{All, First, Next, Bad}
 use Rattle.case_columns.specs.Queries.{first, query_by}
@@ -20,9 +17,9 @@ module _ (p decoded : List ℕ) (dir : Direction) (m : FieldMap) (t : Table) (h 
 
   -- what is neither `all` nor an earlier placement asks for the first
   pub queried-first :
-      (k : Kind) → OneOf (tag_of the_type First ∷ tag_of the_type Bad ∷ []) (tag_of the_type k)
+      (k : Kind) → (k ≡ All → ⊥) → (k ≡ Next → ⊥)
       → query_text p decoded dir m t (query_by k h) ≡ query_text p decoded dir m t first
-  queried-first All o = absurd (miss (1 ∷ 3 ∷ []) 0 tt o)
-  queried-first First o = refl
-  queried-first Next o = absurd (miss (1 ∷ 3 ∷ []) 2 tt o)
-  queried-first Bad o = refl
+  queried-first All a n = absurd (a refl)
+  queried-first First a n = refl
+  queried-first Next a n = absurd (n refl)
+  queried-first Bad a n = refl

@@ -1,7 +1,7 @@
 -- When a rule decides: never where it is off (`off_never`) or its text is refused (`unread-never`), since a refused reading has no well-formed table; else exactly
 -- if the table that was read is met (`on-met`). A table that was read is well formed (`read_formed`).
 use mathlib.Core.Path.{◌≡◌, refl, sym, ap, ◌∙◌}
-use mathlib.Core.Bool.{Bool, true, false, not, ◌&&◌, false≢true, and-false}
+use mathlib.Core.Bool.{true, false, false≢true, and-false}
 use mathlib.Core.List.{List, [], ◌∷◌}
 use Prim.Native.Nat.{ℕ}
 use native.Mathlib.Omega.{arith}
@@ -9,7 +9,6 @@ use Rattle.definitions.specs.declared.packets.Direction.{Direction}
 use Rattle.definitions.specs.declared.packets.FieldMap.{FieldMap}
 use Rattle.definitions.specs.declared.table.Table.{Table}
 use Rattle.definitions.specs.declared.answers.Refusal.{Refusal}
-use Rattle.definitions.specs.declared.answers.Refusal.TheVariants as refusal
 use Rattle.definitions.specs.declared.answers.ReadOutcome.{ReadOutcome}
 use Rattle.definitions.specs.declared.answers.ReadOutcome.TheVariants as outcome
 use Rattle.definitions.specs.declared.answers.Reading.{Reading}
@@ -19,7 +18,7 @@ use Rattle.definitions.specs.Limits.{document_limits}
 use Rattle.definitions.specs.Tables.{name_in, table_of}
 use Rattle.definitions.specs.Reading.{read, accepted_reading}
 use Rattle.definitions.specs.WellFormed.{name_fits, well_formed}
-use Rattle.definitions.specs.Answers.{verdict_by, input_check, placements_of, verdict_answer}
+use Rattle.definitions.specs.Answers.{input_check, verdict_answer}
 use Rattle.definitions.specs.Books.{Rule}
 use Rattle.definitions.specs.Decisions.{is_on, is_met, decides, decided}
 use Rattle.laws.proofs.Refusing.{refused_empty}

@@ -1,4 +1,5 @@
 -- The loop is line_stream's, the answer a text's.
+use native.Mathlib.Omega.{arith}
 use Rattle.line_stream.proofs.Loop as loop
 use Rattle.text_lines.proofs.Whole.{feed_whole}
 use Rattle.text_lines.proofs.feed.Goals as goal
@@ -19,5 +20,5 @@ returns c =
     let feeds = loop.loop-ends _ c.loop-t.invariant c.first_line-t.ensures c.loop-t-test.false in
     record {
       feeds = feeds;
-      whole = feed_whole feeds c.first_line-arg-1.given.0.1;
+      whole = feed_whole feeds (omega arith);
     }

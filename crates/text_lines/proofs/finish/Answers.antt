@@ -1,4 +1,5 @@
 -- The last line is answered as any other, or there is none.
+use native.Mathlib.Omega.{arith}
 use Rattle.definitions.specs.Limits.{document_limits}
 use Rattle.definitions.specs.Lines.{line_of}
 use Rattle.line_stream.proofs.Finish.{one_waits}
@@ -11,5 +12,5 @@ returns-then-t c =
     let put = one_waits (line_of document_limits) c.last_line-t.ensures c.if-t.true c.kept.ensures answer c.end_line.ensures in
     record {
       puts = put;
-      whole = finish_whole _ put c.last_line-arg-1.given.0;
+      whole = finish_whole _ put (omega arith);
     }
