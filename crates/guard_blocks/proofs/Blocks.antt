@@ -4,7 +4,7 @@ use mathlib.Core.Path.{◌≡◌, refl, sym, ap, ◌∙◌}
 use mathlib.Core.Logic.{◌⊎◌, ⊎_elim}
 use mathlib.Core.Bool.{Bool, false}
 use mathlib.Core.List.{List, [], ◌∷◌, ◌++◌, map}
-use Prim.Native.Nat.{ℕ, ◌+◌, ◌-◌, ◌<◌, ◌≤◌}
+use Prim.Native.Nat.{ℕ, ◌+◌, ◌<◌, ◌≤◌}
 use native.Mathlib.Omega.{arith}
 use lib.ListN.{length, get_or, take, drop, replicate, length-append, length-drop, length-replicate}
 use Rattle.definitions.specs.declared.books.LoadedRule.{LoadedRule}
@@ -14,7 +14,7 @@ use Rattle.definitions.specs.Limits.{document_limits}
 use Rattle.definitions.specs.Lists.{any?}
 use Rattle.definitions.specs.Books.{Rule}
 use Rattle.definitions.specs.LoadedBooks.{rule_at, rules_in}
-use Rattle.definitions.specs.Blocks.{PacketRecord, records_up_to, action_number, record_number, block_numbers, block_answered}
+use Rattle.definitions.specs.Blocks.{PacketRecord, records_up_to, action_number, block_numbers, block_answered}
 use Rattle.rule_book.proofs.RulesFrom.{rules_from, rules_all, rules_here, rules_out}
 use Rattle.guard_numbers.specs.OpenNumbers.{open_number, is_open, closed}
 use Rattle.guard_packets.proofs.Records.{records_le, records_again}

@@ -1,9 +1,8 @@
 -- One rule: where it never decides, no number changes (`never_kept`); where its text is read, it decides exactly the packets that its table meets (`read_decides`).
 use mathlib.Core.Path.{◌≡◌, refl, sym, ap, ◌∙◌, fun_ext}
-use mathlib.Core.Bool.{Bool, true, false, ◌&&◌}
+use mathlib.Core.Bool.{Bool, true, false}
 use mathlib.Core.List.{List, [], ◌∷◌}
 use Prim.Native.Nat.{ℕ, ◌+◌}
-use Rattle.forms.specs.Bytes.{if◌then◌else◌}
 use Rattle.definitions.specs.declared.answers.Refusal.{Refusal}
 use Rattle.definitions.specs.declared.answers.ReadOutcome.TheVariants as outcome
 use Rattle.definitions.specs.declared.answers.Reading.{Reading}
@@ -13,7 +12,6 @@ use Rattle.definitions.specs.Books.{Rule}
 use Rattle.definitions.specs.Decisions.{is_on}
 use Rattle.definitions.specs.Blocks.{PacketRecord, action_number}
 use Rattle.guard.proofs.Rules.{off_never, unread-never, on-met}
-use Rattle.guard_numbers.specs.OpenNumbers.{is_open}
 use Rattle.guard_blocks.specs.Numbering.{meets_record, renumbered, decides_record, by_rule}
 use Rattle.guard_blocks.proofs.Records.{unmet}
 

@@ -1,7 +1,7 @@
 -- WHAT WAS DECIDED AHEAD stays so as the loop goes on: the first number is that of the line that waits, and the others are those of the lines after it. What is
 -- kept of the next line has the number of the whole.
 use mathlib.Core.Path.{◌≡◌, refl, sym, ap, ◌∙◌}
-use mathlib.Core.Bool.{true, false, true≢false}
+use mathlib.Core.Bool.{true, true≢false}
 use mathlib.Core.List.{List, [], ◌∷◌, map}
 use Prim.Native.Nat.{ℕ, zero, suc, ◌+◌, ◌-◌, ◌<◌}
 use native.Mathlib.Omega.{arith}

@@ -19,7 +19,7 @@ use Rattle.replay_totals.proofs.Outcomes.{is_narrow}
 
 -- loaded rules, as an array has them
 abbrev Held : List LoadedRule → List Val → Type 0
-Held rs us = shadow (each (rule-type.the_field).row.Denot (rule-type.the_field).row.own_val (map (rule-type.the_field).into rs) us)
+Held rs us = shadow (each (rule-type.the_row).Denot (rule-type.the_row).own_val rs us)
 
 held_narrow : (book : List ℕ) (n : ℕ) (rs : List LoadedRule) (us : List Val) → Held rs us → all? is_narrow (map (rule_at book) (take n rs)) ≡ true
 unfolding all? rule_at

@@ -1,0 +1,30 @@
+-- By the judgement.
+use mathlib.Core.Path.{sym, ap, ◌∙◌}
+use Rattle.definitions.specs.declared.books.LoadedBook.{LoadedBook}
+use Rattle.definitions.specs.Limits.{document_limits}
+use Rattle.book_laws.proofs.Loaded.{loaded_judgement}
+use Rattle.write_bytes.proofs.Putting.{told, none_put}
+use Rattle.replay_laws.specs.Replays.{refused_output}
+use Rattle.replay_lines.specs.Feeding.{is_accepted, opened_text}
+use Rattle.replay_lines.proofs.open.Goals as goal
+
+pub returns-in-Refused : goal.returns-in-Refused
+unfolding refused_output
+returns-in-Refused c =
+    let b = c.load-b.ensures in
+    let judged = sym (loaded_judgement document_limits _) ∙ sym (ap (λ (x : LoadedBook). x.judgement) b) ∙ c.in-Refused.is in
+    record {
+      rules = ap (λ (x : LoadedBook). x.rules) b;
+      accepted = sym (ap is_accepted judged);
+      put = told (ap opened_text judged) c.put_refused_book-put.ensures;
+    }
+
+pub returns-in-Accepted : goal.returns-in-Accepted
+returns-in-Accepted c =
+    let b = c.load-b.ensures in
+    let judged = sym (loaded_judgement document_limits _) ∙ sym (ap (λ (x : LoadedBook). x.judgement) b) ∙ c.in-Accepted.is in
+    record {
+      rules = ap (λ (x : LoadedBook). x.rules) b;
+      accepted = sym (ap is_accepted judged);
+      put = told (ap opened_text judged) none_put;
+    }
