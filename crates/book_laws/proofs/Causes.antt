@@ -1,5 +1,6 @@
 -- NO NUMBER IS GIVEN FOR ANOTHER CAUSE: a book's judgement, and so a decision, has number 0, 1 to 12 or 50 to 53 (`judge_causes`, `decision_causes`). 50 has line 0,
 -- every other refusal a line from 1 to 65 that the book has (`refused_line_lem`). Document 02, T-03.
+use Rattle.std.specs.Prelude.{if◌then◌else◌}
 use mathlib.Core.Path.{◌≡◌, refl, ap, ◌∙◌}
 use mathlib.Core.Logic.{◌⊎◌, inl, inr}
 use mathlib.Core.Bool.{Bool, true, false, not, false≢true}
@@ -9,7 +10,6 @@ use native.Mathlib.Omega.{arith}
 use lib.ListN.{length}
 use lib.Dec.{ltb, leb}
 use borrow.Author.Tests.{ltb-false}
-use Rattle.forms.specs.Bytes.{if◌then◌else◌}
 use Rattle.forms.proofs.Bools.{by_cases}
 use Rattle.definitions.specs.declared.packets.Direction.{Direction}
 use Rattle.definitions.specs.declared.packets.FieldMap.{FieldMap}

@@ -1,6 +1,7 @@
 -- WHICH RULE DECIDES. For an accepted book the decision is that of the lowest numbered rule that is on and has a placement (`decides_exactly`), and hold with 0
 -- exactly if there is none (`holds_exactly`). A refused book's answer is its refusal, whatever the packet (`refused_alone`). A packet for which 30 to 35 is due is
 -- held with 0 by every accepted book (`refused_packet_held`). By the rising numbers, the first rule of the list that decides is the lowest. Document 02, T-03.
+use Rattle.std.specs.Prelude.{if◌then◌else◌}
 use mathlib.Core.Path.{◌≡◌, refl, sym, ap, subst, ◌∙◌}
 use mathlib.Core.Logic.{◌↔◌, ◌⊎◌, inl, inr, ⊎_elim}
 use mathlib.Core.Bool.{Bool, true, false, not, ◌&&◌, true≢false, false≢true, and-false}
@@ -11,7 +12,6 @@ use mathlib.Core.List.{List, [], ◌∷◌, Memᴰ as Mem}
 use mathlib.Core.List.Memᴰ.{cases_cons}
 use Prim.Native.Nat.{ℕ, suc, ◌<◌}
 use native.Mathlib.Omega.{arith}
-use Rattle.forms.specs.Bytes.{if◌then◌else◌}
 use Rattle.forms.proofs.Bools.{by_cases}
 use Rattle.definitions.specs.declared.packets.Direction.{Direction}
 use Rattle.definitions.specs.declared.packets.FieldMap.{FieldMap}

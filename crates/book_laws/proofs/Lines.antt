@@ -1,11 +1,12 @@
 -- The lines of a book: the first of what is left ends with the first LF (`lines_first`), and the lines one after the other are the book (`lines_joined`).
+use Rattle.std.specs.Prelude.{if◌then◌else◌}
 use mathlib.Core.Path.{◌≡◌, refl, ap, ◌∙◌}
 use mathlib.Core.Bool.{Bool, true, false, not}
 use mathlib.Core.List.{List, [], ◌∷◌, ◌++◌}
 use Prim.Native.Nat.{ℕ, suc}
 use lib.ListN.{take, drop}
 use lib.Dec.{eqb}
-use Rattle.forms.specs.Bytes.{if◌then◌else◌, run}
+use Rattle.forms.specs.Bytes.{run}
 use Rattle.forms.proofs.Bools.{by_cases}
 use Rattle.definitions.specs.Parts.{find}
 use Rattle.definitions.specs.Books.{into_lines, book_lines}

@@ -1,6 +1,5 @@
 -- What the code answers for a line of a book and for its parts: what they say, or that they have another form.
-use Rattle.std.specs.Prelude.{ℕ, List}
-use Rattle.forms.specs.Bytes.{if◌then◌else◌}
+use Rattle.std.specs.Prelude.{ℕ, List, if◌then◌else◌}
 use Rattle.definitions.specs.Numbers.{value_of}
 use Rattle.definitions.specs.Books.{is_rule_number, is_state, state_of, is_action, action_of, is_rule}
 use Rattle.definitions.specs.LoadedBooks.{loaded_at}

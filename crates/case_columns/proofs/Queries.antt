@@ -1,9 +1,10 @@
 -- The query: the word, or what stands between the brackets; and what the code's answer tells of the bytes.
+use Rattle.std.specs.Prelude.{if◌then◌else◌}
 use mathlib.Core.Path.{◌≡◌, refl, ap, ◌∙◌}
 use mathlib.Core.Bool.{Bool, true, false}
 use mathlib.Core.List.{List}
 use Prim.Native.Nat.{ℕ}
-use Rattle.forms.specs.Bytes.{if◌then◌else◌, text}
+use Rattle.forms.specs.Bytes.{text}
 use Rattle.forms.proofs.Bools.{by_cases}
 use Rattle.definitions.specs.Lists.{same_bytes}
 use Rattle.definitions.specs.Parts.{part_before, part_after}

@@ -1,7 +1,7 @@
 -- THE ANSWER TO A LINE OF CASES: what is written for it, without its number and the LF. docs/vectors/README.md has it in words; the text of a placement, of
 -- the list and of a refusal is in crate case_lists.
-use Rattle.std.specs.Prelude.{ℕ, List, ◌++◌}
-use Rattle.forms.specs.Bytes.{if◌then◌else◌, text}
+use Rattle.std.specs.Prelude.{ℕ, List, ◌++◌, if◌then◌else◌}
+use Rattle.forms.specs.Bytes.{text}
 use Rattle.definitions.specs.declared.table.Table.{Table}
 use Rattle.definitions.specs.declared.packets.Direction.{Direction}
 use Rattle.definitions.specs.declared.packets.FieldMap.{FieldMap}

@@ -1,6 +1,6 @@
 -- The answer by the six columns of a line.
-use Rattle.std.specs.Prelude.{Bool, ◌&&◌, List, ℕ}
-use Rattle.forms.specs.Bytes.{if◌then◌else◌, text}
+use Rattle.std.specs.Prelude.{Bool, ◌&&◌, List, ℕ, if◌then◌else◌}
+use Rattle.forms.specs.Bytes.{text}
 use Rattle.definitions.specs.Limits.{document_limits}
 use Rattle.definitions.specs.Reading.{read}
 use Rattle.definitions.specs.Cases.{pairs}

@@ -1,7 +1,7 @@
 -- A LINE OF DECISIONS, and the answer to it: what a packet and a book come to, for comparison with other programs. docs/vectors/README.md has the form in words. In
 -- numbers a tab is 9.
-use Rattle.std.specs.Prelude.{ℕ, Bool, ◌&&◌, List, ◌++◌, length, leb}
-use Rattle.forms.specs.Bytes.{if◌then◌else◌, text}
+use Rattle.std.specs.Prelude.{ℕ, Bool, ◌&&◌, List, ◌++◌, length, leb, if◌then◌else◌}
+use Rattle.forms.specs.Bytes.{text}
 use Rattle.definitions.specs.declared.books.Action.{Action}
 use Rattle.definitions.specs.declared.books.Action.TheVariants.{Pass, Hold}
 use Rattle.definitions.specs.declared.books.Decision.{Decision}

@@ -1,8 +1,7 @@
 -- A BLOCK OF PACKETS, and what some rules decide for each. Document 02, T-03. A packet's record is 30 bytes, then the packet, then its decoded buffer:
 -- byte 0, 0 if it comes from the client; byte 1, a bit for each field that is present; bytes 2 and 3, the packet's length; 4 and 5, the decoded buffer's; from 6 on,
 -- for body, banner, file, uri, header and host, start and length. Numbers of two bytes have their big end first.
-use Rattle.std.specs.Prelude.{ℕ, zero, suc, ◌+◌, ◌*◌, ◌/◌, ◌%◌, Bool, List, [], ◌∷◌, ◌++◌, map, length, get_or, take, drop, eqb, leb}
-use Rattle.forms.specs.Bytes.{if◌then◌else◌}
+use Rattle.std.specs.Prelude.{ℕ, zero, suc, ◌+◌, ◌*◌, ◌/◌, ◌%◌, Bool, List, [], ◌∷◌, ◌++◌, map, length, get_or, take, drop, eqb, leb, if◌then◌else◌}
 use Rattle.definitions.specs.declared.packets.Direction.{Direction}
 use Rattle.definitions.specs.declared.packets.Direction.TheVariants.{Client, Server}
 use Rattle.definitions.specs.declared.packets.FieldSpan.{FieldSpan}

@@ -1,6 +1,5 @@
 -- The byte counts of byte_test, and the widths of the table that they are. Document 02, T-01.
-use Rattle.std.specs.Prelude.{ℕ, Bool, ◌||◌, eqb}
-use Rattle.forms.specs.Bytes.{if◌then◌else◌}
+use Rattle.std.specs.Prelude.{ℕ, Bool, ◌||◌, eqb, if◌then◌else◌}
 use Rattle.definitions.specs.declared.table.Width.{Width}
 use Rattle.definitions.specs.declared.table.Width.TheVariants.{One, Two, Four}
 

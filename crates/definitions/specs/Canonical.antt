@@ -1,6 +1,6 @@
 -- Canonical text, which document 01 calls "house text". Section "House text": the options of a table in their order, and the text of each.
-use Rattle.std.specs.Prelude.{ℕ, zero, suc, ◌+◌, ◌/◌, ◌%◌, Bool, true, false, not, List, [], ◌∷◌, ◌++◌, length, take, eqb, ltb, ℤ, pos, negsuc}
-use Rattle.forms.specs.Bytes.{if◌then◌else◌, text}
+use Rattle.std.specs.Prelude.{ℕ, zero, suc, ◌+◌, ◌/◌, ◌%◌, Bool, true, false, not, List, [], ◌∷◌, ◌++◌, length, take, eqb, ltb, ℤ, pos, negsuc, if◌then◌else◌}
+use Rattle.forms.specs.Bytes.{text}
 use Rattle.forms.specs.Form.{has}
 use Rattle.definitions.specs.declared.table.Flow as flows
 use Rattle.definitions.specs.declared.table.Flow.TheVariants as flow

@@ -1,6 +1,5 @@
 -- The fields, the entry that returns a field's bytes, and refusal 35. Section "Packet and fields".
-use Rattle.std.specs.Prelude.{ℕ, ◌+◌, Bool, true, false, List, [], ◌∷◌, length, take, drop, ltb}
-use Rattle.forms.specs.Bytes.{if◌then◌else◌}
+use Rattle.std.specs.Prelude.{ℕ, ◌+◌, Bool, true, false, List, [], ◌∷◌, length, take, drop, ltb, if◌then◌else◌}
 use Rattle.definitions.specs.declared.table.Context.{Context}
 use Rattle.definitions.specs.declared.table.Context.TheVariants as context
 use Rattle.definitions.specs.declared.table.SizeField.{SizeField}

@@ -1,6 +1,6 @@
 -- The form and the limits of each option after its name. Section "Text", the table's second column, a definition for each row.
-use Rattle.std.specs.Prelude.{ℕ, ◌+◌, ◌*◌, Bool, true, false, List, [], ◌∷◌, ◌++◌, length, leb, ℤ, pos, neg_ℤ}
-use Rattle.forms.specs.Bytes.{if◌then◌else◌, text}
+use Rattle.std.specs.Prelude.{ℕ, ◌+◌, ◌*◌, Bool, true, false, List, [], ◌∷◌, ◌++◌, length, leb, ℤ, pos, neg_ℤ, if◌then◌else◌}
+use Rattle.forms.specs.Bytes.{text}
 use Rattle.forms.specs.Form.{Class, Form, pure, byte, pair, many, fmap, bound}
 use Rattle.forms.specs.Pieces.{preceded, terminated, or, opt, some, literal, literal_as, keyword, word}
 use Rattle.definitions.specs.declared.table.Flow.TheVariants as flow

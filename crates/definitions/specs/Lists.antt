@@ -1,6 +1,5 @@
 -- Lists: tests over their elements, and an array with room after what it holds.
-use Rattle.std.specs.Prelude.{ℕ, ◌-◌, Bool, true, false, ◌&&◌, ◌||◌, List, [], ◌∷◌, ◌++◌, length, replicate, eqb}
-use Rattle.forms.specs.Bytes.{if◌then◌else◌}
+use Rattle.std.specs.Prelude.{ℕ, ◌-◌, Bool, true, false, ◌&&◌, ◌||◌, List, [], ◌∷◌, ◌++◌, length, replicate, eqb, if◌then◌else◌}
 
 unfoldable pub all? : {A : Type 0} → (A → Bool) → List A → Bool
 all? f [] = true

@@ -1,8 +1,7 @@
 -- Numbers in a text. Section "Text": decimal digits, leading zeros allowed; in field tests, and in the value of byte_test, decimal, or `0x` or `0X` and hex
 -- digits.
 -- A number has any count of digits and never wraps.
-use Rattle.std.specs.Prelude.{ℕ, ◌+◌, ◌-◌, ◌*◌, Bool, not, ◌&&◌, List, [], ◌∷◌, leb}
-use Rattle.forms.specs.Bytes.{if◌then◌else◌}
+use Rattle.std.specs.Prelude.{ℕ, ◌+◌, ◌-◌, ◌*◌, Bool, not, ◌&&◌, List, [], ◌∷◌, leb, if◌then◌else◌}
 use Rattle.forms.specs.Form.{Class, Form, has, byte, pair, many, fmap, bound}
 use Rattle.forms.specs.Pieces.{preceded, or, some, literal}
 use Rattle.definitions.specs.Lists.{all?, none?}

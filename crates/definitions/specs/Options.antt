@@ -1,7 +1,7 @@
 -- The options and their names, and the frame of a text. Section "Text", the table's first column, and document 02's byte_test.
-use Rattle.std.specs.Prelude.{ℕ, ◌+◌, Bool, ◌||◌, List, [], ◌∷◌, take, drop, eqb}
+use Rattle.std.specs.Prelude.{ℕ, ◌+◌, Bool, ◌||◌, List, [], ◌∷◌, take, drop, eqb, if◌then◌else◌}
 use Prim.Native.String.{String}
-use Rattle.forms.specs.Bytes.{if◌then◌else◌, text, between, lower, same_word, run}
+use Rattle.forms.specs.Bytes.{text, between, lower, same_word, run}
 use Rattle.forms.specs.Form.{Form}
 use Rattle.forms.specs.Place.{Read, read_at}
 use Rattle.definitions.specs.declared.table.Side.TheVariants.{Source, Destination}

@@ -1,7 +1,6 @@
 -- One IPv4 packet: datagram, header fields, payload, and refusals 30 to 34. Sections "Packet and fields" and "Numbers of refusal".
 -- Headers are those of RFC 791, 9293, 768 and 792. Checksums and the UDP length are not verified.
-use Rattle.std.specs.Prelude.{ℕ, zero, suc, ◌+◌, ◌*◌, ◌/◌, ◌%◌, Bool, not, ◌&&◌, ◌||◌, List, length, get_or, take, drop, eqb, ltb}
-use Rattle.forms.specs.Bytes.{if◌then◌else◌}
+use Rattle.std.specs.Prelude.{ℕ, zero, suc, ◌+◌, ◌*◌, ◌/◌, ◌%◌, Bool, not, ◌&&◌, ◌||◌, List, length, get_or, take, drop, eqb, ltb, if◌then◌else◌}
 use Rattle.definitions.specs.declared.packets.PacketHeader.{PacketHeader}
 use Rattle.definitions.specs.declared.answers.Refusal.TheVariants as refusal
 use Rattle.definitions.specs.declared.answers.Check.{Check}

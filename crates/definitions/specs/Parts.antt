@@ -1,6 +1,6 @@
 -- THE PARTS OF A LINE between delimiters d, any byte.
-use Rattle.std.specs.Prelude.{ℕ, zero, suc, Bool, not, List, [], ◌∷◌, length, take, drop, eqb, ltb}
-use Rattle.forms.specs.Bytes.{if◌then◌else◌, run}
+use Rattle.std.specs.Prelude.{ℕ, zero, suc, Bool, not, List, [], ◌∷◌, length, take, drop, eqb, ltb, if◌then◌else◌}
+use Rattle.forms.specs.Bytes.{run}
 
 -- how many bytes stand before the first delimiter; whether there is one; the bytes before it; those after it
 unfoldable pub find : ℕ → List ℕ → ℕ

@@ -1,7 +1,7 @@
 -- Reading a text into a table. Sections "Text" and "Numbers of refusal", 1 to 12 with their places and order; document 02, T-02: where 6 and 7 are
 -- placed. Places count from 0.
-use Rattle.std.specs.Prelude.{ℕ, zero, suc, ◌+◌, ◌-◌, Bool, not, List, [], ◌∷◌, ◌++◌, map, length, get_or, take, drop, eqb, ltb}
-use Rattle.forms.specs.Bytes.{if◌then◌else◌, text, run}
+use Rattle.std.specs.Prelude.{ℕ, zero, suc, ◌+◌, ◌-◌, Bool, not, List, [], ◌∷◌, ◌++◌, map, length, get_or, take, drop, eqb, ltb, if◌then◌else◌}
+use Rattle.forms.specs.Bytes.{text, run}
 use Rattle.forms.specs.Place.{Parsed, OutOfRange, Failed}
 use Rattle.definitions.specs.declared.answers.Refusal.{Refusal}
 use Rattle.definitions.specs.declared.answers.Refusal.TheVariants as refusal

@@ -1,7 +1,6 @@
 -- The number and values of each answer. Document 01, section "Numbers of refusal"; document 02, T-03: 50 to 53. No case of these answers is one that the papers
 -- leave free.
-use Rattle.std.specs.Prelude.{ℕ, Bool}
-use Rattle.forms.specs.Bytes.{if◌then◌else◌}
+use Rattle.std.specs.Prelude.{ℕ, Bool, if◌then◌else◌}
 use Rattle.definitions.specs.declared.answers.Refusal.{Refusal}
 use Rattle.definitions.specs.declared.answers.Refusal.TheVariants as refusal
 use Rattle.definitions.specs.declared.answers.Check.{Check}

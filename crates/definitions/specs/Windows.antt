@@ -1,7 +1,7 @@
 -- Where a pattern lies: its window, and its bytes. Section "Meaning". Window starts are signed numbers and may be negative.
-use Rattle.std.specs.Prelude.{ℕ, ◌+◌, Bool, true, false, ◌&&◌, List, [], ◌∷◌, length, drop, eqb, leb, ℤ, pos, ◌+ℤ◌, ◌-ℤ◌}
+use Rattle.std.specs.Prelude.{ℕ, ◌+◌, Bool, true, false, ◌&&◌, List, [], ◌∷◌, length, drop, eqb, leb, ℤ, pos, ◌+ℤ◌, ◌-ℤ◌, if◌then◌else◌}
 use Rattle.std.specs.Int.Signed.{le_z}
-use Rattle.forms.specs.Bytes.{if◌then◌else◌, lower}
+use Rattle.forms.specs.Bytes.{lower}
 use Rattle.definitions.specs.declared.table.Reference.{Reference}
 use Rattle.definitions.specs.declared.table.Reference.TheVariants as reference
 use Rattle.definitions.specs.declared.table.DistanceValue.{DistanceValue}

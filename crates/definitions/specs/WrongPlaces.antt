@@ -1,7 +1,7 @@
 -- Where refusals 6 and 7 are placed, said without scanning: by the texts that an option's form makes. Document 02, T-02.
-use Rattle.std.specs.Prelude.{ℕ, ◌+◌, ◌-◌, ◌≤◌, ◌<◌, ◌≡◌, Bool, true, false, ◌||◌, length, take, drop, eqb, leb}
+use Rattle.std.specs.Prelude.{ℕ, ◌+◌, ◌-◌, ◌≤◌, ◌<◌, ◌≡◌, Bool, true, false, ◌||◌, length, take, drop, eqb, leb, if◌then◌else◌}
 use mathlib.Core.List.{List, [], ◌∷◌, ◌++◌, Memᴰ as Mem}
-use Rattle.forms.specs.Bytes.{if◌then◌else◌, lower, same_word}
+use Rattle.forms.specs.Bytes.{lower, same_word}
 use Rattle.forms.specs.Form.{has, Means}
 use Rattle.forms.specs.Bounds.{Bounded, bounds, all_kept}
 use Rattle.definitions.specs.declared.answers.Refusal.{Refusal}

@@ -1,4 +1,5 @@
 -- Forms at places: how a function for a form is put together from functions for its parts. Assumes nothing.
+use Rattle.std.specs.Prelude.{if◌then◌else◌}
 use mathlib.Core.Path.{◌≡◌, refl, sym, ap, ◌∙◌}
 use mathlib.Core.Bool.{Bool, true, not}
 use mathlib.Core.List.{List, [], ◌∷◌, ◌++◌}
@@ -6,7 +7,6 @@ use Prim.Native.Nat.{ℕ, suc, ◌+◌, ◌-◌, ◌≤◌, ◌<◌}
 use native.Mathlib.Omega.{arith}
 use lib.ListN.{length, length-append, get_or, drop, length-drop, drop_of_length-le}
 use lib.Seq.{drop-drop, drop-append_seam, drop-cons}
-use Rattle.forms.specs.Bytes.{if◌then◌else◌}
 use Rattle.forms.proofs.Bools.{by_cases}
 use Rattle.forms.specs.Form.{Class, has, Form, pure, byte, pair, alt, many, fmap, bound}
 use Rattle.forms.specs.Scan.{Scan, Got, Stop, on_got, nullable, first_set, begins, scan, onward, over}

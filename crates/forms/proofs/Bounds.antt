@@ -1,4 +1,5 @@
 -- Lists of bounded parts: which are kept, and what is left of a text at the broken ones. Assumes nothing.
+use Rattle.std.specs.Prelude.{if◌then◌else◌}
 use mathlib.Core.Path.{◌≡◌, refl, sym, ap, ap₂, ◌∙◌}
 use mathlib.Core.Bool.{Bool, true, false, ◌&&◌}
 use mathlib.Core.List.{List, [], ◌∷◌, ◌++◌}
@@ -6,7 +7,6 @@ use Prim.Native.Nat.{ℕ, ◌+◌}
 use native.Mathlib.Omega.{arith}
 use lib.ListN.{length, drop}
 use lib.Seq.{drop-drop, drop-append_seam}
-use Rattle.forms.specs.Bytes.{if◌then◌else◌}
 use Rattle.forms.specs.Bounds.{Bounded, shifted, all_kept}
 use Rattle.forms.proofs.Bools.{by_cases, both_left, both_right}
 

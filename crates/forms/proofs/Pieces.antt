@@ -1,4 +1,5 @@
 -- How the scanner reads the pieces that forms are made of. Assumes nothing.
+use Rattle.std.specs.Prelude.{if◌then◌else◌}
 use mathlib.Core.Path.{◌≡◌, refl}
 use mathlib.Core.Bool.{Bool, true, false, ◌&&◌}
 use mathlib.Core.List.{List, [], ◌∷◌}
@@ -7,7 +8,7 @@ use native.Mathlib.Omega.{arith}
 use native.Mathlib.Nat.{le_refl}
 use lib.ListN.{length, take, drop}
 use lib.Dec.{eqb, eqb-suc-zero}
-use Rattle.forms.specs.Bytes.{if◌then◌else◌, run}
+use Rattle.forms.specs.Bytes.{run}
 use Rattle.forms.proofs.Bools.{by_cases, both_left, both_right}
 use Rattle.forms.specs.Form.{Class, has, Form, pure, byte, pair, alt, many, fmap, bound}
 use Rattle.forms.specs.Scan.{Scan, Got, Stop, on_got, first_set, begins, one, loop, scan, onward, overs, over}

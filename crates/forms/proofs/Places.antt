@@ -1,4 +1,5 @@
 -- Where the scanner stops: at the first byte with which the text begins no text of the form. Assumes nothing.
+use Rattle.std.specs.Prelude.{if◌then◌else◌}
 use mathlib.Core.Path.{◌≡◌, refl, sym, ap, subst, ◌∙◌, fun_ext}
 use mathlib.Core.Bool.{Bool, true, false, not, ◌&&◌}
 use mathlib.Core.List.{List, [], ◌∷◌, ◌++◌, append_assoc, append-nil, append_cancel_right}
@@ -8,7 +9,6 @@ use native.Mathlib.Omega.{arith}
 use native.Mathlib.Nat.{le_refl}
 use lib.ListN.{length, length-append, take}
 use borrow.Author.Tests.{le-leb}
-use Rattle.forms.specs.Bytes.{if◌then◌else◌}
 use Rattle.forms.proofs.Bools.{by_cases, both_left, both_right}
 use Rattle.forms.specs.Form.{Class, has, Form, pure, byte, pair, alt, many, fmap, bound, Row, none, more, Means}
 use Rattle.forms.specs.Scan.{Scan, Got, Stop, on_got, nullable, first_set, follow_set, begins, one, loop, scan, onward, overs, over, apart, filled, is_ll1}

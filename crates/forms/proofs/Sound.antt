@@ -1,4 +1,5 @@
 -- What the scanner answers with is of the form, and the broken bounds that it finds are those in the text, in their order. Assumes nothing.
+use Rattle.std.specs.Prelude.{if◌then◌else◌}
 use mathlib.Core.Path.{◌≡◌, refl, sym, ap, ap₂, subst, ◌∙◌}
 use mathlib.Core.Bool.{Bool, true, false}
 use mathlib.Core.List.{List, [], ◌∷◌, ◌++◌, append_assoc}
@@ -6,7 +7,6 @@ use mathlib.Core.Logic.{◌⊎◌, inl, inr}
 use Prim.Native.Nat.{ℕ, zero, suc, ◌+◌}
 use native.Mathlib.Omega.{arith}
 use lib.ListN.{length, drop}
-use Rattle.forms.specs.Bytes.{if◌then◌else◌}
 use Rattle.forms.proofs.Bools.{by_cases}
 use Rattle.forms.specs.Form.{Class, has, Form, pure, byte, pair, alt, many, fmap, bound, Row, none, more, Means}
 use Rattle.forms.specs.Scan.{Scan, Got, Stop, on_got, first_set, begins, one, loop, scan, onward, overs, over}

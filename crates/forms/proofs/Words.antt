@@ -1,4 +1,5 @@
 -- A word's form means the word in any letter case (`keyword_means`).
+use Rattle.std.specs.Prelude.{if◌then◌else◌}
 use mathlib.Core.Path.{◌≡◌, refl, sym, ap, ◌∙◌}
 use mathlib.Core.Bool.{Bool, true, false, not, ◌&&◌}
 use mathlib.Core.List.{List, [], ◌∷◌, ◌++◌}
@@ -8,7 +9,7 @@ use native.Mathlib.Omega.{arith}
 use lib.ListN.{length}
 use lib.Dec.{eqb, leb}
 use borrow.Author.Tests.{eqb-true, eqb-false, eq-eqb, ne_eqb, le-leb, lt-leb, leb-true, not-true}
-use Rattle.forms.specs.Bytes.{if◌then◌else◌, between, lower, same_word}
+use Rattle.forms.specs.Bytes.{between, lower, same_word}
 use Rattle.forms.specs.Form.{Class, has, Means}
 use Rattle.forms.specs.Pieces.{keyword}
 use Rattle.forms.proofs.Bools.{by_cases, both_left, both_right}

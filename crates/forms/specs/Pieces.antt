@@ -1,6 +1,6 @@
 -- Pieces that forms are put together from.
-use Rattle.std.specs.Prelude.{ℕ, ◌-◌, List, [], ◌∷◌}
-use Rattle.forms.specs.Bytes.{if◌then◌else◌, between}
+use Rattle.std.specs.Prelude.{ℕ, ◌-◌, List, [], ◌∷◌, if◌then◌else◌}
+use Rattle.forms.specs.Bytes.{between}
 use Rattle.forms.specs.Form.{Form, pure, byte, pair, alt, many, fmap}
 
 -- the first and then the second, with the value of the second; of the first

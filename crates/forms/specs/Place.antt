@@ -1,6 +1,5 @@
 -- A form read at a place of a text. Places count from 0.
-use Rattle.std.specs.Prelude.{ℕ, ◌-◌, Bool, List, [], ◌∷◌, length, drop}
-use Rattle.forms.specs.Bytes.{if◌then◌else◌}
+use Rattle.std.specs.Prelude.{ℕ, ◌-◌, Bool, List, [], ◌∷◌, length, drop, if◌then◌else◌}
 use Rattle.forms.specs.Form.{Form}
 use Rattle.forms.specs.Scan.{Scan, Got, Stop, scan, over}
 

@@ -1,7 +1,6 @@
 -- Scanning a form from the front of a byte list, one byte of look-ahead deciding; and `is_ll1`, a computed test of the forms for which
 -- that is right. proofs/Places.antt shows that for fair forms the scanner reads exactly what the form means.
-use Rattle.std.specs.Prelude.{ℕ, zero, suc, Bool, true, false, not, ◌&&◌, ◌||◌, List, [], ◌∷◌, ◌++◌, length, drop, ltb, leb}
-use Rattle.forms.specs.Bytes.{if◌then◌else◌}
+use Rattle.std.specs.Prelude.{ℕ, zero, suc, Bool, true, false, not, ◌&&◌, ◌||◌, List, [], ◌∷◌, ◌++◌, length, drop, ltb, leb, if◌then◌else◌}
 use Rattle.forms.specs.Form.{Class, has, Form, pure, byte, pair, alt, many, fmap, bound}
 
 -- the value and what is left after it; or what is left where the form cannot go on

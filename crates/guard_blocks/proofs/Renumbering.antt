@@ -1,5 +1,6 @@
 -- The loop over the packets of a block (`Renumbering`): those before its place have their number, and what all come to is these and what the others come to. It
 -- begins with none (`renumbering_in`), a packet's number stays (`renumbering-kept`) or is set (`renumbering-set`), and at the end all have theirs (`renumbering_out`).
+use Rattle.std.specs.Prelude.{if◌then◌else◌}
 use mathlib.Core.Path.{◌≡◌, refl, sym, ap, ◌∙◌}
 use mathlib.Core.Bool.{Bool, true, false, ◌&&◌}
 use mathlib.Core.List.{List, [], ◌∷◌, ◌++◌}
@@ -7,7 +8,6 @@ use Prim.Native.Nat.{ℕ, suc, ◌+◌, ◌-◌, ◌<◌, ◌≤◌}
 use native.Mathlib.Omega.{arith}
 use lib.ListN.{length, get_or, take, drop, set, length-drop, length-set, take-append-drop}
 use lib.Seq.{drop-drop, drop-cons, take-suc, take-suc-set, drop-set-lt, append_snoc}
-use Rattle.forms.specs.Bytes.{if◌then◌else◌}
 use Rattle.definitions.specs.Blocks.{PacketRecord, record_length, record_of, records_up_to}
 use Rattle.guard_numbers.specs.OpenNumbers.{is_open}
 use Rattle.guard_packets.proofs.Records.{record_suc, record_whole, record_rest}

@@ -1,5 +1,6 @@
 -- The loop over the rules keeps what the numbers are resolved to: an open number is what the rules left decide, any other stays. A rule's turn changes nothing
 -- of that (`resolved_on`). At first all are open (`resolved_in`); in the end no rule is left (`resolved_out`), or no number is open (`resolved_all`).
+use Rattle.std.specs.Prelude.{if◌then◌else◌}
 use mathlib.Core.Path.{◌≡◌, refl}
 use mathlib.Core.Bool.{Bool, true, false, ◌&&◌}
 use mathlib.Core.List.{List, [], ◌∷◌, ◌++◌, map}
@@ -7,7 +8,6 @@ use Prim.Native.Nat.{ℕ, ◌+◌, ◌<◌, ◌≤◌}
 use native.Mathlib.Omega.{arith}
 use lib.ListN.{length, take, drop, replicate}
 use borrow.Author.Tests.{ne_eqb}
-use Rattle.forms.specs.Bytes.{if◌then◌else◌}
 use Rattle.forms.proofs.Bools.{by_cases}
 use Rattle.definitions.specs.Limits.{document_limits}
 use Rattle.definitions.specs.Lists.{any?}

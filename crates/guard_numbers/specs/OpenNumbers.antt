@@ -1,6 +1,5 @@
 -- Numbers of packets that are not decided yet.
-use Rattle.std.specs.Prelude.{ℕ, Bool, eqb}
-use Rattle.forms.specs.Bytes.{if◌then◌else◌}
+use Rattle.std.specs.Prelude.{ℕ, Bool, eqb, if◌then◌else◌}
 
 -- the number of a packet that is not decided: more than any answer's
 abbrev pub open_number : ℕ

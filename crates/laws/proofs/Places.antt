@@ -1,6 +1,7 @@
 -- A refused reading has a place at most the text's length (`place_within`), and never beyond the limit of a text (`place_most`), and a number from 1 to 12.
 -- The options are read left to right; each place is where the reading stands, an option's first dash before it, or one that the option's form answers with,
 -- and none of these lies after the text.
+use Rattle.std.specs.Prelude.{if◌then◌else◌}
 use mathlib.Core.Path.{◌≡◌, refl, ap, subst}
 use mathlib.Core.Bool.{Bool, true, false, not, ◌&&◌, ◌||◌, false≢true}
 use mathlib.Core.List.{List, [], ◌∷◌, ◌++◌, map}
@@ -9,7 +10,7 @@ use native.Mathlib.Omega.{arith}
 use lib.ListN.{length, get_or, take, drop, length-take, length-drop}
 use lib.Dec.{eqb, ltb, leb}
 use borrow.Author.Tests.{ltb-true, ltb-false, not-false}
-use Rattle.forms.specs.Bytes.{if◌then◌else◌, same_word, run}
+use Rattle.forms.specs.Bytes.{same_word, run}
 use Rattle.forms.specs.Scan.{Scan, Got, Stop, scan, over}
 use Rattle.forms.specs.Place.{Parsed, OutOfRange, Failed, placed, read_at}
 use Rattle.forms.proofs.Bools.{by_cases}

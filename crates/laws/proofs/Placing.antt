@@ -1,5 +1,6 @@
 -- Number and table of a reading do not depend on how 6 and 7 are placed, and no other place does (`places_alone`). Where one placing refuses with 6 or 7,
 -- so does every other, for what the form of one option answers with (`form_cause`, `limit_cause`). By induction on the bytes, both placings at once.
+use Rattle.std.specs.Prelude.{if◌then◌else◌}
 use mathlib.Core.Path.{◌≡◌, refl, ap, subst, sym, ◌∙◌}
 use mathlib.Core.Bool.{Bool, true, false, not}
 use mathlib.Core.List.{List, [], ◌∷◌, ◌++◌}
@@ -7,7 +8,7 @@ use Prim.Native.Nat.{ℕ, zero, suc, ◌+◌, ◌-◌}
 use lib.ListN.{length, take, drop}
 use lib.Seq.{drop-drop}
 use lib.Dec.{eqb, ltb}
-use Rattle.forms.specs.Bytes.{if◌then◌else◌, run}
+use Rattle.forms.specs.Bytes.{run}
 use Rattle.forms.specs.Place.{Parsed, OutOfRange, Failed}
 use Rattle.forms.proofs.Sound.{never}
 use Rattle.definitions.specs.declared.answers.Refusal.{Refusal}

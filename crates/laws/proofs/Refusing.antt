@@ -1,5 +1,6 @@
 -- A refused reading's table is the empty table (`refused_empty`), and a text over the limit is refusal 1 at 0 (`limit_kept`). Each answer of
 -- the reader is a refusal, whose table is empty by its definition, or accepted.
+use Rattle.std.specs.Prelude.{if◌then◌else◌}
 use mathlib.Core.Path.{◌≡◌, refl}
 use mathlib.Core.Bool.{Bool, true, false, not}
 use mathlib.Core.List.{List, []}
@@ -7,7 +8,7 @@ use Prim.Native.Nat.{ℕ, ◌<◌}
 use lib.ListN.{length, drop, take}
 use lib.Dec.{ltb}
 use borrow.Author.Tests.{lt-ltb}
-use Rattle.forms.specs.Bytes.{if◌then◌else◌, run}
+use Rattle.forms.specs.Bytes.{run}
 use Rattle.definitions.specs.declared.answers.Refusal.{Refusal}
 use Rattle.definitions.specs.declared.answers.Refusal.TheVariants as refusal
 use Rattle.definitions.specs.declared.answers.ReadOutcome.TheVariants as outcome

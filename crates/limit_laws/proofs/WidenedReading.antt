@@ -1,5 +1,6 @@
 -- READING UNDER TWO LIMITS: a text within the first has the same number and place under the second, and its table with zero room added (`read_widened`). How many
 -- pattern bytes a table has room for enters a reading only where the table is made.
+use Rattle.std.specs.Prelude.{if◌then◌else◌}
 use mathlib.Core.Path.{◌≡◌, ap}
 use mathlib.Core.Bool.{Bool, true, false, not}
 use mathlib.Core.List.{List, []}
@@ -8,7 +9,7 @@ use native.Mathlib.Omega.{arith}
 use lib.ListN.{length, take, drop}
 use lib.Dec.{ltb}
 use borrow.Author.Tests.{le-ltb}
-use Rattle.forms.specs.Bytes.{if◌then◌else◌, run}
+use Rattle.forms.specs.Bytes.{run}
 use Rattle.definitions.specs.declared.answers.Refusal.{Refusal}
 use Rattle.definitions.specs.declared.answers.Refusal.TheVariants as refusal
 use Rattle.definitions.specs.declared.answers.ReadOutcome.TheVariants as outcome

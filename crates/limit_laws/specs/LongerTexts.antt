@@ -1,8 +1,7 @@
 -- LONGER TEXTS: what stays as it was where the limits are raised. Document 02, T-11: "State this about the two limits once, over the limit." `Kept` is the statement,
 -- over any limits a and b of which b allows more; proofs/LongerTexts.antt proves it, and gives it for the former limits and those of today.
-use Rattle.std.specs.Prelude.{◌≡◌, true, ℕ, suc, ◌≤◌, ◌<◌, length, ltb}
+use Rattle.std.specs.Prelude.{◌≡◌, true, ℕ, suc, ◌≤◌, ◌<◌, length, ltb, if◌then◌else◌}
 use mathlib.Core.List.{List, [], ◌∷◌, Memᴰ as Mem}
-use Rattle.forms.specs.Bytes.{if◌then◌else◌}
 use Rattle.definitions.specs.declared.table.Table.{Table}
 use Rattle.definitions.specs.declared.packets.Direction.{Direction}
 use Rattle.definitions.specs.declared.packets.FieldMap.{FieldMap}

@@ -1,6 +1,6 @@
 -- THE MAP OF A PACKET'S FIELDS: fields such as `uri:0+12` parted by commas, `-` if there is none. In numbers `+` is 43, a comma 44, `:` 58.
-use Rattle.std.specs.Prelude.{ℕ, Bool, true, not, ◌&&◌, ◌||◌, List, [], ◌∷◌}
-use Rattle.forms.specs.Bytes.{if◌then◌else◌, text}
+use Rattle.std.specs.Prelude.{ℕ, Bool, true, not, ◌&&◌, ◌||◌, List, [], ◌∷◌, if◌then◌else◌}
+use Rattle.forms.specs.Bytes.{text}
 use Rattle.definitions.specs.declared.table.Context.{Context}
 use Rattle.definitions.specs.declared.table.Context.TheVariants as context
 use Rattle.definitions.specs.declared.packets.Span.{Span}

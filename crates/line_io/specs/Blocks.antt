@@ -1,6 +1,5 @@
 -- The steps of a run over blocks of input. Nothing here says what is read or written: a contract can't.
-use Rattle.std.specs.Prelude.{◌≡◌, ℕ, ◌+◌, ◌-◌, ◌≤◌, ◌<◌, false, ◌&&◌, ◌||◌, List, [], eqb, ltb, length, take, drop}
-use Rattle.forms.specs.Bytes.{if◌then◌else◌}
+use Rattle.std.specs.Prelude.{◌≡◌, ℕ, ◌+◌, ◌-◌, ◌≤◌, ◌<◌, false, ◌&&◌, ◌||◌, List, [], eqb, ltb, length, take, drop, if◌then◌else◌}
 use Rattle.line_stream.specs.declared.Fed.{Fed}
 use Rattle.line_io.specs.declared.Step.{Step}
 

@@ -1,6 +1,5 @@
 -- A decimal number up to a limit, or none.
-use Rattle.std.specs.Prelude.{ℕ, List}
-use Rattle.forms.specs.Bytes.{if◌then◌else◌}
+use Rattle.std.specs.Prelude.{ℕ, List, if◌then◌else◌}
 use Rattle.definitions.specs.Numbers.{value_of, is_number}
 use Rattle.line_numbers.specs.declared.decimals.NumberResult.{NumberResult}
 use Rattle.line_numbers.specs.declared.decimals.NumberResult.TheVariants.{Parsed, Failed}

@@ -1,6 +1,6 @@
 -- WHERE A PACKET COMES FROM: `client` or `server`.
-use Rattle.std.specs.Prelude.{ℕ, Bool, ◌||◌, List}
-use Rattle.forms.specs.Bytes.{if◌then◌else◌, text}
+use Rattle.std.specs.Prelude.{ℕ, Bool, ◌||◌, List, if◌then◌else◌}
+use Rattle.forms.specs.Bytes.{text}
 use Rattle.definitions.specs.declared.packets.Direction.{Direction}
 use Rattle.definitions.specs.declared.packets.Direction.TheVariants.{Client, Server}
 use Rattle.definitions.specs.Lists.{same_bytes}

@@ -1,6 +1,5 @@
 -- THE FOUR COLUMNS OF A PACKET: where it comes from, its bytes, the map of its fields, the bytes of its decoded buffer.
-use Rattle.std.specs.Prelude.{ℕ, Bool, ◌&&◌, List}
-use Rattle.forms.specs.Bytes.{if◌then◌else◌}
+use Rattle.std.specs.Prelude.{ℕ, Bool, ◌&&◌, List, if◌then◌else◌}
 use Rattle.line_numbers.specs.HexPairs.{is_hex}
 use Rattle.line_packets.specs.declared.packets.PacketColumns.{PacketColumns}
 use Rattle.line_packets.specs.declared.packets.PacketResult.{PacketResult}

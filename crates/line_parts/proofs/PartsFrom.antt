@@ -1,4 +1,5 @@
 -- The parts from a place on: one turn of a loop that takes the part from each place on that stands after a delimiter, or is the first.
+use Rattle.std.specs.Prelude.{if◌then◌else◌}
 use mathlib.Core.Path.{◌≡◌, refl, sym, ap, ◌∙◌}
 use mathlib.Core.Bool.{true, not}
 use mathlib.Core.List.{List, [], ◌∷◌}
@@ -9,7 +10,7 @@ use lib.Seq.{drop-drop}
 use lib.Dec.{eqb, ltb, leb}
 use borrow.Author.Rules.{part_to_end}
 use borrow.Author.Tests.{ltb-true, ltb-false, lt-ltb, le-ltb, le-leb, lt-leb}
-use Rattle.forms.specs.Bytes.{if◌then◌else◌, run}
+use Rattle.forms.specs.Bytes.{run}
 use Rattle.forms.proofs.Bools.{by_cases}
 use Rattle.definitions.specs.Parts.{find, contains, part_before, part_after, onto, parts}
 use Rattle.line_parts.proofs.Delimiters.{find_le, before_length, before_le}

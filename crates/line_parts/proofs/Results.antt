@@ -1,7 +1,7 @@
 -- A parser's answer, the value where a test holds and else that it failed: what it tells of the test and of the value.
+use Rattle.std.specs.Prelude.{if◌then◌else◌}
 use mathlib.Core.Path.{◌≡◌, refl, sym}
 use mathlib.Core.Bool.{Bool, true, false}
-use Rattle.forms.specs.Bytes.{if◌then◌else◌}
 
 -- an enum of two cases, which are apart
 module _ {A R : Type 0} (parsed : A → R) (failed : R) (apart : (x : A) → parsed x ≡ failed → ⊥) where

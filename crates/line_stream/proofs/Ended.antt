@@ -1,5 +1,6 @@
 -- THE LINES THAT END in some input, part by part: a part without LF ends none, an LF ends the line begun, and what is left is the line begun of the program's
 -- state.
+use Rattle.std.specs.Prelude.{if◌then◌else◌}
 use mathlib.Core.Path.{◌≡◌, refl, sym, ap, ◌∙◌}
 use mathlib.Core.Bool.{true, false}
 use mathlib.Core.List.{List, [], ◌∷◌, ◌++◌, append_assoc, append-nil}
@@ -10,7 +11,6 @@ use lib.Dec.{eqb}
 use lib.ListN.{length, get_or, take, drop, drop_of_length-le}
 use lib.Seq.{drop-cons, take-suc}
 use borrow.Author.Tests.{not-true}
-use Rattle.forms.specs.Bytes.{if◌then◌else◌}
 use Rattle.forms.proofs.Bools.{by_cases, both_left, both_right}
 use Rattle.definitions.specs.Lists.{all?}
 use Rattle.definitions.specs.Lines.{line_texts}

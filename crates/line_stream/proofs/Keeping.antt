@@ -1,4 +1,5 @@
 -- A part more of a line: kept as far as the buffer has room; what is kept stays the first bytes of the line.
+use Rattle.std.specs.Prelude.{if◌then◌else◌}
 use mathlib.Core.Path.{◌≡◌, refl, sym, ap, ◌∙◌}
 use mathlib.Core.List.{List, [], ◌∷◌, ◌++◌}
 use Prim.Native.Nat.{ℕ, zero, suc, ◌+◌, ◌-◌, ◌≤◌, ◌<◌}
@@ -9,7 +10,6 @@ use lib.Dec.{ltb, leb}
 use lib.ListN.{length, get_or, take, set, length-append, length-set}
 use lib.Seq.{take-nil, take_all, take-append-le, take-suc, take-suc-set, length-take-le, set_out, sets, length-sets}
 use borrow.Author.Tests.{le-ltb, ltb-true, ltb-false, leb-true, leb-false}
-use Rattle.forms.specs.Bytes.{if◌then◌else◌}
 use Rattle.forms.proofs.Bools.{by_cases}
 use Rattle.write_bytes.specs.Clipped.{at_most}
 use Rattle.write_bytes.proofs.Clipping.{at_most_le, taken_most}

@@ -1,5 +1,6 @@
 -- THE LOOP of a feed, whatever is answered: after each line the code is in the program's state after the bytes taken so far, and what is still to come is what
 -- comes from there on. A program's proof of `feed` cites `Loop`, its invariant, and the five laws on it.
+use Rattle.std.specs.Prelude.{if◌then◌else◌}
 use mathlib.Core.Path.{◌≡◌, refl, sym, ap, subst, ◌∙◌}
 use mathlib.Core.Bool.{true, false, false≢true}
 use mathlib.Core.List.{List, [], ◌∷◌, ◌++◌, append_assoc, append-nil}
@@ -10,7 +11,7 @@ use lib.Dec.{ltb}
 use lib.ListN.{length, get_or, take, drop, length-append}
 use lib.Seq.{length-take-le, sets, length-sets, take-suc}
 use borrow.Author.Tests.{lt-ltb, ltb-true, ltb-false}
-use Rattle.forms.specs.Bytes.{if◌then◌else◌, text}
+use Rattle.forms.specs.Bytes.{text}
 use Rattle.forms.proofs.Bools.{by_cases}
 use Rattle.definitions.specs.Canonical.{decimal}
 use Rattle.write_bytes.specs.Puts.{max_counted, puts, Puts}

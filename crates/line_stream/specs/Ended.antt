@@ -1,6 +1,5 @@
 -- THE LINES OF SOME INPUT that end in it, and the one that is begun there, where s was read before of the first.
-use Rattle.std.specs.Prelude.{ℕ, List, [], ◌∷◌, ◌++◌, eqb}
-use Rattle.forms.specs.Bytes.{if◌then◌else◌}
+use Rattle.std.specs.Prelude.{ℕ, List, [], ◌∷◌, ◌++◌, eqb, if◌then◌else◌}
 
 -- those that an LF ends, without it
 unfoldable pub ended_lines : List ℕ → List ℕ → List (List ℕ)

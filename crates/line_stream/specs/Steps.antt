@@ -1,7 +1,7 @@
 -- What each step of feeding does, whatever it is given.
-use Rattle.std.specs.Prelude.{◌≡◌, Bool, true, false, not, ℕ, suc, ◌+◌, ◌-◌, List, [], ◌++◌, eqb, ltb, length, take, drop}
+use Rattle.std.specs.Prelude.{◌≡◌, Bool, true, false, not, ℕ, suc, ◌+◌, ◌-◌, List, [], ◌++◌, eqb, ltb, length, take, drop, if◌then◌else◌}
 use Rattle.std.proofs.lemmas.List.Edits.{sets}
-use Rattle.forms.specs.Bytes.{if◌then◌else◌, text, run}
+use Rattle.forms.specs.Bytes.{text, run}
 use Rattle.definitions.specs.Canonical.{decimal}
 use Rattle.write_bytes.specs.Puts.{Puts}
 use Rattle.write_bytes.specs.Clipped.{at_most}

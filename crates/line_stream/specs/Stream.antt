@@ -1,6 +1,6 @@
 -- A program's output as its input comes, part by part, for a program that answers each line. Section "The line program".
-use Rattle.std.specs.Prelude.{◌≡◌, ℕ, suc, ◌+◌, Bool, not, ◌&&◌, List, [], ◌∷◌, ◌++◌, eqb, ltb, leb, length, take, set}
-use Rattle.forms.specs.Bytes.{if◌then◌else◌, text}
+use Rattle.std.specs.Prelude.{◌≡◌, ℕ, suc, ◌+◌, Bool, not, ◌&&◌, List, [], ◌∷◌, ◌++◌, eqb, ltb, leb, length, take, set, if◌then◌else◌}
+use Rattle.forms.specs.Bytes.{text}
 use Rattle.definitions.specs.Canonical.{decimal}
 use Rattle.write_bytes.specs.Puts.{max_counted, puts}
 use Rattle.line_stream.specs.declared.Begun.{Begun}

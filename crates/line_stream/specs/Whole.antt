@@ -1,6 +1,5 @@
 -- WHOLE LINES: the program's state where a line is kept whole, however long, and that those lines are answered.
-use Rattle.std.specs.Prelude.{◌≡◌, ℕ, List, [], ◌∷◌, ◌++◌, eqb, length, take}
-use Rattle.forms.specs.Bytes.{if◌then◌else◌}
+use Rattle.std.specs.Prelude.{◌≡◌, ℕ, List, [], ◌∷◌, ◌++◌, eqb, length, take, if◌then◌else◌}
 use Rattle.write_bytes.specs.Puts.{Puts}
 use Rattle.line_stream.specs.declared.Begun.{Begun}
 use Rattle.line_stream.specs.declared.Fed.{Fed}

@@ -1,7 +1,7 @@
 -- A choice by a test that is known, with the test left as it stands elsewhere.
+use Rattle.std.specs.Prelude.{if◌then◌else◌}
 use mathlib.Core.Path.{◌≡◌, refl}
 use mathlib.Core.Bool.{Bool, true, false, false≢true, true≢false}
-use Rattle.forms.specs.Bytes.{if◌then◌else◌}
 
 module _ {A : Type 0} (a b : A) where
   pub if_true : (t : Bool) → t ≡ true → (if t then a else b) ≡ a

@@ -1,5 +1,5 @@
 -- What a search has found, as an answer.
-use Rattle.forms.specs.Bytes.{if◌then◌else◌}
+use Rattle.std.specs.Prelude.{if◌then◌else◌}
 use Rattle.definitions.specs.declared.answers.Found.TheVariants.{Placed, Nothing}
 use Rattle.definitions.specs.declared.answers.Answer.{Answer}
 use Rattle.search_state.specs.declared.outcomes.Outcome.{Outcome}

@@ -1,6 +1,5 @@
 -- The starts of a field at which bytes stand, as a walk from one start on finds them.
-use Rattle.std.specs.Prelude.{Bool, List, ℕ, zero, suc, ◌+◌, ◌≤◌, ◌<◌, length, drop}
-use Rattle.forms.specs.Bytes.{if◌then◌else◌}
+use Rattle.std.specs.Prelude.{Bool, List, ℕ, zero, suc, ◌+◌, ◌≤◌, ◌<◌, length, drop, if◌then◌else◌}
 use Rattle.definitions.specs.Windows.{stands_at}
 
 -- the bytes b stand in the field f at a start

@@ -1,6 +1,5 @@
 -- A datagram by itself, and its payload's place in the packet. Sections "Packet and fields" and "Numbers of refusal".
-use Rattle.std.specs.Prelude.{ℕ, ◌-◌, List, ltb}
-use Rattle.forms.specs.Bytes.{if◌then◌else◌}
+use Rattle.std.specs.Prelude.{ℕ, ◌-◌, List, ltb, if◌then◌else◌}
 use Rattle.definitions.specs.declared.packets.PacketHeader.{PacketHeader}
 use Rattle.definitions.specs.declared.packets.FieldSpan.{FieldSpan}
 use Rattle.definitions.specs.declared.packets.FieldSpan.TheVariants.{Absent, At}

@@ -1,5 +1,6 @@
 -- What is due for a value is what the definition says, and the state after it is that of one option more: the code's tests are the
 -- definition's, and its changes are those of the steps.
+use Rattle.std.specs.Prelude.{if◌then◌else◌}
 use mathlib.Core.Path.{◌≡◌, refl, sym, ap, ◌∙◌}
 use mathlib.Core.Bool.{Bool, true, false}
 use mathlib.Core.List.{List, [], ◌∷◌, ◌++◌}
@@ -9,7 +10,6 @@ use lib.ListN.{length, take, drop, set, length-drop}
 use lib.Seq.{sets, length-take-le, take_all}
 use lib.Dec.{eqb, ltb, leb}
 use borrow.Author.Tests.{le-ltb, ltb-false, leb-false, not-false}
-use Rattle.forms.specs.Bytes.{if◌then◌else◌}
 use Rattle.definitions.specs.declared.answers.Refusal.{Refusal}
 use Rattle.definitions.specs.declared.answers.Refusal.TheVariants as refusal
 use Rattle.definitions.specs.declared.answers.Check.{Check}

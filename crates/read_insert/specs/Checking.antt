@@ -1,6 +1,5 @@
 -- The judgement at the end, as the code goes about it: over the state of a text and its items; and the table, with the pattern bytes beside them.
-use Rattle.std.specs.Prelude.{ℕ, not, List, get_or, take, drop, ltb}
-use Rattle.forms.specs.Bytes.{if◌then◌else◌}
+use Rattle.std.specs.Prelude.{ℕ, not, List, get_or, take, drop, ltb, if◌then◌else◌}
 use Rattle.definitions.specs.Limits.{document_limits, max_name}
 use Rattle.definitions.specs.Lists.{padded}
 use Rattle.definitions.specs.declared.answers.Refusal.TheVariants as refusal

@@ -1,6 +1,5 @@
 -- What the code does to the state for a test and a pattern, step by step.
-use Rattle.std.specs.Prelude.{ℕ, ◌+◌, Bool, false, List, set, ltb, leb}
-use Rattle.forms.specs.Bytes.{if◌then◌else◌}
+use Rattle.std.specs.Prelude.{ℕ, ◌+◌, Bool, false, List, set, ltb, leb, if◌then◌else◌}
 use Rattle.definitions.specs.declared.answers.Refusal.TheVariants as refusal
 use Rattle.definitions.specs.declared.table.AddressTest.{AddressTest}
 use Rattle.definitions.specs.declared.table.Item.{Item}

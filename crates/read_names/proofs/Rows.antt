@@ -1,4 +1,5 @@
 -- The options are the rows of the definitions' table, in order; so the option of the first row with a name reads as that row.
+use Rattle.std.specs.Prelude.{if◌then◌else◌}
 use mathlib.Core.Path.{◌≡◌, refl, sym, ap, ◌∙◌}
 use mathlib.Core.Bool.{true, false}
 use mathlib.Core.List.{List, [], ◌∷◌, map, head-eq_of_cons-eq, tail-eq_of_cons-eq}
@@ -7,7 +8,7 @@ use native.Mathlib.Omega.{arith}
 use native.Mathlib.Numerals.{add-one}
 use lib.ListN.{length, get_or, drop, drop_of_length-le}
 use lib.Seq.{drop-cons}
-use Rattle.forms.specs.Bytes.{if◌then◌else◌, same_word}
+use Rattle.forms.specs.Bytes.{same_word}
 use Rattle.forms.specs.Form.{Form}
 use Rattle.forms.specs.Place.{read_at}
 use Rattle.forms.proofs.Bools.{by_cases}

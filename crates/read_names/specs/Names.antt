@@ -1,6 +1,6 @@
 -- The options of the table by name: their order and forms are those of its rows (`rows_in_order`).
-use Rattle.std.specs.Prelude.{ℕ, Bool, not, List, [], ◌∷◌, map}
-use Rattle.forms.specs.Bytes.{if◌then◌else◌, between, same_word}
+use Rattle.std.specs.Prelude.{ℕ, Bool, not, List, [], ◌∷◌, map, if◌then◌else◌}
+use Rattle.forms.specs.Bytes.{between, same_word}
 use Rattle.forms.specs.Form.{Form}
 use Rattle.forms.specs.Place.{read_at}
 use Rattle.definitions.specs.declared.table.Side.TheVariants.{Source, Destination}

@@ -1,6 +1,5 @@
 -- The count of patterns with usable references, as the code goes about it: item by item. Section "Numbers of refusal", its last paragraph.
-use Rattle.std.specs.Prelude.{ℕ, ◌+◌, true, false, List}
-use Rattle.forms.specs.Bytes.{if◌then◌else◌}
+use Rattle.std.specs.Prelude.{ℕ, ◌+◌, true, false, List, if◌then◌else◌}
 use Rattle.definitions.specs.declared.table.Pattern.{Pattern}
 use Rattle.definitions.specs.declared.table.Slot.{Slot}
 use Rattle.definitions.specs.Items.{Kind, unused, addressed, patterned, plain_test, patterns_of}

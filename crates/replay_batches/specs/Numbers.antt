@@ -1,6 +1,5 @@
 -- What is noted of lines until they are decided, and their numbers then.
-use Rattle.std.specs.Prelude.{ℕ, List, [], ◌∷◌, eqb, get_or, drop}
-use Rattle.forms.specs.Bytes.{if◌then◌else◌}
+use Rattle.std.specs.Prelude.{ℕ, List, [], ◌∷◌, eqb, get_or, drop, if◌then◌else◌}
 use Rattle.replay_laws.specs.Traces.{is_trace_line}
 use Rattle.replay_totals.specs.OutcomeNumbers.{bad_number}
 

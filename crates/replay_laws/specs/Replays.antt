@@ -1,6 +1,6 @@
 -- A REPLAY: what is written for a rule book and a trace. Document 02, T-05.
-use Rattle.std.specs.Prelude.{ℕ, Bool, true, false, List, [], ◌++◌, map}
-use Rattle.forms.specs.Bytes.{if◌then◌else◌, text}
+use Rattle.std.specs.Prelude.{ℕ, Bool, true, false, List, [], ◌++◌, map, if◌then◌else◌}
+use Rattle.forms.specs.Bytes.{text}
 use Rattle.definitions.specs.declared.answers.Refusal.{Refusal}
 use Rattle.definitions.specs.declared.books.Action.TheVariants as action
 use Rattle.definitions.specs.declared.books.Judgement.{Judgement}

@@ -1,5 +1,6 @@
 -- THE LOOP OF A FEED, one turn: the number that was decided ahead is that of the line that waits, so what is put is the answer to it; the line is counted if
 -- its answer had room; and the other numbers are those of the lines after it.
+use Rattle.std.specs.Prelude.{if◌then◌else◌}
 use mathlib.Core.Path.{◌≡◌, sym, ap, subst, ◌∙◌}
 use mathlib.Core.Bool.{true}
 use mathlib.Core.List.{List, [], ◌∷◌}
@@ -8,7 +9,6 @@ use native.Mathlib.Omega.{arith}
 use lib.Dec.{ltb}
 use lib.ListN.{length, get_or, take, drop}
 use borrow.Author.Tests.{lt-ltb, le-ltb}
-use Rattle.forms.specs.Bytes.{if◌then◌else◌}
 use Rattle.forms.proofs.Bools.{by_cases}
 use Rattle.definitions.specs.Limits.{document_limits}
 use Rattle.definitions.specs.Lists.{all?}

@@ -1,8 +1,7 @@
 // The replay's work on slices: a book is opened, a trace comes in parts of any length, answers go out, and the totals after the last line.
 #![tactic(auto)]
 
-ghost use Rattle.std.specs.Prelude.{◌≡◌, [], ◌∷◌, ◌<◌, length, get_or, take};
-ghost use Rattle.forms.specs.Bytes.{if◌then◌else◌};
+ghost use Rattle.std.specs.Prelude.{◌≡◌, [], ◌∷◌, ◌<◌, length, get_or, take, if◌then◌else◌};
 ghost use Rattle.definitions.specs.Limits.{document_limits};
 ghost use Rattle.definitions.specs.Books.{judge};
 ghost use Rattle.definitions.specs.LoadedBooks.{rules_in, loaded};

@@ -1,6 +1,5 @@
 -- THE RECORD OF A PACKET, as a block has it (Blocks.antt of the definitions): 30 bytes, then the packet, then its decoded buffer.
-use Rattle.std.specs.Prelude.{ℕ, ◌+◌, ◌/◌, ◌%◌, List, [], ◌∷◌, ◌++◌, length}
-use Rattle.forms.specs.Bytes.{if◌then◌else◌}
+use Rattle.std.specs.Prelude.{ℕ, ◌+◌, ◌/◌, ◌%◌, List, [], ◌∷◌, ◌++◌, length, if◌then◌else◌}
 use Rattle.definitions.specs.declared.packets.Direction.{Direction}
 use Rattle.definitions.specs.declared.packets.Direction.TheVariants.{Client, Server}
 use Rattle.definitions.specs.declared.packets.FieldSpan.{FieldSpan}

@@ -1,6 +1,5 @@
 -- WHAT IS SAID OF A LINE AS A NUMBER: a decision's, as a block has it (Blocks.antt of the definitions), or one more than any of these for a bad line.
-use Rattle.std.specs.Prelude.{ℕ, ◌-◌, List, eqb, leb}
-use Rattle.forms.specs.Bytes.{if◌then◌else◌}
+use Rattle.std.specs.Prelude.{ℕ, ◌-◌, List, eqb, leb, if◌then◌else◌}
 use Rattle.definitions.specs.Limits.{Limits}
 use Rattle.definitions.specs.Books.{Rule}
 use Rattle.definitions.specs.Blocks.{record_number}

@@ -1,4 +1,5 @@
 -- Texts of forms, put together as the forms are: a law for each way of making a form, the text and the value of the whole from those of its parts.
+use Rattle.std.specs.Prelude.{if◌then◌else◌}
 use mathlib.Core.Path.{◌≡◌, refl, subst}
 use mathlib.Core.Bool.{Bool, true}
 use mathlib.Core.List.{List, [], ◌∷◌, ◌++◌}
@@ -8,7 +9,7 @@ use native.Mathlib.Omega.{arith}
 use native.Mathlib.Nat.{le_refl}
 use lib.ListN.{length}
 use borrow.Author.Tests.{le-leb}
-use Rattle.forms.specs.Bytes.{if◌then◌else◌, between}
+use Rattle.forms.specs.Bytes.{between}
 use Rattle.forms.specs.Form.{Class, has, Form, pure, byte, pair, alt, many, fmap, bound, Row, none, Means}
 use Rattle.forms.specs.Pieces.{preceded, terminated, some, literal, literal_as, keyword}
 use Rattle.forms.proofs.Bools.{by_cases}

@@ -1,6 +1,5 @@
 -- Above every limit all numbers read as one.
-use Rattle.std.specs.Prelude.{ℕ, ltb}
-use Rattle.forms.specs.Bytes.{if◌then◌else◌}
+use Rattle.std.specs.Prelude.{ℕ, ltb, if◌then◌else◌}
 
 abbrev pub number_cap : ℕ
 number_cap = 4294967296

@@ -1,6 +1,6 @@
 -- The classes of bytes by their names in the code, and a word's byte in either letter case.
-use Rattle.std.specs.Prelude.{ℕ, ◌-◌, [], ◌∷◌}
-use Rattle.forms.specs.Bytes.{if◌then◌else◌, between}
+use Rattle.std.specs.Prelude.{ℕ, ◌-◌, [], ◌∷◌, if◌then◌else◌}
+use Rattle.forms.specs.Bytes.{between}
 use Rattle.forms.specs.Form as forms
 use Rattle.definitions.specs.Numbers.{decimal_digits, hex_digits}
 use Rattle.definitions.specs.Forms.{quotable}

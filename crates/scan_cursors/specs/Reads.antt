@@ -1,6 +1,5 @@
 -- A scanner reads a form: from one cursor on, with a value, to another. The definitions' `read_at`, in the code's own type of places.
-use Rattle.std.specs.Prelude.{ℕ, ◌≤◌, ◌≡◌, Bool, false, List, length, drop}
-use Rattle.forms.specs.Bytes.{if◌then◌else◌}
+use Rattle.std.specs.Prelude.{ℕ, ◌≤◌, ◌≡◌, Bool, false, List, length, drop, if◌then◌else◌}
 use Rattle.forms.specs.Form.{Class, Form}
 use Rattle.forms.specs.Scan.{begins}
 use Rattle.forms.specs.Place.{Read, Parsed, OutOfRange, Failed, read_at, out_of_range_at}

@@ -1,11 +1,11 @@
 -- Either of two words: the first letter of the one decides, and what the words say is told by which of them it is.
+use Rattle.std.specs.Prelude.{if◌then◌else◌}
 use mathlib.Core.Path.{◌≡◌, refl, sym, ap, ◌∙◌}
 use mathlib.Core.Bool.{Bool, true, false}
 use mathlib.Core.List.{List, [], ◌∷◌, append-nil}
 use Prim.Native.Nat.{ℕ, ◌≤◌}
 use native.Mathlib.Omega.{arith}
 use lib.ListN.{length, drop, get_or}
-use Rattle.forms.specs.Bytes.{if◌then◌else◌}
 use Rattle.forms.specs.Form.{Class, fmap}
 use Rattle.forms.specs.Scan.{first_set, begins}
 use Rattle.forms.specs.Place.{read_at, map_read}

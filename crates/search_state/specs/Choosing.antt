@@ -1,6 +1,5 @@
 -- The starts chosen so far, and the first of the placements of the items left. Document 01, section "Meaning", its last paragraphs.
-use Rattle.std.specs.Prelude.{ℕ, ◌+◌, max, Bool, true, false, List, [], ◌∷◌, set}
-use Rattle.forms.specs.Bytes.{if◌then◌else◌}
+use Rattle.std.specs.Prelude.{ℕ, ◌+◌, max, Bool, true, false, List, [], ◌∷◌, set, if◌then◌else◌}
 use Rattle.definitions.specs.declared.packets.Start.{Start}
 use Rattle.definitions.specs.declared.packets.Placement.{Placement}
 use Rattle.definitions.specs.Lists.{keep}

@@ -1,5 +1,6 @@
 -- The options of a text: the reader's loop ends after some options exactly if the bytes are the text of these options, each of which may stand
 -- after those before it. Complete by induction on the text, sound by induction on the bytes.
+use Rattle.std.specs.Prelude.{if◌then◌else◌}
 use mathlib.Core.Path.{◌≡◌, refl, sym, ap, subst, ◌∙◌}
 use mathlib.Core.Bool.{true}
 use mathlib.Core.List.{List, [], ◌∷◌, ◌++◌, append_assoc, append-nil}
@@ -10,7 +11,7 @@ use lib.ListN.{length, drop}
 use lib.Seq.{drop-drop}
 use lib.Dec.{eqb}
 use borrow.Author.Tests.{eqb-true}
-use Rattle.forms.specs.Bytes.{if◌then◌else◌, text}
+use Rattle.forms.specs.Bytes.{text}
 use Rattle.forms.specs.Place.{Parsed, OutOfRange, Failed}
 use Rattle.forms.proofs.Sound.{never}
 use Rattle.definitions.specs.declared.answers.Refusal.TheVariants as refusal

@@ -1,6 +1,5 @@
 -- A number kept within a limit.
-use Rattle.std.specs.Prelude.{ℕ, leb}
-use Rattle.forms.specs.Bytes.{if◌then◌else◌}
+use Rattle.std.specs.Prelude.{ℕ, leb, if◌then◌else◌}
 
 -- n, or the most if n is beyond it
 unfoldable pub at_most : ℕ → ℕ → ℕ

@@ -1,6 +1,5 @@
 -- Bytes put one after the other into a lent buffer.
-use Rattle.std.specs.Prelude.{ℕ, suc, ◌≡◌, List, [], ◌∷◌, ltb, set}
-use Rattle.forms.specs.Bytes.{if◌then◌else◌}
+use Rattle.std.specs.Prelude.{ℕ, suc, ◌≡◌, List, [], ◌∷◌, ltb, set, if◌then◌else◌}
 
 -- so many bytes are counted; whoever writes takes that many for too many
 abbrev pub max_counted : ℕ

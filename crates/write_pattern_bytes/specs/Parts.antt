@@ -1,6 +1,6 @@
 -- One byte of a pattern's text, as the code goes about it. Section "House text".
-use Rattle.std.specs.Prelude.{ℕ, ◌/◌, ◌%◌, Bool, not, List, [], ◌∷◌, ◌++◌}
-use Rattle.forms.specs.Bytes.{if◌then◌else◌, text}
+use Rattle.std.specs.Prelude.{ℕ, ◌/◌, ◌%◌, Bool, not, List, [], ◌∷◌, ◌++◌, if◌then◌else◌}
+use Rattle.forms.specs.Bytes.{text}
 use Rattle.definitions.specs.Canonical.{text_if, hex_digit}
 
 -- plain or not; `opened` tells whether a block is open before it

@@ -17,10 +17,10 @@ returns-then-count-ge-PATTERNS c = starting_full _ _ _ _ _ c.loop-at.invariant.1
 
 pub loop-at-preserved : goal.loop-at-preserved
 loop-at-preserved c = (
-      _,
-      starting_on _ _ _ _ _ c.loop-at.invariant.1 c.loop-at-test.true _ c.part_before-e.ensures _
-          c.parse_decimal.ensures _ c.in-Parsed.is c.if-count-ge-PATTERNS.false _ c.start_of.ensures,
-    )
+  _,
+  starting_on _ _ _ _ _ c.loop-at.invariant.1 c.loop-at-test.true _ c.part_before-e.ensures _
+      c.parse_decimal.ensures _ c.in-Parsed.is c.if-count-ge-PATTERNS.false _ c.start_of.ensures,
+)
 
 pub returns : goal.returns
 returns c = starting_out _ _ _ _ _ c.loop-at.invariant.1 (omega arith)

@@ -16,7 +16,7 @@ loop-i-preserved c =
     let here : l.i < length x.out.now = omega arith in
     let new : c.if-out-i-eq-OPEN.out ≡ front closed (l.i + 1) x.out.now =
     elim c.if-out-i-eq-OPEN.branch [
-      then-out-i-eq-OPEN w ↦ w.out-is ∙ front-set closed l.i x.out.now here l.out l.invariant.2 0 (closed_open _ w.if-out-i-eq-OPEN.true)
-    | else-out-i-eq-OPEN w ↦ w.out-is ∙ front_kept closed l.i x.out.now here l.out l.invariant.2 (closed_other _ w.if-out-i-eq-OPEN.false)
+      | then-out-i-eq-OPEN w ↦ w.out-is ∙ front-set closed l.i x.out.now here l.out l.invariant.2 0 (closed_open _ w.if-out-i-eq-OPEN.true)
+      | else-out-i-eq-OPEN w ↦ w.out-is ∙ front_kept closed l.i x.out.now here l.out l.invariant.2 (closed_other _ w.if-out-i-eq-OPEN.false)
     ] in
     (omega arith, ap length new ∙ front_length closed (l.i + 1) x.out.now, new)

@@ -28,8 +28,8 @@ returns-then-next_is_letter-3 c =
 
 pub returns : goal.returns
 returns c = (
-      second_reads c.next_is_letter.ensures c.if-next_is_letter.false
-          (second_reads c.next_is_letter-2.ensures c.if-next_is_letter-2.false
-          (second_reads c.next_is_letter-3.ensures c.if-next_is_letter-3.false c.then_number.ensures.0)),
-      c.then_number.ensures.1,
-    )
+  second_reads c.next_is_letter.ensures c.if-next_is_letter.false
+      (second_reads c.next_is_letter-2.ensures c.if-next_is_letter-2.false
+      (second_reads c.next_is_letter-3.ensures c.if-next_is_letter-3.false c.then_number.ensures.0)),
+  c.then_number.ensures.1,
+)

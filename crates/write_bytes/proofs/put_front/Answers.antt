@@ -7,7 +7,7 @@ use Rattle.write_bytes.proofs.Putting.{told}
 use Rattle.write_bytes.proofs.put_front.Goals as goal
 
 pub returns : goal.returns
-returns c = 
+returns c =
     let x = c.args in
     told (part_most x.n x.w.now refl c.at_most-k.ensures) c.put_word.ensures
 

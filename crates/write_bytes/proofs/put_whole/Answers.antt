@@ -8,7 +8,7 @@ use Rattle.write_bytes.proofs.Putting.{one_kept, put_on, put_all}
 use Rattle.write_bytes.proofs.put_whole.Goals as goal
 
 pub loop-i-preserved : goal.loop-i-preserved
-loop-i-preserved c = 
+loop-i-preserved c =
     let x = c.args in
     let l = c.loop-i in
     let here : x.at + l.i < max_counted = omega arith in
@@ -22,7 +22,7 @@ loop-i-preserved c =
     )
 
 pub returns : goal.returns
-returns c = 
+returns c =
     let x = c.args in
     let l = c.loop-i in
     record { is = sym (l.invariant.2 ∙ put_all l.out (x.at + l.i) x.w.now l.i c.loop-i-test.false) }
