@@ -11,8 +11,8 @@ use std::{fs, io, str};
 // Bytes that are read at most: one more than a book may have, so that a longer one is known to be longer.
 pub const ROOM: usize = 65537;
 
-// Bytes of an argument: no path that the system takes is longer.
-const PATH: usize = 4096;
+// Bytes of an argument: no path that the system takes has as many.
+const PATH: usize = 8192;
 
 // How many bytes came, or that the file can't be read.
 #[derive(Clone, Copy)]
