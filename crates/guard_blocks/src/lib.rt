@@ -76,7 +76,8 @@ fn decide_table(t: Table, answer: u32, block: &[u8], packets: usize, out: &mut [
     let mut i = 0;
     while i < packets {
         let s = &block[at..];
-        if out[i] == OPEN {
+        let is_open = out[i] == OPEN;
+        if is_open {
             if may_meet(t.protocol, flow, s) {
                 if meets(t.protocol, flow, items, count, all, s) {
                     out[i] = answer;

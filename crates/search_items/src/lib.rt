@@ -110,7 +110,8 @@ fn try_starts<'a>(
         let more = with_start(chosen, s);
         let still = still_on_bound(on_bound, s, b);
         let x = from_item(input, k + 1, rest, payload, decoded, next, more, still);
-        if x.found {
+        let is_found = x.found;
+        if is_found {
             return x;
         }
         at = next_start(nocase, own, f, at + 1, to);

@@ -10,7 +10,7 @@ use Rattle.guard_blocks.specs.Numbering.{meets_record}
 use Rattle.guard_blocks.proofs.Records.{head_within, whole_part, open_met, unmet, closed_kept, may_told, record_passed}
 use Rattle.guard_blocks.proofs.Renumbering.{renumbering_in, renumbering_out, renumbering-kept, renumbering-set, here-whole, step_within, here-room}
 use Rattle.guard_blocks.proofs.decide_table.Goals as goal
-use Rattle.guard_blocks.proofs.decide_table.Goals.{then-out-i-eq-OPEN+then-may_meet+then-meets, then-out-i-eq-OPEN+then-may_meet+else-meets, then-out-i-eq-OPEN+else-may_meet, else-out-i-eq-OPEN}
+use Rattle.guard_blocks.proofs.decide_table.Goals.{then-is_open+then-may_meet+then-meets, then-is_open+then-may_meet+else-meets, then-is_open+else-may_meet, else-is_open}
 
 pub loop-i-init : goal.loop-i-init
 loop-i-init c = renumbering_in (meets_record c.args.t) c.args.answer c.args.block.now c.args.packets c.args.out.now c.requires.1.0
@@ -61,16 +61,16 @@ loop-i-preserved c =
     let more : c.loop-i.i < x.packets = omega (arith, c.loop-i-test.true) in
     let kept = renumbering-kept (meets_record x.t) x.answer c.loop-i.invariant more c.requires.1.1 in
     let met = renumbering-set (meets_record x.t) x.answer c.loop-i.invariant more c.requires.1.1 in
-    elim c.if-out-i-eq-OPEN.branch [
-      | then-out-i-eq-OPEN+then-may_meet+then-meets w ↦
+    elim c.if-is_open.branch [
+      | then-is_open+then-may_meet+then-meets w ↦
           rw (w.out-is, n)
-          (met (open_met _ _ w.if-out-i-eq-OPEN.true (sym (ap (λ (s : List ℕ). meets_record x.t (record_of s)) part) ∙ sym (w.meets.ensures x.t.name x.t.len x.t.used c.requires.0) ∙ w.if-meets.true)))
-      | then-out-i-eq-OPEN+then-may_meet+else-meets w ↦
+          (met (open_met _ _ w.if-is_open.true (sym (ap (λ (s : List ℕ). meets_record x.t (record_of s)) part) ∙ sym (w.meets.ensures x.t.name x.t.len x.t.used c.requires.0) ∙ w.if-meets.true)))
+      | then-is_open+then-may_meet+else-meets w ↦
           rw (w.out-is, n)
           (kept (unmet _ _ (sym (ap (λ (s : List ℕ). meets_record x.t (record_of s)) part) ∙ sym (w.meets.ensures x.t.name x.t.len x.t.used c.requires.0) ∙ w.if-meets.false)))
-      | then-out-i-eq-OPEN+else-may_meet w ↦
+      | then-is_open+else-may_meet w ↦
           rw (w.out-is, n) (kept (unmet _ _ (record_passed x.t _ (sym (may_told x.t part) ∙ sym w.may_meet.ensures ∙ w.if-may_meet.false))))
-      | else-out-i-eq-OPEN w ↦ rw (w.out-is, n) (kept (closed_kept _ _ w.if-out-i-eq-OPEN.false))
+      | else-is_open w ↦ rw (w.out-is, n) (kept (closed_kept _ _ w.if-is_open.false))
     ]
 
 pub returns : goal.returns
