@@ -4,9 +4,10 @@
 ghost use Rattle.std.specs.Prelude.{◌≤◌, IfOk, length};
 ghost use Rattle.book_file.specs.Counted.{CountWithin};
 
+use std::fs::OpenOptions;
 use std::io::Read;
 use std::rt::{Env, Files};
-use std::{fs, io, str};
+use std::{io, str};
 
 // Bytes that are read at most: one more than a book may have, so that a longer one is known to be longer.
 pub const ROOM: usize = 65537;
@@ -46,15 +47,16 @@ pub fn read_all(input: &mut impl Read, room: &mut [u8]) -> BookFile
     }
 }
 
-// Reads the file that the first argument names. Nothing says what is read, but the count is within the room.
-pub fn read_book(rt: &(impl Env + Files), room: &mut [u8; ROOM]) -> BookFile
+// Reads the file that the first argument names. Nothing says what is read, but the count is within the room. The host itself is asked, and no bound of it:
+// the bound `Files` would have the program rest on every call on files.
+pub fn read_book(rt: &HostRuntime, room: &mut [u8; ROOM]) -> BookFile
     ensures { CountWithin 65537 result }
 {
     read_argument(rt, 1, room)
 }
 
 // Reads the file that an argument names, the first of them 1, likewise.
-pub fn read_argument(rt: &(impl Env + Files), argument: usize, room: &mut [u8; ROOM]) -> BookFile
+pub fn read_argument(rt: &HostRuntime, argument: usize, room: &mut [u8; ROOM]) -> BookFile
     ensures { CountWithin 65537 result }
 {
     let mut bytes = [0u8; PATH];
@@ -64,7 +66,9 @@ pub fn read_argument(rt: &(impl Env + Files), argument: usize, room: &mut [u8; R
     let Ok(path) = str::from_utf8(&bytes[..n]) else {
         return BookFile::Unread;
     };
-    let Ok(mut file) = fs::open(rt, path) else {
+    let mut how = OpenOptions::new();
+    how.read(true);
+    let Ok(mut file) = rt.open_file(&how, path) else {
         return BookFile::Unread;
     };
     read_all(&mut file, room)
