@@ -1,3 +1,2 @@
 -- Laws of counts of bytes.
 pub mod Bytes
-pub mod Counts

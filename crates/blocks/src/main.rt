@@ -3,13 +3,12 @@
 // nothing is read; for a file that can't be read nothing is written.
 #![tactic(auto)]
 
-ghost use Rattle.std.specs.Prelude.{◌≤◌, length};
-ghost use Rattle.blocks.specs.Held.{HeldWithin};
+ghost use Rattle.std.specs.Prelude.{◌≤◌, IfSome, length};
 
 use block_answers::put_answers;
 use book_answers::answer_book;
-use book_file::{BookFile, ROOM, read_book, read_into};
-use definitions::books::{Judgement, Rules};
+use book_file::{ROOM, read_book, read_into};
+use definitions::books::Rules;
 use guard_blocks::decide_block;
 use rule_book::load;
 use std::io::Read;
@@ -23,13 +22,6 @@ const ANSWERS: usize = 104856;
 
 // Bytes of a refusal's buffer: the longest answer to a book has 42.
 const REFUSAL: usize = 64;
-
-// How many bytes the block holds, from its front on; or that the run is over.
-#[derive(Clone, Copy)]
-enum Input {
-    Held(usize),
-    Over,
-}
 
 // Writes the answer to a book; if it can't, says so.
 fn write_book(rt: &(impl Print + Eprint), book: &[u8]) {
@@ -54,20 +46,20 @@ fn write_answers(rt: &(impl Print + Eprint), answers: &[u32; MOST], packets: usi
 }
 
 // Fills the block after the bytes that it holds. Where nothing more comes the input has ended.
-fn fill(rt: &impl Eprint, input: &mut impl Read, block: &mut [u8], held: usize) -> Input
+fn fill(rt: &impl Eprint, input: &mut impl Read, block: &mut [u8], held: usize) -> Option<usize>
     requires { held ≤ length block.old }
-    ensures { HeldWithin (length block.old) result }
+    ensures { IfSome result (λ n. n ≤ length block.old) }
 {
     match read_into(input, &mut block[held..]) {
         Ok(n) => {
             if n == 0 {
-                return Input::Over;
+                return None;
             }
-            Input::Held(held + n)
+            Some(held + n)
         }
         Err(error) => {
             let _ = eprintln!(rt; "standard input: {error}");
-            Input::Over
+            None
         }
     }
 }
@@ -94,18 +86,18 @@ fn decide(
     block: &mut [u8],
     answers: &mut [u32; MOST],
     end: usize,
-) -> Input
+) -> Option<usize>
     requires { end ≤ length block.old }
-    ensures { HeldWithin (length block.old) result }
+    ensures { IfSome result (λ n. n ≤ length block.old) }
 {
     let answered = decide_block(book, rules, &block[0..end], answers);
     if answered.packets == 0 {
-        return Input::Over;
+        return None;
     }
     if !write_answers(rt, answers, answered.packets) {
-        return Input::Over;
+        return None;
     }
-    Input::Held(keep_rest(block, answered.bytes, end))
+    Some(keep_rest(block, answered.bytes, end))
 }
 
 // Reads, and decides what was read.
@@ -117,13 +109,11 @@ fn turn(
     block: &mut [u8; BLOCK],
     answers: &mut [u32; MOST],
     held: usize,
-) -> Input
+) -> Option<usize>
     requires { held ≤ 1048576 }
-    ensures { HeldWithin 1048576 result }
+    ensures { IfSome result (λ n. n ≤ 1048576) }
 {
-    let Input::Held(end) = fill(rt, input, block, held) else {
-        return Input::Over;
-    };
+    let end = fill(rt, input, block, held)?;
     decide(rt, book, rules, block, answers, end)
 }
 
@@ -135,7 +125,7 @@ fn run(rt: &(impl Print + Eprint), input: &mut impl Read, book: &[u8], rules: Ru
     let mut held = 0;
     let mut turns = u64::MAX;
     while turns > 0 {
-        let Input::Held(n) = turn(rt, input, book, rules, &mut block, &mut answers, held) else {
+        let Some(n) = turn(rt, input, book, rules, &mut block, &mut answers, held) else {
             return;
         };
         held = n;
@@ -152,16 +142,15 @@ fn run_book(rt: &(impl Print + Eprint), input: &mut impl Read, room: &[u8; ROOM]
     let loaded = load(book);
     let judgement = loaded.judgement;
     match judgement {
-        Judgement::Accepted(_) => run(rt, input, book, loaded.rules),
-        Judgement::Refused(_, _) => write_book(rt, book),
+        Ok(_) => run(rt, input, book, loaded.rules),
+        Err(_) => write_book(rt, book),
     }
 }
 
 fn main(rt: HostRuntime) {
     let mut room = [0u8; ROOM];
     let file = read_book(&rt, &mut room);
-    match file {
-        BookFile::Read(n) => run_book(&rt, &mut rt.stdin(), &room, n),
-        BookFile::Unread => {}
+    if let Some(n) = file {
+        run_book(&rt, &mut rt.stdin(), &room, n);
     }
 }

@@ -5,7 +5,7 @@
 ghost use Rattle.std.specs.Prelude.{◌≤◌};
 
 use book_answers::answer_book;
-use book_file::{BookFile, ROOM, read_book};
+use book_file::{ROOM, read_book};
 
 // Bytes of the answer's buffer: the longest answer has 42.
 const ANSWER: usize = 64;
@@ -25,8 +25,7 @@ fn write_answer(rt: &(impl Print + Eprint), room: &[u8; ROOM], n: usize)
 fn main(rt: HostRuntime) {
     let mut room = [0u8; ROOM];
     let file = read_book(&rt, &mut room);
-    match file {
-        BookFile::Read(n) => write_answer(&rt, &room, n),
-        BookFile::Unread => {}
+    if let Some(n) = file {
+        write_answer(&rt, &room, n);
     }
 }

@@ -1,4 +1,5 @@
 -- A book has at most 64 rules and is refused at line 65 at the latest, so its answer has at most 42 bytes.
+use Rattle.std.specs.Prelude.{Result, Ok, Err, ℕ}
 use mathlib.Core.Path.{◌≡◌, refl, ap, ◌∙◌}
 use mathlib.Core.Bool.{Bool, true, false, false≢true}
 use mathlib.Core.List.{List, [], ◌∷◌}
@@ -9,10 +10,6 @@ use lib.ListN.{length, length-append}
 use borrow.Author.Tests.{ltb-false}
 use Rattle.forms.specs.Bytes.{text}
 use Rattle.forms.proofs.Bools.{by_cases}
-use Rattle.definitions.specs.declared.answers.Check.{Check}
-use Rattle.definitions.specs.declared.answers.Check.TheVariants.{Pass, Refuse}
-use Rattle.definitions.specs.declared.books.Judgement.{Judgement}
-use Rattle.definitions.specs.declared.books.Judgement.TheVariants.{Accepted, Refused}
 use Rattle.definitions.specs.Limits.{Limits, max_book, max_rules}
 use Rattle.definitions.specs.Canonical.{decimal}
 use Rattle.definitions.specs.Books.{book_lines, rule_number, line_check, unless_line, judge_lines, judge}
@@ -21,23 +18,25 @@ use Rattle.write_bytes.specs.Puts.{max_counted, Puts}
 use Rattle.write_bytes.proofs.Whole.{most_of, puts_count}
 use Rattle.line_refusals.proofs.Lengths.{refused_most}
 use Rattle.book_answers.specs.BookAnswers.{judgement_text, book_output}
+use Rattle.definitions.specs.declared.answers.BookRefusal.{BookRefusal}
+use Rattle.definitions.specs.declared.answers.Refusal.{Refusal}
 
 -- rules, or the line
-abbrev number_in : Judgement → ℕ
-number_in (Accepted n) = n
-number_in (Refused r line) = line
+abbrev number_in : Result ℕ BookRefusal → ℕ
+number_in (Ok n) = n
+number_in (Err e) = e.line
 
-abbrev passes : Check → Bool
-passes Pass = true
-passes (Refuse r) = false
+abbrev passes : Result Unit Refusal → Bool
+passes (Ok tt) = true
+passes (Err r) = false
 
-unless_most : (d : Check) (n : ℕ) (j : Judgement) → n ≤ 65 → (d ≡ Pass → number_in j ≤ 65) → number_in (unless_line d n j) ≤ 65
-unless_most Pass n j h g = g refl
-unless_most (Refuse r) n j h g = h
+unless_most : (d : Result Unit Refusal) (n : ℕ) (j : Result ℕ BookRefusal) → n ≤ 65 → (d ≡ Ok tt → number_in j ≤ 65) → number_in (unless_line d n j) ≤ 65
+unless_most (Ok tt) n j h g = g refl
+unless_most (Err r) n j h g = h
 
 module _ (lim : Limits) where
   -- a line that passes is none after the last rule
-  passed_few : (n last : ℕ) (l : List ℕ) → line_check lim n last l ≡ Pass → n ≤ max_rules
+  passed_few : (n last : ℕ) (l : List ℕ) → line_check lim n last l ≡ Ok tt → n ≤ max_rules
   unfolding line_check
   passed_few n last l e = by_cases (ltb max_rules n) (λ t. absurd (false≢true (ap passes (rw t at e)))) (λ f. ltb-false max_rules n f)
 
@@ -52,10 +51,10 @@ module _ (lim : Limits) where
   unfolding judge
   judged_most book = by_cases (ltb max_book (length book)) (λ t. rw t (omega arith)) (λ f. rw f (lines_most 0 0 (book_lines book) (omega arith)))
 
-text_most : (j : Judgement) → number_in j ≤ 65 → length (judgement_text j) ≤ 41
+text_most : (j : Result ℕ BookRefusal) → number_in j ≤ 65 → length (judgement_text j) ≤ 41
 unfolding judgement_text
-text_most (Accepted n) h = omega (arith, length-append (text "ok\t") (decimal n), decimal_most n (omega (arith, h)))
-text_most (Refused r line) h = refused_most r _ (omega (arith, h))
+text_most (Ok n) h = omega (arith, length-append (text "ok\t") (decimal n), decimal_most n (omega (arith, h)))
+text_most (Err e) h = refused_most e.refusal _ (omega (arith, h))
 
 pub answer_most : (lim : Limits) (book : List ℕ) → length (book_output lim book) ≤ 42
 unfolding book_output

@@ -5,21 +5,21 @@ ghost use Rattle.definitions.specs.Limits.{document_limits};
 ghost use Rattle.write_bytes.specs.Puts.{Puts};
 ghost use Rattle.book_answers.specs.BookAnswers.{judgement_text, book_output};
 
-use definitions::books::Judgement;
 use line_refusals::put_refused;
 use rule_book::judge;
 use write_bytes::{put, put_decimal, put_word};
+use definitions::answers::BookRefusal;
 
 // `ok`, tab and the number of rules; or the refusal, tab and the line.
-fn put_judgement(out: &mut [u8], at: usize, j: Judgement) -> usize
+fn put_judgement(out: &mut [u8], at: usize, j: Result<usize, BookRefusal>) -> usize
     ensures { Puts out.old at (judgement_text j) out.new result }
 {
     match j {
-        Judgement::Accepted(n) => {
+        Ok(n) => {
             let a1 = put_word(out, at, b"ok\t");
             put_decimal(out, a1, n as u64)
         }
-        Judgement::Refused(r, line) => put_refused(out, at, r, line),
+        Err(e) => put_refused(out, at, e.refusal, e.line),
     }
 }
 

@@ -1,8 +1,7 @@
 // The file that an argument of the program names, read into lent room.
 #![tactic(auto)]
 
-ghost use Rattle.std.specs.Prelude.{◌≤◌, IfOk, length};
-ghost use Rattle.book_file.specs.Counted.{CountWithin};
+ghost use Rattle.std.specs.Prelude.{◌≤◌, IfOk, IfSome, length};
 
 use std::fs::OpenOptions;
 use std::io::Read;
@@ -14,13 +13,6 @@ pub const ROOM: usize = 65537;
 
 // Bytes of an argument: no path that the system takes has as many.
 const PATH: usize = 8192;
-
-// How many bytes came, or that the file can't be read.
-#[derive(Clone, Copy)]
-pub enum BookFile {
-    Read(usize),
-    Unread,
-}
 
 // Reads until the room is full or the input ends, and counts the bytes. A read that fails is not the end of the input.
 pub fn read_into(input: &mut impl Read, room: &mut [u8]) -> io::Result<usize>
@@ -37,39 +29,30 @@ pub fn read_into(input: &mut impl Read, room: &mut [u8]) -> io::Result<usize>
     Ok(done)
 }
 
-// The same, where it doesn't matter why a read failed.
-pub fn read_all(input: &mut impl Read, room: &mut [u8]) -> BookFile
-    ensures { CountWithin (length room.old) result }
+// The same, where it doesn't matter why a read failed: none then.
+pub fn read_all(input: &mut impl Read, room: &mut [u8]) -> Option<usize>
+    ensures { IfSome result (λ n. n ≤ length room.old) }
 {
-    match read_into(input, room) {
-        Ok(n) => BookFile::Read(n),
-        Err(_) => BookFile::Unread,
-    }
+    read_into(input, room).ok()
 }
 
-// Reads the file that the first argument names. Nothing says what is read, but the count is within the room. The host itself is asked, and no bound of it:
+// Reads the file that the first argument names; none where it can't be read. Nothing says what is read, but the count is within the room. The host itself is asked, and no bound of it:
 // the bound `Files` would have the program rest on every call on files.
-pub fn read_book(rt: &HostRuntime, room: &mut [u8; ROOM]) -> BookFile
-    ensures { CountWithin 65537 result }
+pub fn read_book(rt: &HostRuntime, room: &mut [u8; ROOM]) -> Option<usize>
+    ensures { IfSome result (λ n. n ≤ 65537) }
 {
     read_argument(rt, 1, room)
 }
 
 // Reads the file that an argument names, the first of them 1, likewise.
-pub fn read_argument(rt: &HostRuntime, argument: usize, room: &mut [u8; ROOM]) -> BookFile
-    ensures { CountWithin 65537 result }
+pub fn read_argument(rt: &HostRuntime, argument: usize, room: &mut [u8; ROOM]) -> Option<usize>
+    ensures { IfSome result (λ n. n ≤ 65537) }
 {
     let mut bytes = [0u8; PATH];
-    let Ok(n) = rt.arg(argument, &mut bytes) else {
-        return BookFile::Unread;
-    };
-    let Ok(path) = str::from_utf8(&bytes[..n]) else {
-        return BookFile::Unread;
-    };
+    let n = rt.arg(argument, &mut bytes).ok()?;
+    let path = str::from_utf8(&bytes[..n]).ok()?;
     let mut how = OpenOptions::new();
     how.read(true);
-    let Ok(mut file) = rt.open_file(&how, path) else {
-        return BookFile::Unread;
-    };
+    let mut file = rt.open_file(&how, path).ok()?;
     read_all(&mut file, room)
 }

@@ -1,10 +1,10 @@
 -- A BLOCK'S ANSWERS ARE THOSE OF `decide`, PACKET BY PACKET: for a loaded book that is accepted, each number is that of the book's decision on its packet.
 -- Document 02, T-03.
+use Rattle.std.specs.Prelude.{Ok}
 use mathlib.Core.Path.{◌≡◌, refl, sym, ap, ◌∙◌, fun_ext}
 use mathlib.Core.List.{List, ◌++◌, map}
 use Prim.Native.Nat.{ℕ}
 use lib.ListN.{length, drop}
-use Rattle.definitions.specs.declared.books.Judgement.TheVariants.{Accepted}
 use Rattle.definitions.specs.Limits.{Limits}
 use Rattle.definitions.specs.Books.{Rule, rules_of, judge}
 use Rattle.definitions.specs.Decisions.{decision}
@@ -17,7 +17,7 @@ use Rattle.book_laws.proofs.Deciding.{by_rules}
 abbrev pub decision_on : Limits → List ℕ → PacketRecord → ℕ
 decision_on lim book k = decision_number (decision lim k.packet k.decoded k.direction k.fields book)
 
-pub block_decides : (lim : Limits) (book : List ℕ) (n : ℕ) → judge lim book ≡ Accepted n → (block out : List ℕ)
+pub block_decides : (lim : Limits) (book : List ℕ) (n : ℕ) → judge lim book ≡ Ok n → (block out : List ℕ)
     → block_numbers lim (rules_in book (loaded lim book).rules) block out
     ≡ map (decision_on lim book) (records_up_to (length out) block) ++ drop (length (records_up_to (length out) block)) out
 unfolding block_numbers record_number

@@ -1,6 +1,6 @@
 -- NO NUMBER IS GIVEN FOR ANOTHER CAUSE: a book's judgement, and so a decision, has number 0, 1 to 12 or 50 to 53 (`judge_causes`, `decision_causes`). 50 has line 0,
 -- every other refusal a line from 1 to 65 that the book has (`refused_line_lem`). Document 02, T-03.
-use Rattle.std.specs.Prelude.{if◌then◌else◌}
+use Rattle.std.specs.Prelude.{if◌then◌else◌, Result, Ok, Err, ℕ}
 use mathlib.Core.Path.{◌≡◌, refl, ap, ◌∙◌}
 use mathlib.Core.Logic.{◌⊎◌, inl, inr}
 use mathlib.Core.Bool.{Bool, true, false, not, false≢true}
@@ -15,14 +15,9 @@ use Rattle.definitions.specs.declared.packets.Direction.{Direction}
 use Rattle.definitions.specs.declared.packets.FieldMap.{FieldMap}
 use Rattle.definitions.specs.declared.answers.Refusal.{Refusal}
 use Rattle.definitions.specs.declared.answers.Refusal.TheVariants as refusal
-use Rattle.definitions.specs.declared.answers.Check.{Check}
-use Rattle.definitions.specs.declared.answers.Check.TheVariants as check
-use Rattle.definitions.specs.declared.answers.ReadOutcome.{ReadOutcome}
-use Rattle.definitions.specs.declared.answers.ReadOutcome.TheVariants as outcome
-use Rattle.definitions.specs.declared.books.Judgement.{Judgement}
-use Rattle.definitions.specs.declared.books.Judgement.TheVariants as judgement
 use Rattle.definitions.specs.declared.books.Decision.{Decision}
-use Rattle.definitions.specs.declared.books.Decision.TheVariants as decided
+use Rattle.definitions.specs.declared.answers.BookRefusal.{BookRefusal}
+use Rattle.definitions.specs.declared.answers.TextRefusal.{TextRefusal}
 use Rattle.definitions.specs.Limits.{Limits, max_book, max_rules}
 use Rattle.definitions.specs.Lists.{any?, all?}
 use Rattle.definitions.specs.Refusals.{number_of, check_number, read_number}
@@ -37,17 +32,17 @@ abbrev pub book_causes : List ℕ
 book_causes = 0 ∷ 1 ∷ 2 ∷ 3 ∷ 4 ∷ 5 ∷ 6 ∷ 7 ∷ 8 ∷ 9 ∷ 10 ∷ 11 ∷ 12 ∷ 50 ∷ 51 ∷ 52 ∷ 53 ∷ []
 
 -- the number of a judgement, and of a decision
-abbrev pub judgement_number : Judgement → ℕ
-judgement_number (judgement.Accepted n) = 0
-judgement_number (judgement.Refused r line) = number_of r
+abbrev pub judgement_number : Result ℕ BookRefusal → ℕ
+judgement_number (Ok n) = 0
+judgement_number (Err e) = number_of e.refusal
 
-abbrev pub decision_refusal : Decision → ℕ
-decision_refusal (decided.Decided a n) = 0
-decision_refusal (decided.Refused r line) = number_of r
+abbrev pub decision_refusal : Result Decision BookRefusal → ℕ
+decision_refusal (Ok d) = 0
+decision_refusal (Err e) = number_of e.refusal
 
-text_number : (o : ReadOutcome) → check_number (text_check o) ≡ read_number o
-text_number outcome.Accepted = refl
-text_number (outcome.Refused r p) = refl
+text_number : (o : Result Unit TextRefusal) → check_number (text_check o) ≡ read_number o
+text_number (Ok tt) = refl
+text_number (Err e) = refl
 
 none_among : among book_causes 0 ≡ true
 unfolding any?
@@ -62,21 +57,21 @@ line_among lim n last l =
     (ap (among book_causes) (text_number (read lim (rule_source l)).outcome)
     ∙ among_more read_causes book_causes (read_number (read lim (rule_source l)).outcome) refl (read_causes_lem lim (rule_source l)))))
 
-accepted_not : {A : Type 0} (n : ℕ) (r : Refusal) (line : ℕ) → judgement.Accepted n ≡ judgement.Refused r line → A
+accepted_not : {A : Type 0} (n : ℕ) (r : Refusal) (line : ℕ) → Ok n ≡ Err (record { refusal = r; line = line }) → A
 accepted_not n r line e = let z : false ≡ true = cc in absurd (false≢true z)
 
-refused_at_lem : (c r : Refusal) (n line : ℕ) → judgement.Refused c n ≡ judgement.Refused r line → n ≡ line
+refused_at_lem : (c r : Refusal) (n line : ℕ) → Err (record { refusal = c; line = n }) ≡ Err (record { refusal = r; line = line }) → n ≡ line
 refused_at_lem c r n line e = cc
 
 -- a line that passes is not the 65th
-line_few : (lim : Limits) (n last : ℕ) (l : List ℕ) → line_check lim (suc n) last l ≡ check.Pass → suc n ≤ max_rules
+line_few : (lim : Limits) (n last : ℕ) (l : List ℕ) → line_check lim (suc n) last l ≡ Ok tt → suc n ≤ max_rules
 unfolding line_check
 line_few lim n last l e = ltb-false max_rules (suc n) (refuse_fine (ltb max_rules (suc n)) refusal.RuleCount _ e).0
 
-unless_among : (d : Check) (n : ℕ) (j : Judgement) → CheckAmong book_causes d → among book_causes (judgement_number j) ≡ true
+unless_among : (d : Result Unit Refusal) (n : ℕ) (j : Result ℕ BookRefusal) → CheckAmong book_causes d → among book_causes (judgement_number j) ≡ true
     → among book_causes (judgement_number (unless_line d n j)) ≡ true
-unless_among check.Pass n j h g = g
-unless_among (check.Refuse r) n j h g = h
+unless_among (Ok tt) n j h g = g
+unless_among (Err r) n j h g = h
 
 lines_among : (lim : Limits) (n last : ℕ) (ls : List (List ℕ)) → among book_causes (judgement_number (judge_lines lim n last ls)) ≡ true
 unfolding judge_lines
@@ -102,38 +97,38 @@ module _ (lim : Limits) (book : List ℕ) where
   unfolding decision
   decision_causes p decoded dir m = go (judge lim book) judge_causes
     where
-      go : (j : Judgement) → among book_causes (judgement_number j) ≡ true
+      go : (j : Result ℕ BookRefusal) → among book_causes (judgement_number j) ≡ true
           → among book_causes (decision_refusal (decided_if lim p decoded dir m j (rules_of book))) ≡ true
-      go (judgement.Accepted n) h = ap (among book_causes) (rules_none p decoded dir m (rules_of book)) ∙ none_among
-      go (judgement.Refused r line) h = h
+      go (Ok n) h = ap (among book_causes) (rules_none p decoded dir m (rules_of book)) ∙ none_among
+      go (Err e) h = h
 
 -- ---- lines
 
 -- a refusal of some lines, of which n stand before
-lines_within : (lim : Limits) (n last : ℕ) (ls : List (List ℕ)) (r : Refusal) (line : ℕ) → n ≤ max_rules → judge_lines lim n last ls ≡ judgement.Refused r line
+lines_within : (lim : Limits) (n last : ℕ) (ls : List (List ℕ)) (r : Refusal) (line : ℕ) → n ≤ max_rules → judge_lines lim n last ls ≡ Err (record { refusal = r; line = line })
     → (n < line) × (line ≤ n + length ls) × (line ≤ suc max_rules)
 unfolding judge_lines
 lines_within lim n last [] r line few e = absurd (accepted_not n r line e)
 lines_within lim n last (l ∷ ls) r line few e =
     go (line_check lim (suc n) last l) refl e (λ m k. lines_within lim (suc n) (rule_number l) ls r line m k)
   where
-    go : (d : Check) → line_check lim (suc n) last l ≡ d → unless_line d (suc n) (judge_lines lim (suc n) (rule_number l) ls) ≡ judgement.Refused r line
-        → (suc n ≤ max_rules → judge_lines lim (suc n) (rule_number l) ls ≡ judgement.Refused r line
+    go : (d : Result Unit Refusal) → line_check lim (suc n) last l ≡ d → unless_line d (suc n) (judge_lines lim (suc n) (rule_number l) ls) ≡ Err (record { refusal = r; line = line })
+        → (suc n ≤ max_rules → judge_lines lim (suc n) (rule_number l) ls ≡ Err (record { refusal = r; line = line })
         → (suc n < line) × (line ≤ suc n + length ls) × (line ≤ suc max_rules))
         → (n < line) × (line ≤ n + length (l ∷ ls)) × (line ≤ suc max_rules)
-    go check.Pass q k rest =
+    go (Ok tt) q k rest =
         let w = rest (line_few lim n last l q) k in
         (omega (arith, w.0), omega (arith, w.1), w.2)
-    go (check.Refuse c) q k rest =
+    go (Err c) q k rest =
         let z : suc n ≡ line = refused_at_lem c r (suc n) line k in
         (omega (arith, z), omega (arith, z), omega (arith, z, few))
 
-pub refused_line_lem : (lim : Limits) (book : List ℕ) (r : Refusal) (line : ℕ) → judge lim book ≡ judgement.Refused r line
+pub refused_line_lem : (lim : Limits) (book : List ℕ) (r : Refusal) (line : ℕ) → judge lim book ≡ Err (record { refusal = r; line = line })
     → ((r ≡ refusal.BookLength) × (line ≡ 0)) ⊎ ((0 < line) × (line ≤ length (book_lines book)) × (line ≤ suc max_rules))
 unfolding judge
 refused_line_lem lim book r line e = go (ltb max_book (length book)) e
   where
-    go : (b : Bool) → (if b then judgement.Refused refusal.BookLength 0 else judge_lines lim 0 0 (book_lines book)) ≡ judgement.Refused r line
+    go : (b : Bool) → (if b then Err (record { refusal = refusal.BookLength; line = 0 }) else judge_lines lim 0 0 (book_lines book)) ≡ Err (record { refusal = r; line = line })
         → ((r ≡ refusal.BookLength) × (line ≡ 0)) ⊎ ((0 < line) × (line ≤ length (book_lines book)) × (line ≤ suc max_rules))
     go true k = inl (cc, cc)
     go false k =

@@ -1,7 +1,7 @@
 -- WHICH RULE DECIDES. For an accepted book the decision is that of the lowest numbered rule that is on and has a placement (`decides_exactly`), and hold with 0
 -- exactly if there is none (`holds_exactly`). A refused book's answer is its refusal, whatever the packet (`refused_alone`). A packet for which 30 to 35 is due is
 -- held with 0 by every accepted book (`refused_packet_held`). By the rising numbers, the first rule of the list that decides is the lowest. Document 02, T-03.
-use Rattle.std.specs.Prelude.{if◌then◌else◌}
+use Rattle.std.specs.Prelude.{if◌then◌else◌, Result, Ok, Err}
 use mathlib.Core.Path.{◌≡◌, refl, sym, ap, subst, ◌∙◌}
 use mathlib.Core.Logic.{◌↔◌, ◌⊎◌, inl, inr, ⊎_elim}
 use mathlib.Core.Bool.{Bool, true, false, not, ◌&&◌, true≢false, false≢true, and-false}
@@ -18,14 +18,11 @@ use Rattle.definitions.specs.declared.packets.FieldMap.{FieldMap}
 use Rattle.definitions.specs.declared.table.Table.{Table}
 use Rattle.definitions.specs.declared.answers.Refusal.{Refusal}
 use Rattle.definitions.specs.declared.answers.Refusal.TheVariants as refusal
-use Rattle.definitions.specs.declared.answers.Check.{Check}
-use Rattle.definitions.specs.declared.answers.Check.TheVariants as check
 use Rattle.definitions.specs.declared.packets.Start.{Start}
 use Rattle.definitions.specs.declared.books.Action.{Action}
 use Rattle.definitions.specs.declared.books.Action.TheVariants.{Pass, Hold}
-use Rattle.definitions.specs.declared.books.Judgement.TheVariants as judgement
 use Rattle.definitions.specs.declared.books.Decision.{Decision}
-use Rattle.definitions.specs.declared.books.Decision.TheVariants.{Decided, Refused}
+use Rattle.definitions.specs.declared.answers.BookRefusal.{BookRefusal}
 use Rattle.definitions.specs.Limits.{Limits}
 use Rattle.definitions.specs.Refusals.{refuse_if, and_then}
 use Rattle.definitions.specs.Reading.{read}
@@ -38,13 +35,13 @@ use Rattle.definitions.specs.Decisions.{is_on, is_met, decides, decided, decisio
 use Rattle.book_laws.proofs.Rising.{Rises, rises_over, rules_rise}
 
 -- a decision's action and rule
-abbrev rule_in : Decision → ℕ
-rule_in (Decided a n) = n
-rule_in (Refused r line) = 0
+abbrev rule_in : Result Decision BookRefusal → ℕ
+rule_in (Ok d) = d.rule
+rule_in (Err e) = 0
 
-abbrev action_in : Decision → Action
-action_in (Decided a n) = a
-action_in (Refused r line) = Hold
+abbrev action_in : Result Decision BookRefusal → Action
+action_in (Ok d) = d.action
+action_in (Err e) = Hold
 
 module _ (lim : Limits) (p decoded : List ℕ) (dir : Direction) (m : FieldMap) where
   -- the lowest numbered rule of a list that decides
@@ -55,17 +52,17 @@ module _ (lim : Limits) (p decoded : List ℕ) (dir : Direction) (m : FieldMap) 
 
   -- ---- of a list of rules whose numbers rise
 
-  pub none_decides : (rs : List Rule) → ((r : Rule) → Mem r rs → decides lim p decoded dir m r ≡ false) → decided lim p decoded dir m rs ≡ Decided Hold 0
+  pub none_decides : (rs : List Rule) → ((r : Rule) → Mem r rs → decides lim p decoded dir m r ≡ false) → decided lim p decoded dir m rs ≡ Ok (record { action = Hold; rule = 0 })
   unfolding decided
   none_decides [] f = refl
   none_decides (r ∷ rs) f = rw (f r (here refl)) (none_decides rs (λ s n. f s (there n)))
 
-  lowest_decides : (last : ℕ) (rs : List Rule) → Rises last rs → (r : Rule) → Lowest rs r → decided lim p decoded dir m rs ≡ Decided r.action r.number
+  lowest_decides : (last : ℕ) (rs : List Rule) → Rises last rs → (r : Rule) → Lowest rs r → decided lim p decoded dir m rs ≡ Ok (record { action = r.action; rule = r.number })
   unfolding decided Rises
   lowest_decides last [] h r w = absurd (not-nil w.listed)
   lowest_decides last (x ∷ rs) h r w =
       ⊎_elim
-      (λ e. subst (λ (y : Rule). decided lim p decoded dir m (y ∷ rs) ≡ Decided r.action r.number) e (rw w.deciding))
+      (λ e. subst (λ (y : Rule). decided lim p decoded dir m (y ∷ rs) ≡ Ok (record { action = r.action; rule = r.number })) e (rw w.deciding))
       (λ n. rw (w.lowest x (here refl) (rises_over x.number rs h.1 r n))
       (lowest_decides x.number rs h.1 r (record { listed = n; deciding = w.deciding; lowest = λ s k q. w.lowest s (there k) q })))
       (cases_cons w.listed)
@@ -99,34 +96,34 @@ module _ (lim : Limits) (p decoded : List ℕ) (dir : Direction) (m : FieldMap) 
 
   -- ---- of a packet for which 30 to 35 is due
 
-  refused_unmet : (r : Refusal) → and_then (packet_check p decoded) (fields_check (payload_of (datagram_of p)) decoded m) ≡ check.Refuse r
+  refused_unmet : (r : Refusal) → and_then (packet_check p decoded) (fields_check (payload_of (datagram_of p)) decoded m) ≡ Err r
       → (t : Table) → is_met (verdict_answer t p decoded dir m) ≡ false
   unfolding verdict_answer input_check
   refused_unmet r e t = rw e (unmet (not (well_formed t)) (placements_of t p decoded dir m))
     where
-      unmet : (b : Bool) (l : List (List Start)) → is_met (verdict_by (refuse_if b refusal.IllFormed (check.Refuse r)) l) ≡ false
+      unmet : (b : Bool) (l : List (List Start)) → is_met (verdict_by (refuse_if b refusal.IllFormed (Err r)) l) ≡ false
       unmet true l = refl
       unmet false l = refl
 
   -- no rule decides
-  refused_undecided : (r : Refusal) → and_then (packet_check p decoded) (fields_check (payload_of (datagram_of p)) decoded m) ≡ check.Refuse r
+  refused_undecided : (r : Refusal) → and_then (packet_check p decoded) (fields_check (payload_of (datagram_of p)) decoded m) ≡ Err r
       → (s : Rule) → decides lim p decoded dir m s ≡ false
   unfolding decides
   refused_undecided r e s = rw (refused_unmet r e (read lim s.source).table) (and-false (is_on s.state))
 
   -- ---- of a book
 
-  pub refused_alone : (book : List ℕ) (r : Refusal) (line : ℕ) → judge lim book ≡ judgement.Refused r line → decision lim p decoded dir m book ≡ Refused r line
+  pub refused_alone : (book : List ℕ) (r : Refusal) (line : ℕ) → judge lim book ≡ Err (record { refusal = r; line = line }) → decision lim p decoded dir m book ≡ Err (record { refusal = r; line = line })
   unfolding decision
   refused_alone book r line e = rw e
 
-  module _ (book : List ℕ) (n : ℕ) (accepted : judge lim book ≡ judgement.Accepted n) where
+  module _ (book : List ℕ) (n : ℕ) (accepted : judge lim book ≡ Ok n) where
     pub by_rules : decision lim p decoded dir m book ≡ decided lim p decoded dir m (rules_of book)
     unfolding decision
     by_rules = rw accepted
 
     pub decides_exactly : (a : Action) (k : ℕ)
-        → (decision lim p decoded dir m book ≡ Decided a (suc k))
+        → (decision lim p decoded dir m book ≡ Ok (record { action = a; rule = (suc k) }))
         ↔ ((r : Rule) × Lowest (rules_of book) r × (r.action ≡ a) × (r.number ≡ suc k))
     decides_exactly a k = (
       (λ e. ⊎_elim
@@ -138,7 +135,7 @@ module _ (lim : Limits) (p decoded : List ℕ) (dir : Direction) (m : FieldMap) 
     )
 
     pub holds_exactly : (a : Action)
-        → (decision lim p decoded dir m book ≡ Decided a 0)
+        → (decision lim p decoded dir m book ≡ Ok (record { action = a; rule = 0 }))
         ↔ ((a ≡ Hold) × ((r : Rule) → Mem r (rules_of book) → decides lim p decoded dir m r ≡ false))
     holds_exactly a = (
       (λ e. ⊎_elim
@@ -151,6 +148,6 @@ module _ (lim : Limits) (p decoded : List ℕ) (dir : Direction) (m : FieldMap) 
     )
 
     -- 30 to 35 are due of the packet: whatever the rules are
-    pub refused_packet_held : (r : Refusal) → and_then (packet_check p decoded) (fields_check (payload_of (datagram_of p)) decoded m) ≡ check.Refuse r
-        → decision lim p decoded dir m book ≡ Decided Hold 0
+    pub refused_packet_held : (r : Refusal) → and_then (packet_check p decoded) (fields_check (payload_of (datagram_of p)) decoded m) ≡ Err r
+        → decision lim p decoded dir m book ≡ Ok (record { action = Hold; rule = 0 })
     refused_packet_held r e = by_rules ∙ none_decides (rules_of book) (λ s k. refused_undecided r e s)

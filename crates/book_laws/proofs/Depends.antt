@@ -1,7 +1,7 @@
 -- WHAT A DECISION DEPENDS ON beside book, direction and map: the lent lengths, the packet's first four bytes, its datagram and the present fields
 -- (`decision_depends`). A rule on a field that is missing never decides (`missing_never`), whatever packet and decoded buffer hold. The user's first question, for a
 -- whole book. Document 02, T-03.
-use Rattle.std.specs.Prelude.{if◌then◌else◌}
+use Rattle.std.specs.Prelude.{if◌then◌else◌, Result, Ok, Err, ℕ}
 use mathlib.Core.Path.{◌≡◌, refl, ap, ◌∙◌}
 use mathlib.Core.Bool.{Bool, true, false, ◌&&◌, false≢true, and-false}
 use mathlib.Core.List.{List, [], ◌∷◌, Memᴰ as Mem}
@@ -12,8 +12,8 @@ use Rattle.definitions.specs.declared.table.Context.{Context}
 use Rattle.definitions.specs.declared.table.Slot.{Slot}
 use Rattle.definitions.specs.declared.answers.Verdict.{Verdict}
 use Rattle.definitions.specs.declared.answers.Verdict.TheVariants as verdict
-use Rattle.definitions.specs.declared.books.Judgement.{Judgement}
-use Rattle.definitions.specs.declared.books.Judgement.TheVariants as judgement
+use Rattle.definitions.specs.declared.answers.BookRefusal.{BookRefusal}
+use Rattle.definitions.specs.declared.answers.Refusal.{Refusal}
 use Rattle.definitions.specs.Limits.{Limits}
 use Rattle.definitions.specs.Reading.{read}
 use Rattle.definitions.specs.Items.{slots_of}
@@ -28,7 +28,7 @@ module _ (lim : Limits) (p p' decoded decoded' : List ℕ) (dir : Direction) (m 
   decides_same : (r : Rule) → decides lim p decoded dir m r ≡ decides lim p' decoded' dir m r
   unfolding decides
   decides_same r =
-      ap (λ (v : Verdict). is_on r.state && is_met v) (verdict_depends p p' decoded decoded' m h (read lim r.source).table dir)
+      ap (λ (v : Result Verdict Refusal). is_on r.state && is_met v) (verdict_depends p p' decoded decoded' m h (read lim r.source).table dir)
 
   decided_same : (rs : List Rule) → decided lim p decoded dir m rs ≡ decided lim p' decoded' dir m rs
   unfolding decided
@@ -39,9 +39,9 @@ module _ (lim : Limits) (p p' decoded decoded' : List ℕ) (dir : Direction) (m 
   unfolding decision
   decision_depends book = go (judge lim book)
     where
-      go : (j : Judgement) → decided_if lim p decoded dir m j (rules_of book) ≡ decided_if lim p' decoded' dir m j (rules_of book)
-      go (judgement.Accepted n) = decided_same (rules_of book)
-      go (judgement.Refused r line) = refl
+      go : (j : Result ℕ BookRefusal) → decided_if lim p decoded dir m j (rules_of book) ≡ decided_if lim p' decoded' dir m j (rules_of book)
+      go (Ok n) = decided_same (rules_of book)
+      go (Err e) = refl
 
 -- a pattern, negated or not, or a data_size on an absent field
 pub missing_never : (lim : Limits) (r : Rule) (sl : Slot) (c : Context) → Mem sl (slots_of (read lim r.source).table) → Mem c (fields_of sl.item)
@@ -51,7 +51,7 @@ missing_never lim r sl c used looks m absent p decoded dir =
     rw (unmet (verdict_answer (read lim r.source).table p decoded dir m)
     (absent_verdict (read lim r.source).table sl c used looks m absent p decoded dir)) (and-false (is_on r.state))
   where
-    unmet : (v : Verdict) → (v ≡ verdict.Met → ⊥) → is_met v ≡ false
-    unmet verdict.Met f = absurd (f refl)
-    unmet verdict.NotMet f = refl
-    unmet (verdict.Refused c) f = refl
+    unmet : (v : Result Verdict Refusal) → (v ≡ Ok verdict.Met → ⊥) → is_met v ≡ false
+    unmet (Ok verdict.Met) f = absurd (f refl)
+    unmet (Ok verdict.NotMet) f = refl
+    unmet (Err c) f = refl

@@ -1,5 +1,6 @@
 -- WHAT A LOADED BOOK SAYS IS WHAT THE BOOK SAYS: the rules of an accepted book are those of its lines (`loaded_rules`), and a refused one has none
 -- (`refused_rules`). Each text is found again where its line stands, since the lines one after the other are the book.
+use Rattle.std.specs.Prelude.{Result, Ok, Err, ℕ}
 use mathlib.Core.Path.{◌≡◌, refl, sym, ap, ◌∙◌}
 use mathlib.Core.List.{List, [], ◌∷◌, ◌++◌, map, append_assoc}
 use Prim.Native.Nat.{ℕ, ◌+◌, ◌-◌, ◌≤◌}
@@ -7,9 +8,8 @@ use native.Mathlib.Omega.{arith}
 use lib.ListN.{length, take, drop, length-append, length-drop, replicate}
 use lib.Seq.{take-append-le, drop-append-le, drop-append-add, take-append_seam}
 use Rattle.definitions.specs.declared.answers.Refusal.{Refusal}
-use Rattle.definitions.specs.declared.books.Judgement.{Judgement}
-use Rattle.definitions.specs.declared.books.Judgement.TheVariants.{Accepted, Refused}
 use Rattle.definitions.specs.declared.books.LoadedRule.{LoadedRule}
+use Rattle.definitions.specs.declared.answers.BookRefusal.{BookRefusal}
 use Rattle.definitions.specs.Limits.{Limits, max_rules}
 use Rattle.definitions.specs.Books.{Rule, book_lines, rule_source, rule_of, rules_of, judge}
 use Rattle.definitions.specs.LoadedBooks.{rule_at, rules_in, source_start, loaded_at, loaded_from, unused_rule, rules_with, loaded_if, loaded}
@@ -45,14 +45,14 @@ unfolding rules_in
 in_use book rs = ap (map (rule_at book)) (take-append_seam rs (replicate (max_rules - length rs) unused_rule))
 
 module _ (lim : Limits) (book : List ℕ) where
-  pub loaded_rules : (n : ℕ) → judge lim book ≡ Accepted n → rules_in book (loaded lim book).rules ≡ rules_of book
+  pub loaded_rules : (n : ℕ) → judge lim book ≡ Ok n → rules_in book (loaded lim book).rules ≡ rules_of book
   unfolding loaded rules_of
   loaded_rules n e =
       rw e (in_use book (loaded_from 0 (book_lines book))
       ∙ ap (λ (s : List ℕ). map (rule_at s) (loaded_from 0 (book_lines book))) (sym (lines_joined book))
       ∙ rules_found [] (book_lines book))
 
-  pub refused_rules : (r : Refusal) (line : ℕ) → judge lim book ≡ Refused r line → rules_in book (loaded lim book).rules ≡ []
+  pub refused_rules : (r : Refusal) (line : ℕ) → judge lim book ≡ Err (record { refusal = r; line = line }) → rules_in book (loaded lim book).rules ≡ []
   unfolding loaded
   refused_rules r line e = rw e (in_use book [])
 
@@ -61,6 +61,6 @@ module _ (lim : Limits) (book : List ℕ) where
   unfolding loaded
   loaded_judgement = judgement-kept (judge lim book)
     where
-      judgement-kept : (j : Judgement) → (loaded_if j (loaded_from 0 (book_lines book))).judgement ≡ j
-      judgement-kept (Accepted n) = refl
-      judgement-kept (Refused r line) = refl
+      judgement-kept : (j : Result ℕ BookRefusal) → (loaded_if j (loaded_from 0 (book_lines book))).judgement ≡ j
+      judgement-kept (Ok n) = refl
+      judgement-kept (Err e) = refl

@@ -1,5 +1,5 @@
 -- The numbers of an accepted book's rules rise from 1 on (`rules_rise`): each line's is compared with the one before.
-use Rattle.std.specs.Prelude.{if◌then◌else◌}
+use Rattle.std.specs.Prelude.{if◌then◌else◌, Result, Ok, Err, ℕ}
 use mathlib.Core.Path.{◌≡◌, refl, sym, ◌∙◌}
 use mathlib.Core.Logic.{⊎_elim}
 use mathlib.Core.Bool.{Bool, true, false, not, false≢true}
@@ -13,10 +13,7 @@ use lib.Dec.{ltb, leb}
 use borrow.Author.Tests.{leb-false}
 use Rattle.definitions.specs.declared.answers.Refusal.{Refusal}
 use Rattle.definitions.specs.declared.answers.Refusal.TheVariants as refusal
-use Rattle.definitions.specs.declared.answers.Check.{Check}
-use Rattle.definitions.specs.declared.answers.Check.TheVariants.{Pass, Refuse}
-use Rattle.definitions.specs.declared.books.Judgement.{Judgement}
-use Rattle.definitions.specs.declared.books.Judgement.TheVariants.{Accepted, Refused}
+use Rattle.definitions.specs.declared.answers.BookRefusal.{BookRefusal}
 use Rattle.definitions.specs.Limits.{Limits, max_book, max_rules}
 use Rattle.definitions.specs.Reading.{read}
 use Rattle.definitions.specs.Books.{Rule, book_lines, is_rule, rule_number, rule_source, rule_of, rules_of, text_check, line_check, unless_line, judge_lines, judge}
@@ -37,23 +34,23 @@ rises_over last (x ∷ rs) h r m =
     (λ n. omega (arith, h.0, rises_over x.number rs h.1 r n))
     (cases_cons m)
 
-refused_not : {A : Type 0} (r : Refusal) (line n : ℕ) → Refused r line ≡ Accepted n → A
+refused_not : {A : Type 0} (r : Refusal) (line n : ℕ) → Err (record { refusal = r; line = line }) ≡ Ok n → A
 refused_not r line n e = let z : false ≡ true = cc in absurd (false≢true z)
 
-pub passed_line : (d : Check) (n k : ℕ) (j : Judgement) → unless_line d n j ≡ Accepted k → (d ≡ Pass) × (j ≡ Accepted k)
-passed_line Pass n k j e = (refl, e)
-passed_line (Refuse r) n k j e = refused_not r n k e
+pub passed_line : (d : Result Unit Refusal) (n k : ℕ) (j : Result ℕ BookRefusal) → unless_line d n j ≡ Ok k → (d ≡ Ok tt) × (j ≡ Ok k)
+passed_line (Ok tt) n k j e = (refl, e)
+passed_line (Err r) n k j e = refused_not r n k e
 
 module _ (lim : Limits) where
   -- the number of a line that passes is larger
-  line_rises : (n last : ℕ) (l : List ℕ) → line_check lim n last l ≡ Pass → last < rule_number l
+  line_rises : (n last : ℕ) (l : List ℕ) → line_check lim n last l ≡ Ok tt → last < rule_number l
   unfolding line_check
   line_rises n last l e =
       let a = (refuse_fine (ltb max_rules n) refusal.RuleCount _ e).1 in
       let b = (refuse_fine (not (is_rule l)) refusal.RuleForm _ a).1 in
       leb-false (rule_number l) last (refuse_fine (leb (rule_number l) last) refusal.RuleOrder _ b).0
 
-  lines_rise : (n last : ℕ) (ls : List (List ℕ)) (k : ℕ) → judge_lines lim n last ls ≡ Accepted k → Rises last (map rule_of ls)
+  lines_rise : (n last : ℕ) (ls : List (List ℕ)) (k : ℕ) → judge_lines lim n last ls ≡ Ok k → Rises last (map rule_of ls)
   unfolding judge_lines Rises rule_of
   lines_rise n last [] k e = tt
   lines_rise n last (l ∷ ls) k e =
@@ -61,16 +58,16 @@ module _ (lim : Limits) where
       (line_rises (suc n) last l w.0, lines_rise (suc n) (rule_number l) ls k w.1)
 
   -- an accepted book is not too long, and each of its lines passes
-  pub accepted_book : (book : List ℕ) (n : ℕ) → judge lim book ≡ Accepted n
-      → (ltb max_book (length book) ≡ false) × (judge_lines lim 0 0 (book_lines book) ≡ Accepted n)
+  pub accepted_book : (book : List ℕ) (n : ℕ) → judge lim book ≡ Ok n
+      → (ltb max_book (length book) ≡ false) × (judge_lines lim 0 0 (book_lines book) ≡ Ok n)
   unfolding judge
   accepted_book book n e = go (ltb max_book (length book)) e
     where
-      go : (b : Bool) → (if b then Refused refusal.BookLength 0 else judge_lines lim 0 0 (book_lines book)) ≡ Accepted n
-          → (b ≡ false) × (judge_lines lim 0 0 (book_lines book) ≡ Accepted n)
+      go : (b : Bool) → (if b then Err (record { refusal = refusal.BookLength; line = 0 }) else judge_lines lim 0 0 (book_lines book)) ≡ Ok n
+          → (b ≡ false) × (judge_lines lim 0 0 (book_lines book) ≡ Ok n)
       go true h = refused_not refusal.BookLength 0 n h
       go false h = (refl, h)
 
-  pub rules_rise : (book : List ℕ) (n : ℕ) → judge lim book ≡ Accepted n → Rises 0 (rules_of book)
+  pub rules_rise : (book : List ℕ) (n : ℕ) → judge lim book ≡ Ok n → Rises 0 (rules_of book)
   unfolding rules_of
   rules_rise book n e = lines_rise 0 0 (book_lines book) n (accepted_book book n e).1

@@ -1,4 +1,5 @@
 -- A rule from its columns: with the LF, the tabs and the parts before the third of their forms the line is a rule, and without one of them it is none.
+use Rattle.std.specs.Prelude.{Some, None}
 use mathlib.Core.Path.{◌≡◌, sym, ap, ◌∙◌}
 use mathlib.Core.Bool.{true, false, false≢true}
 use mathlib.Core.List.{List}
@@ -13,25 +14,21 @@ use Rattle.definitions.specs.Books.{is_state, state_of, is_action, action_of, is
 use Rattle.definitions.specs.LoadedBooks.{source_start, loaded_at}
 use Rattle.line_parts.proofs.Delimiters.{after_le}
 use Rattle.line_parts.proofs.Results.{failed_test, parsed_test, parsed_value}
-use Rattle.line_numbers.specs.declared.decimals.NumberResult.TheVariants as number
-use Rattle.book_rules.specs.declared.StateResult.TheVariants as state
-use Rattle.book_rules.specs.declared.ActionResult.TheVariants as action
-use Rattle.book_rules.specs.declared.RuleResult.TheVariants.{Parsed, Failed}
 use Rattle.book_rules.specs.RuleLines.{parsed_rule_number, parsed_state, parsed_action, parsed_rule}
 use Rattle.book_rules.proofs.RuleNumbers.{failed_number, parsed_number_lem, number_value}
 
 -- ---- what the answers for state and action tell
 
-state_apart : (v : State) → state.Parsed v ≡ state.Failed → ⊥
+state_apart : (v : State) → Some v ≡ None → ⊥
 state_apart v e = false≢true cc
 
-state_same : (v w : State) → state.Parsed v ≡ state.Parsed w → v ≡ w
+state_same : (v w : State) → Some v ≡ Some w → v ≡ w
 state_same v w e = cc
 
-action_apart : (v : Action) → action.Parsed v ≡ action.Failed → ⊥
+action_apart : (v : Action) → Some v ≡ None → ⊥
 action_apart v e = false≢true cc
 
-action_same : (v w : Action) → action.Parsed v ≡ action.Parsed w → v ≡ w
+action_same : (v w : Action) → Some v ≡ Some w → v ≡ w
 action_same v w e = cc
 
 -- ---- the text stands no further into the line than the line is long
@@ -42,11 +39,11 @@ text_le l r1 r2 r3 q1 q2 q3 = omega (arith, ap length q1, ap length q2, ap lengt
 -- ---- column by column
 
 module _ (l : List ℕ) where
-  not_rule : is_rule l ≡ false → Failed ≡ parsed_rule l
+  not_rule : is_rule l ≡ false → None ≡ parsed_rule l
   unfolding parsed_rule
   not_rule e = rw e
 
-  pub no_end : contains 10 l ≡ false → Failed ≡ parsed_rule l
+  pub no_end : contains 10 l ≡ false → None ≡ parsed_rule l
   unfolding is_rule
   no_end e = not_rule (rw e)
 
@@ -55,7 +52,7 @@ module _ (l : List ℕ) where
     two : r2 ≡ part_after 9 (part_after 9 l)
     two = q2 ∙ ap (part_after 9) q1
 
-    pub few_tabs : contains 9 r2 ≡ false → Failed ≡ parsed_rule l
+    pub few_tabs : contains 9 r2 ≡ false → None ≡ parsed_rule l
     unfolding is_rule after_parts
     few_tabs e = not_rule (rw (ended, ap (contains 9) (sym two) ∙ e))
 
@@ -64,42 +61,42 @@ module _ (l : List ℕ) where
       third : contains 9 (part_after 9 (part_after 9 l)) ≡ true
       third = ap (contains 9) (sym two) ∙ tabs
 
-      pub no_number : parsed_rule_number x ≡ number.Failed → Failed ≡ parsed_rule l
+      pub no_number : parsed_rule_number x ≡ None → None ≡ parsed_rule l
       unfolding is_rule after_parts
       no_number e = not_rule (rw (ended, third, ← xe, failed_number x e))
 
-      module _ (n : ℕ) (ne : parsed_rule_number x ≡ number.Parsed n) (y : List ℕ) (ye : y ≡ part_before 9 r1) where
+      module _ (n : ℕ) (ne : parsed_rule_number x ≡ Some n) (y : List ℕ) (ye : y ≡ part_before 9 r1) where
         second-part : y ≡ part_before 9 (part_after 9 l)
         second-part = ye ∙ ap (part_before 9) q1
 
-        pub no-state : parsed_state y ≡ state.Failed → Failed ≡ parsed_rule l
+        pub no-state : parsed_state y ≡ None → None ≡ parsed_rule l
         unfolding parsed_state is_rule after_parts
         no-state e =
-            not_rule (rw (ended, third, ← xe, parsed_number_lem x n ne, ← second-part, failed_test state.Parsed state.Failed state_apart (is_state y) (state_of y) e))
+            not_rule (rw (ended, third, ← xe, parsed_number_lem x n ne, ← second-part, failed_test Some None state_apart (is_state y) (state_of y) e))
 
-        module _ (s : State) (se : parsed_state y ≡ state.Parsed s) (z : List ℕ) (ze : z ≡ part_before 9 r2) where
+        module _ (s : State) (se : parsed_state y ≡ Some s) (z : List ℕ) (ze : z ≡ part_before 9 r2) where
           third-part : z ≡ part_before 9 (part_after 9 (part_after 9 l))
           third-part = ze ∙ ap (part_before 9) two
 
           a-state : is_state y ≡ true
           unfolding parsed_state
-          a-state = parsed_test state.Parsed state.Failed state_apart (is_state y) (state_of y) s se
+          a-state = parsed_test Some None state_apart (is_state y) (state_of y) s se
 
-          pub no-action : parsed_action z ≡ action.Failed → Failed ≡ parsed_rule l
+          pub no-action : parsed_action z ≡ None → None ≡ parsed_rule l
           unfolding parsed_action is_rule after_parts
           no-action e =
-              let none : is_action z ≡ false = failed_test action.Parsed action.Failed action_apart (is_action z) (action_of z) e in
+              let none : is_action z ≡ false = failed_test Some None action_apart (is_action z) (action_of z) e in
               not_rule (rw (ended, third, ← xe, parsed_number_lem x n ne, ← second-part, a-state, ← third-part, none))
 
           -- r3 is what stands after the third tab, w the text
           pub one-rule :
-              (a : Action) → parsed_action z ≡ action.Parsed a → (r3 w : List ℕ) → r3 ≡ part_after 9 r2 → w ≡ part_before 10 r3
-              → Parsed (record { number = n; state = s; action = a; start = length l - length r3; len = length w }) ≡ parsed_rule l
+              (a : Action) → parsed_action z ≡ Some a → (r3 w : List ℕ) → r3 ≡ part_after 9 r2 → w ≡ part_before 10 r3
+              → Some (record { number = n; state = s; action = a; start = length l - length r3; len = length w }) ≡ parsed_rule l
           unfolding parsed_state parsed_action parsed_rule is_rule loaded_at rule_of rule_number rule_source source_start after_parts
           one-rule a ae r3 w q3 we =
-              let an-action : is_action z ≡ true = parsed_test action.Parsed action.Failed action_apart (is_action z) (action_of z) a ae in
-              let its-state : state_of y ≡ s = parsed_value state.Parsed state.Failed state_apart state_same (is_state y) (state_of y) s se in
-              let its-action : action_of z ≡ a = parsed_value action.Parsed action.Failed action_apart action_same (is_action z) (action_of z) a ae in
+              let an-action : is_action z ≡ true = parsed_test Some None action_apart (is_action z) (action_of z) a ae in
+              let its-state : state_of y ≡ s = parsed_value Some None state_apart state_same (is_state y) (state_of y) s se in
+              let its-action : action_of z ≡ a = parsed_value Some None action_apart action_same (is_action z) (action_of z) a ae in
               let rest : r3 ≡ part_after 9 (part_after 9 (part_after 9 l)) = q3 ∙ ap (part_after 9) two in
               rw (
                 ended,

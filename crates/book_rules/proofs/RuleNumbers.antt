@@ -1,4 +1,5 @@
 -- A rule's number: a number of 16 bits whose first digit is not 0; and what the answer for it tells of the bytes.
+use Rattle.std.specs.Prelude.{Some, None}
 use mathlib.Core.Path.{◌≡◌, refl}
 use mathlib.Core.Bool.{true, false, not, false≢true, and-false}
 use mathlib.Core.List.{List, [], ◌∷◌}
@@ -12,20 +13,19 @@ use Rattle.definitions.specs.Limits.{max_word}
 use Rattle.definitions.specs.Numbers.{value_of, is_number}
 use Rattle.definitions.specs.Books.{is_rule_number}
 use Rattle.line_parts.proofs.Results.{failed_test, parsed_test, parsed_value}
-use Rattle.line_numbers.specs.declared.decimals.NumberResult.TheVariants.{Parsed, Failed}
 use Rattle.line_numbers.specs.Decimals.{parsed_number}
 use Rattle.line_numbers.proofs.Digits.{number_le}
 use Rattle.book_rules.specs.RuleLines.{parsed_rule_number}
 
 -- ---- the code's three ways
 
-pub empty_number : (s : List ℕ) → length s ≡ 0 → Failed ≡ parsed_rule_number s
+pub empty_number : (s : List ℕ) → length s ≡ 0 → None ≡ parsed_rule_number s
 unfolding parsed_rule_number is_rule_number is_number
 empty_number [] e = refl
 empty_number (b ∷ s) e = absurd (omega (arith, e))
 
 module _ (s : List ℕ) where
-  pub zero_number : get_or s 0 0 ≡ 48 → Failed ≡ parsed_rule_number s
+  pub zero_number : get_or s 0 0 ≡ 48 → None ≡ parsed_rule_number s
   unfolding parsed_rule_number is_rule_number
   zero_number e = rw (eq-eqb (get_or s 0 0) 48 e, and-false (is_number max_word s))
 
@@ -35,25 +35,25 @@ module _ (s : List ℕ) where
 
 -- ---- what the answer tells
 
-apart : (v : ℕ) → Parsed v ≡ Failed → ⊥
+apart : (v : ℕ) → Some v ≡ None → ⊥
 apart v e = false≢true cc
 
-same : (v w : ℕ) → Parsed v ≡ Parsed w → v ≡ w
+same : (v w : ℕ) → Some v ≡ Some w → v ≡ w
 same v w e = cc
 
 module _ (s : List ℕ) where
-  pub failed_number : parsed_rule_number s ≡ Failed → is_rule_number s ≡ false
+  pub failed_number : parsed_rule_number s ≡ None → is_rule_number s ≡ false
   unfolding parsed_rule_number
-  failed_number e = failed_test Parsed Failed apart (is_rule_number s) (value_of 10 0 s) e
+  failed_number e = failed_test Some None apart (is_rule_number s) (value_of 10 0 s) e
 
-  module _ (v : ℕ) (e : parsed_rule_number s ≡ Parsed v) where
+  module _ (v : ℕ) (e : parsed_rule_number s ≡ Some v) where
     pub parsed_number_lem : is_rule_number s ≡ true
     unfolding parsed_rule_number
-    parsed_number_lem = parsed_test Parsed Failed apart (is_rule_number s) (value_of 10 0 s) v e
+    parsed_number_lem = parsed_test Some None apart (is_rule_number s) (value_of 10 0 s) v e
 
     pub number_value : value_of 10 0 s ≡ v
     unfolding parsed_rule_number
-    number_value = parsed_value Parsed Failed apart same (is_rule_number s) (value_of 10 0 s) v e
+    number_value = parsed_value Some None apart same (is_rule_number s) (value_of 10 0 s) v e
 
     -- it fits 16 bits
     pub number_fits_lem : v ≤ max_word

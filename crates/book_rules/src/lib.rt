@@ -6,92 +6,66 @@ ghost use Rattle.book_rules.specs.RuleLines.{parsed_rule_number, parsed_state, p
 
 use definitions::books::{Action, LoadedRule, State};
 use definitions::limits::MAX_WORD;
-use line_numbers::decimals::{NumberResult, parse_decimal};
+use line_numbers::decimals::parse_decimal;
 use line_parts::{contains, is_word, part_after, part_before};
 
-// The state that a word names, or that it names none.
-#[derive(Clone, Copy)]
-pub enum StateResult {
-    Parsed(State),
-    Failed,
-}
-
-// The action that a word names, or that it names none.
-#[derive(Clone, Copy)]
-pub enum ActionResult {
-    Parsed(Action),
-    Failed,
-}
-
-// The rule of a line, its text by its place in the line; or that the line has another form.
-#[derive(Clone, Copy)]
-pub enum RuleResult {
-    Parsed(LoadedRule),
-    Failed,
-}
-
-// A rule's number: without leading zeros, and so never 0.
-fn parse_number(s: &[u8]) -> NumberResult
+// A rule's number: without leading zeros, and so never 0. None for other bytes.
+fn parse_number(s: &[u8]) -> Option<u64>
     ensures { result ≡ parsed_rule_number s.now }
 {
     if s.len() == 0 {
-        return NumberResult::Failed;
+        return None;
     }
     if s[0] == b'0' {
-        return NumberResult::Failed;
+        return None;
     }
     parse_decimal(s, MAX_WORD)
 }
 
-// The state of its word.
-fn parse_state(s: &[u8]) -> StateResult
+// The state of its word; none for another.
+fn parse_state(s: &[u8]) -> Option<State>
     ensures { result ≡ parsed_state s.now }
 {
     if is_word(s, b"on") {
-        return StateResult::Parsed(State::On);
+        return Some(State::On);
     }
     if is_word(s, b"off") {
-        return StateResult::Parsed(State::Off);
+        return Some(State::Off);
     }
-    StateResult::Failed
+    None
 }
 
-// The action of its word.
-fn parse_action(s: &[u8]) -> ActionResult
+// The action of its word; none for another.
+fn parse_action(s: &[u8]) -> Option<Action>
     ensures { result ≡ parsed_action s.now }
 {
     if is_word(s, b"pass") {
-        return ActionResult::Parsed(Action::Pass);
+        return Some(Action::Pass);
     }
     if is_word(s, b"hold") {
-        return ActionResult::Parsed(Action::Hold);
+        return Some(Action::Hold);
     }
-    ActionResult::Failed
+    None
 }
 
-// THE RULE OF A LINE, which is given with its LF: number, tab, state, tab, action, tab, text, LF.
-pub fn parse_rule(l: &[u8]) -> RuleResult
+// THE RULE OF A LINE, which is given with its LF: number, tab, state, tab, action, tab, text, LF. Its text is told by its place in the line. None if the line
+// has another form.
+pub fn parse_rule(l: &[u8]) -> Option<LoadedRule>
     ensures { result ≡ parsed_rule l.now }
 {
     let r1 = part_after(l, b'\t');
     let r2 = part_after(r1, b'\t');
     let r3 = part_after(r2, b'\t');
     if !contains(l, b'\n') {
-        return RuleResult::Failed;
+        return None;
     }
     if !contains(r2, b'\t') {
-        return RuleResult::Failed;
+        return None;
     }
-    let NumberResult::Parsed(number) = parse_number(part_before(l, b'\t')) else {
-        return RuleResult::Failed;
-    };
-    let StateResult::Parsed(state) = parse_state(part_before(r1, b'\t')) else {
-        return RuleResult::Failed;
-    };
-    let ActionResult::Parsed(action) = parse_action(part_before(r2, b'\t')) else {
-        return RuleResult::Failed;
-    };
-    RuleResult::Parsed(LoadedRule {
+    let number = parse_number(part_before(l, b'\t'))?;
+    let state = parse_state(part_before(r1, b'\t'))?;
+    let action = parse_action(part_before(r2, b'\t'))?;
+    Some(LoadedRule {
         number: number as u16,
         state,
         action,

@@ -1,4 +1,5 @@
 -- The starts of an earlier placement, one after the other.
+use Rattle.std.specs.Prelude.{Option, Some, None, ℕ}
 use mathlib.Core.Path.{◌≡◌, refl, sym, ap, ◌∙◌}
 use mathlib.Core.Bool.{false, and-false}
 use mathlib.Core.List.{List, [], ◌∷◌, ◌++◌, map, append-nil}
@@ -15,8 +16,6 @@ use Rattle.definitions.specs.Answers.{placement_of}
 use Rattle.list_laws.proofs.Padded.{padded_one}
 use Rattle.definitions.specs.Parts.{part_before, parts}
 use Rattle.line_parts.proofs.PartsFrom.{parts_from, from_start, from_step, from_end}
-use Rattle.line_numbers.specs.declared.decimals.NumberResult.{NumberResult}
-use Rattle.line_numbers.specs.declared.decimals.NumberResult.TheVariants as number
 use Rattle.definitions.specs.Numbers.{is_number}
 use Rattle.line_numbers.specs.Decimals.{parsed_number}
 use Rattle.line_numbers.proofs.Results.{failed_number, parsed_number_lem, number_value}
@@ -61,7 +60,7 @@ starting s n =
 
 module _ (s : List ℕ) (held starts : List Start) (count at : ℕ) (k : Starting s held starts count at) where
   -- e is the part from the place on, a what the code made of it
-  module _ (h : at ≤ length s) (e : List ℕ) (q : e ≡ part_before 44 (take (length s - at) (drop at s))) (a : NumberResult)
+  module _ (h : at ≤ length s) (e : List ℕ) (q : e ≡ part_before 44 (take (length s - at) (drop at s))) (a : Option ℕ)
       (p : a ≡ parsed_number max_start e) where
     abbrev rest : List (List ℕ)
     rest = parts_from 44 s (at + (length e + 1))
@@ -69,7 +68,7 @@ module _ (s : List ℕ) (held starts : List Start) (count at : ℕ) (k : Startin
     step : parts_from 44 s at ≡ e ∷ rest
     step = from_step 44 s at h e q
 
-    pub starting_halt : a ≡ number.Failed → (r : Queried) → r ≡ no_query → r ≡ parsed_starts s
+    pub starting_halt : a ≡ None → (r : Queried) → r ≡ no_query → r ≡ parsed_starts s
     unfolding are_starts all?
     starting_halt f = not_starts s (rw (k.some, k.is ∙ ap (all? (is_number max_start)) step, failed_number max_start e (sym p ∙ f)))
 
@@ -79,7 +78,7 @@ module _ (s : List ℕ) (held starts : List Start) (count at : ℕ) (k : Startin
         let long : max_patterns < length (parts 44 s) = omega (arith, g, k.left, ap length step) in
         not_starts s (rw (k.some, lt-leb (length (parts 44 s)) max_patterns long) (and-false (all? (is_number max_start) (parts 44 s))))
 
-    pub starting_on : (n : ℕ) → a ≡ number.Parsed n → count < max_patterns → (v : Start) → v ≡ start_at n
+    pub starting_on : (n : ℕ) → a ≡ Some n → count < max_patterns → (v : Start) → v ≡ start_at n
         → Starting s (held ++ (v ∷ [])) (set starts count v) (count + 1) (at + (length e + 1))
     unfolding all?
     starting_on n t g v ve =

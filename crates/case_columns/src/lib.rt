@@ -8,7 +8,7 @@ ghost use Rattle.case_columns.specs.Queries.{is_enclosed, is_kind, parsed_starts
 
 use definitions::limits::PATTERNS;
 use definitions::packets::{Placement, Start};
-use line_numbers::decimals::{NumberResult, parse_decimal};
+use line_numbers::decimals::parse_decimal;
 use line_parts::{contains, is_word, part_after, part_before};
 use match_starts::start_at;
 
@@ -92,7 +92,7 @@ fn parse_starts(s: &[u8]) -> Queried
     let mut at = 0;
     while at <= s.len() {
         let e = part_before(&s[at..], b',');
-        let NumberResult::Parsed(n) = parse_decimal(e, MAX_START) else {
+        let Some(n) = parse_decimal(e, MAX_START) else {
             return plain_query(Kind::Bad);
         };
         if PATTERNS <= count {

@@ -1,4 +1,5 @@
 -- The columns of a line together: the room that pairs need, each way in which a line is bad, and the line as its columns.
+use Rattle.std.specs.Prelude.{Result, Ok, Err}
 use mathlib.Core.Path.{◌≡◌, refl, sym, ap, ◌∙◌}
 use mathlib.Core.Bool.{true, false, ◌&&◌, and-false}
 use mathlib.Core.List.{List}
@@ -10,8 +11,6 @@ use Rattle.forms.specs.Bytes.{text}
 use Rattle.definitions.specs.declared.packets.Direction.{Direction}
 use Rattle.definitions.specs.declared.packets.FieldMap.{FieldMap}
 use Rattle.definitions.specs.declared.answers.Refusal.{Refusal}
-use Rattle.definitions.specs.declared.answers.ReadOutcome.{ReadOutcome}
-use Rattle.definitions.specs.declared.answers.ReadOutcome.TheVariants as outcome
 use Rattle.definitions.specs.declared.answers.Reading.{Reading}
 use Rattle.definitions.specs.Limits.{document_limits}
 use Rattle.definitions.specs.Reading.{read}
@@ -19,6 +18,7 @@ use Rattle.definitions.specs.Cases.{pairs}
 use Rattle.definitions.specs.Parts.{contains, part_before, part_after, after_parts}
 use Rattle.line_parts.proofs.Delimiters.{after_next, part_is, part_within}
 use Rattle.line_packets.specs.declared.packets.PacketColumns.{PacketColumns}
+use Rattle.definitions.specs.declared.answers.TextRefusal.{TextRefusal}
 use Rattle.line_packets.specs.Packets.{is_packet, packet_of}
 use Rattle.line_packets.proofs.FourColumns.{packet_and}
 use Rattle.case_columns.specs.Queries.{Query, is_query, query_of}
@@ -33,20 +33,20 @@ room_is e = omega (arith, e)
 -- ---- a text that is read
 
 pub accepted_is :
-    {x u y v : List ℕ} {r q : Reading} (dir : Direction) (m : FieldMap) (a : Query) → x ≡ u → y ≡ v → r ≡ q → r.outcome ≡ outcome.Accepted
+    {x u y v : List ℕ} {r q : Reading} (dir : Direction) (m : FieldMap) (a : Query) → x ≡ u → y ≡ v → r ≡ q → r.outcome ≡ Ok tt
     → reading_text u v dir m q a ≡ query_text x y dir m r.table a
 accepted_is {x = x} {u = u} {y = y} {v = v} {r = r} dir m a e f g h =
     ap (λ (w : Reading). reading_text u v dir m w a) (sym g)
-    ∙ ap (λ (o : ReadOutcome). outcome_text u v dir m o r.table a) h
+    ∙ ap (λ (o : Result Unit TextRefusal). outcome_text u v dir m o r.table a) h
     ∙ ap (λ (w : List ℕ). query_text w v dir m r.table a) (sym e)
     ∙ ap (λ (w : List ℕ). query_text x w dir m r.table a) (sym f)
 
 pub refused_is :
     (u v : List ℕ) {r q : Reading} (dir : Direction) (m : FieldMap) (a : Query) {w : Refusal} {place : ℕ}
-    → r ≡ q → r.outcome ≡ outcome.Refused w place → reading_text u v dir m q a ≡ unread_text w place
+    → r ≡ q → r.outcome ≡ Err (record { refusal = w; place = place }) → reading_text u v dir m q a ≡ unread_text w place
 refused_is u v {r = r} dir m a g h =
     ap (λ (w : Reading). reading_text u v dir m w a) (sym g)
-    ∙ ap (λ (o : ReadOutcome). outcome_text u v dir m o r.table a) h
+    ∙ ap (λ (o : Result Unit TextRefusal). outcome_text u v dir m o r.table a) h
 
 -- ---- the columns
 

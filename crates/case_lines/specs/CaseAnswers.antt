@@ -1,14 +1,13 @@
 -- THE ANSWER TO A LINE OF CASES: what is written for it, without its number and the LF. docs/vectors/README.md has it in words; the text of a placement, of
 -- the list and of a refusal is in crate case_lists.
-use Rattle.std.specs.Prelude.{ℕ, List, ◌++◌, if◌then◌else◌}
+use Rattle.std.specs.Prelude.{ℕ, List, ◌++◌, if◌then◌else◌, Result, Ok, Err}
 use Rattle.forms.specs.Bytes.{text}
 use Rattle.definitions.specs.declared.table.Table.{Table}
 use Rattle.definitions.specs.declared.packets.Direction.{Direction}
 use Rattle.definitions.specs.declared.packets.FieldMap.{FieldMap}
 use Rattle.definitions.specs.declared.answers.Refusal.{Refusal}
-use Rattle.definitions.specs.declared.answers.ReadOutcome.{ReadOutcome}
-use Rattle.definitions.specs.declared.answers.ReadOutcome.TheVariants as outcome
 use Rattle.definitions.specs.declared.answers.Reading.{Reading}
+use Rattle.definitions.specs.declared.answers.TextRefusal.{TextRefusal}
 use Rattle.definitions.specs.Limits.{document_limits}
 use Rattle.definitions.specs.Refusals.{number_of}
 use Rattle.definitions.specs.Reading.{read}
@@ -29,9 +28,9 @@ module _ (p decoded : List ℕ) (dir : Direction) (m : FieldMap) where
   query_text t (next h) = answer_text (next_answer t p decoded dir m h)
 
   -- the answer for a text's table, or its refusal
-  abbrev pub outcome_text : ReadOutcome → Table → Query → List ℕ
-  outcome_text outcome.Accepted t a = query_text t a
-  outcome_text (outcome.Refused r place) t a = unread_text r place
+  abbrev pub outcome_text : Result Unit TextRefusal → Table → Query → List ℕ
+  outcome_text (Ok tt) t a = query_text t a
+  outcome_text (Err e) t a = unread_text e.refusal e.place
 
   abbrev pub reading_text : Reading → Query → List ℕ
   reading_text r a = outcome_text r.outcome r.table a

@@ -13,10 +13,10 @@ ghost use Rattle.case_lines.specs.Columns.{columns_text};
 use case_columns::{Kind, Queried, is_query, parse_query};
 use case_lists::answers::put_answer;
 use case_lists::lists::put_list;
-use definitions::answers::{ReadOutcome, Refusal};
+use definitions::answers::Refusal;
 use definitions::table::Table;
 use line_numbers::hex_pairs::put_pairs;
-use line_packets::packets::{PacketColumns, PacketResult, parse_packet};
+use line_packets::packets::{PacketColumns, parse_packet};
 use line_parts::{contains, part_after, part_before};
 use refusal_numbers::number_of;
 use write_bytes::{put, put_decimal, put_word};
@@ -80,7 +80,7 @@ fn put_formed(
     let reading = reader::read(text);
     let outcome = reading.outcome;
     match outcome {
-        ReadOutcome::Accepted => {
+        Ok(()) => {
             let n = put_pairs(room, 0, packet);
             let d = put_pairs(more, 0, decoded);
             let packet_bytes = &room[..];
@@ -95,7 +95,7 @@ fn put_formed(
                 queried,
             )
         }
-        ReadOutcome::Refused(r, place) => put_unread(out, at, r, place),
+        Err(e) => put_unread(out, at, e.refusal, e.place),
     }
 }
 
@@ -120,7 +120,7 @@ fn put_columns(
     if !is_query(kind) {
         return put_word(out, at, b"bad");
     }
-    let PacketResult::Parsed(located) = parse_packet(origin, packet, fields, decoded) else {
+    let Some(located) = parse_packet(origin, packet, fields, decoded) else {
         return put_word(out, at, b"bad");
     };
     put_formed(out, at, packet, decoded, located, queried, text, room, more)

@@ -1,4 +1,5 @@
 -- The starts of a placement, and the list of placements, as a search from the placement written last has what is left of it.
+use Rattle.std.specs.Prelude.{Result, Ok, Err}
 use mathlib.Core.Path.{◌≡◌, refl, sym, ap, ◌∙◌}
 use mathlib.Core.Bool.{true, false, false≢true}
 use mathlib.Core.List.{List, [], ◌∷◌, ◌++◌}
@@ -8,8 +9,6 @@ use lib.ListN.{length, take, drop, get_or}
 use Rattle.forms.specs.Bytes.{text}
 use Rattle.definitions.specs.declared.packets.Start.{Start}
 use Rattle.definitions.specs.declared.packets.Placement.{Placement}
-use Rattle.definitions.specs.declared.answers.Check.{Check}
-use Rattle.definitions.specs.declared.answers.Check.TheVariants.{Pass, Refuse}
 use Rattle.definitions.specs.declared.answers.Found.TheVariants.{Placed}
 use Rattle.definitions.specs.declared.answers.Answer.{Answer}
 use Rattle.definitions.specs.Starts.{start_at}
@@ -21,6 +20,7 @@ use Rattle.write_bytes.specs.Puts.{puts, Puts}
 use Rattle.write_bytes.proofs.Putting.{then, onward}
 use Rattle.match_starts.specs.StartTexts.{start_text}
 use Rattle.search_state.specs.declared.outcomes.Outcome.{Outcome}
+use Rattle.definitions.specs.declared.answers.Refusal.{Refusal}
 use Rattle.search_state.specs.Outcomes.{outcome_of}
 use Rattle.case_lists.specs.AnswerTexts.{starts_after, starts_text, placement_text, placements_after, max_after, list_text, check_text, answer_text}
 use Rattle.case_lists.proofs.Rest.{starts_back, Ordered, first_rest, list_rest}
@@ -56,24 +56,24 @@ after_over x (q ∷ qs) e n = refl
 
 -- ---- what "first" answers: a refusal that is due, none, or a placement
 
-pub first_not : (w : Check) (l : List (List Start)) (a : Answer) → a ≡ unless w (head_of l) → (a.found ≡ Placed → ⊥)
+pub first_not : (w : Result Unit Refusal) (l : List (List Start)) (a : Answer) → a ≡ unless w (head_of l) → (a.found ≡ Ok Placed → ⊥)
     → check_text w (list_text l) ≡ answer_text a
-first_not Pass [] a e n = sym (ap answer_text e)
-first_not Pass (q ∷ l) a e n = absurd (n (ap (λ (x : Answer). x.found) e))
-first_not (Refuse r) l a e n = sym (ap answer_text e)
+first_not (Ok tt) [] a e n = sym (ap answer_text e)
+first_not (Ok tt) (q ∷ l) a e n = absurd (n (ap (λ (x : Answer). x.found) e))
+first_not (Err r) l a e n = sym (ap answer_text e)
 
 module _ (l : List (List Start)) (v : Ordered l) where
   -- a placement, and k of those after it
   abbrev from_one : ℕ → Placement → List ℕ
   from_one k h = placement_text (starts_of h) ++ placements_after k (keep (lex_less h.starts) l)
 
-  pub first_one : (w : Check) (a : Answer) → a ≡ unless w (head_of l) → a.found ≡ Placed → check_text w (list_text l) ≡ from_one max_after a.placement
+  pub first_one : (w : Result Unit Refusal) (a : Answer) → a ≡ unless w (head_of l) → a.found ≡ Ok Placed → check_text w (list_text l) ≡ from_one max_after a.placement
   first_one w a e n = go w l refl e
     where
-      go : (w : Check) (k : List (List Start)) → l ≡ k → a ≡ unless w (head_of k) → check_text w (list_text k) ≡ from_one max_after a.placement
-      go Pass [] le h = cc
-      go Pass (q ∷ qs) le h = sym (ap (λ (x : Answer). from_one max_after x.placement) h ∙ rw (starts_back q, first_rest l v q qs le))
-      go (Refuse r) k le h = cc
+      go : (w : Result Unit Refusal) (k : List (List Start)) → l ≡ k → a ≡ unless w (head_of k) → check_text w (list_text k) ≡ from_one max_after a.placement
+      go (Ok tt) [] le h = cc
+      go (Ok tt) (q ∷ qs) le h = sym (ap (λ (x : Answer). from_one max_after x.placement) h ∙ rw (starts_back q, first_rest l v q qs le))
+      go (Err r) k le h = cc
 
   -- ---- one placement more
 

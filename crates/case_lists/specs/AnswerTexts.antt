@@ -1,12 +1,10 @@
 -- THE TEXT OF AN ANSWER: of one placement, of the list of them, of a refusal. docs/vectors/README.md has it in words; what is due and what the placements
 -- are is document 01's, section "Meaning".
-use Rattle.std.specs.Prelude.{ℕ, zero, suc, List, [], ◌∷◌, ◌++◌}
+use Rattle.std.specs.Prelude.{ℕ, zero, suc, List, [], ◌∷◌, ◌++◌, Result, Ok, Err}
 use Rattle.forms.specs.Bytes.{text}
 use Rattle.definitions.specs.declared.packets.Start.{Start}
 use Rattle.definitions.specs.declared.packets.Placement.{Placement}
 use Rattle.definitions.specs.declared.answers.Refusal.{Refusal}
-use Rattle.definitions.specs.declared.answers.Check.{Check}
-use Rattle.definitions.specs.declared.answers.Check.TheVariants.{Pass, Refuse}
 use Rattle.definitions.specs.declared.answers.Found.{Found}
 use Rattle.definitions.specs.declared.answers.Found.TheVariants as found
 use Rattle.definitions.specs.declared.answers.Answer.{Answer}
@@ -48,14 +46,14 @@ list_text (q ∷ qs) = placement_text q ++ placements_after max_after qs
 abbrev pub refused_text : Refusal → List ℕ
 refused_text r = text "refused " ++ decimal (number_of r)
 
-abbrev pub check_text : Check → List ℕ → List ℕ
-check_text Pass l = l
-check_text (Refuse r) l = refused_text r
+abbrev pub check_text : Result Unit Refusal → List ℕ → List ℕ
+check_text (Ok tt) l = l
+check_text (Err r) l = refused_text r
 
-abbrev pub found_text : Found → Placement → List ℕ
-found_text found.Placed h = placement_text (starts_of h)
-found_text found.Nothing h = text "none"
-found_text (found.Refused r) h = refused_text r
+abbrev pub found_text : Result Found Refusal → Placement → List ℕ
+found_text (Ok found.Placed) h = placement_text (starts_of h)
+found_text (Ok found.Nothing) h = text "none"
+found_text (Err r) h = refused_text r
 
 abbrev pub answer_text : Answer → List ℕ
 answer_text a = found_text a.found a.placement

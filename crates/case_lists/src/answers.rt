@@ -22,8 +22,8 @@ pub fn put_answer(out: &mut [u8], at: usize, a: Answer) -> usize
     let found = a.found;
     let placement = a.placement;
     match found {
-        Found::Placed => put_placement(out, at, placement),
-        Found::Nothing => put_word(out, at, b"none"),
-        Found::Refused(r) => put_refused(out, at, r),
+        Ok(Found::Placed) => put_placement(out, at, placement),
+        Ok(Found::Nothing) => put_word(out, at, b"none"),
+        Err(r) => put_refused(out, at, r),
     }
 }

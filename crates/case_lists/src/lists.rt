@@ -10,7 +10,7 @@ ghost use Rattle.case_lists.specs.AnswerTexts.{placements_after, max_after, list
 
 use crate::answers::{put_answer, put_refused};
 use crate::placement_text::put_placement;
-use definitions::answers::{Found, PacketAnswer};
+use definitions::answers::Found;
 use definitions::limits::{ITEMS, PATTERNS};
 use definitions::packets::{Direction, FieldMap, PacketHeader, Start};
 use definitions::table::{Flow, Slot, Table};
@@ -90,7 +90,7 @@ fn put_seen<'a>(
         protocol, flow, items, count, bytes, header, payload, decoded, dir, m,
     );
     let found = a.found;
-    let Found::Placed = found else {
+    let Ok(Found::Placed) = found else {
         return put_answer(out, at, a);
     };
     let placement = a.placement;
@@ -118,8 +118,8 @@ pub fn put_list<'a>(
     let formed = well_formed(name, t.len, items, t.count, &t.bytes, t.used);
     let seen = check_input(formed, p, decoded);
     match seen {
-        PacketAnswer::Refused(r) => put_refused(out, at, r),
-        PacketAnswer::Seen(header) => {
+        Err(r) => put_refused(out, at, r),
+        Ok(header) => {
             let payload = payload_of(p, header);
             let flow = t.flow;
             put_seen(

@@ -3,7 +3,7 @@
 
 ghost use Rattle.std.specs.Prelude.{◌≤◌};
 
-use book_file::{BookFile, ROOM, read_argument};
+use book_file::{ROOM, read_argument};
 use compare_books::compare;
 
 // Bytes of the output's buffer: there are never more.
@@ -33,11 +33,7 @@ fn main(rt: HostRuntime) {
     let mut second = [0u8; ROOM];
     let x = read_argument(&rt, 1, &mut first);
     let y = read_argument(&rt, 2, &mut second);
-    match x {
-        BookFile::Read(n) => match y {
-            BookFile::Read(m) => write_changes(&rt, &first, n, &second, m),
-            BookFile::Unread => {}
-        },
-        BookFile::Unread => {}
+    if let (Some(n), Some(m)) = (x, y) {
+        write_changes(&rt, &first, n, &second, m);
     }
 }

@@ -1,10 +1,10 @@
 -- From two loaded books to what is written: the first's refusal, else the second's, else the lines of their rules.
+use Rattle.std.specs.Prelude.{Ok, Err}
 use mathlib.Core.Path.{◌≡◌, sym, ap, ◌∙◌}
 use mathlib.Core.List.{List}
 use Prim.Native.Nat.{ℕ}
 use Rattle.forms.specs.Bytes.{text}
 use Rattle.definitions.specs.declared.answers.Refusal.{Refusal}
-use Rattle.definitions.specs.declared.books.Judgement.TheVariants.{Accepted, Refused}
 use Rattle.definitions.specs.declared.books.LoadedBook.{LoadedBook}
 use Rattle.definitions.specs.Limits.{document_limits}
 use Rattle.definitions.specs.LoadedBooks.{loaded}
@@ -15,15 +15,15 @@ use Rattle.compare_rules.specs.LoadedRules.{read_from}
 use Rattle.compare_rules.proofs.LoadedRules.{loaded_read}
 
 module _ (first second : List ℕ) {x : LoadedBook} (e : x ≡ loaded document_limits first) where
-  pub first_told : (r : Refusal) (line : ℕ) → x.judgement ≡ Refused r line → compare_output document_limits first second ≡ refused_output (text "first\t") r line
+  pub first_told : (r : Refusal) (line : ℕ) → x.judgement ≡ Err (record { refusal = r; line = line }) → compare_output document_limits first second ≡ refused_output (text "first\t") r line
   first_told r line k = first_refused document_limits first second r line (sym (judged first e) ∙ k)
 
-  module _ (n : ℕ) (k : x.judgement ≡ Accepted n) {y : LoadedBook} (f : y ≡ loaded document_limits second) where
-    pub second_told : (r : Refusal) (line : ℕ) → y.judgement ≡ Refused r line
+  module _ (n : ℕ) (k : x.judgement ≡ Ok n) {y : LoadedBook} (f : y ≡ loaded document_limits second) where
+    pub second_told : (r : Refusal) (line : ℕ) → y.judgement ≡ Err (record { refusal = r; line = line })
         → compare_output document_limits first second ≡ refused_output (text "second\t") r line
     second_told r line g = second_refused document_limits first second n (sym (judged first e) ∙ k) r line (sym (judged second f) ∙ g)
 
-    pub both_told : (m : ℕ) → y.judgement ≡ Accepted m
+    pub both_told : (m : ℕ) → y.judgement ≡ Ok m
         → compare_output document_limits first second ≡ rules_output (read_from first x.rules 0) (read_from second y.rules 0)
     both_told m g =
         let p = sym (judged first e) ∙ k in

@@ -6,7 +6,6 @@ ghost use Rattle.write_bytes.specs.Puts.{Puts};
 ghost use Rattle.compare_laws.specs.Comparisons.{compare_output};
 
 use compare_rules::put_rules;
-use definitions::books::Judgement;
 use line_refusals::put_refused_book;
 use rule_book::load;
 
@@ -17,13 +16,13 @@ pub fn compare(out: &mut [u8], at: usize, first: &[u8], second: &[u8]) -> usize
     let x = load(first);
     let j = x.judgement;
     match j {
-        Judgement::Refused(r, line) => put_refused_book(out, at, b"first\t", r, line),
-        Judgement::Accepted(_) => {
+        Err(e) => put_refused_book(out, at, b"first\t", e.refusal, e.line),
+        Ok(_) => {
             let y = load(second);
             let k = y.judgement;
             match k {
-                Judgement::Refused(r, line) => put_refused_book(out, at, b"second\t", r, line),
-                Judgement::Accepted(_) => put_rules(out, at, first, x.rules, second, y.rules),
+                Err(e) => put_refused_book(out, at, b"second\t", e.refusal, e.line),
+                Ok(_) => put_rules(out, at, first, x.rules, second, y.rules),
             }
         }
     }

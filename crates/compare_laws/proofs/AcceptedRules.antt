@@ -1,5 +1,6 @@
 -- THE RULES OF AN ACCEPTED BOOK: their numbers rise and lie from 1 to 65535 (`accepted_between`), and there are at most 64 (`accepted_few`). Each line has
 -- passed.
+use Rattle.std.specs.Prelude.{Ok}
 use mathlib.Core.Path.{◌≡◌}
 use mathlib.Core.Bool.{true, not, ◌&&◌}
 use mathlib.Core.List.{List, [], ◌∷◌, map}
@@ -10,8 +11,6 @@ use lib.ListN.{length, length-map, get_or}
 use borrow.Author.Tests.{ltb-false, not-false}
 use Rattle.forms.proofs.Bools.{both_left, both_right}
 use Rattle.definitions.specs.declared.answers.Refusal.TheVariants as refusal
-use Rattle.definitions.specs.declared.answers.Check.TheVariants.{Pass}
-use Rattle.definitions.specs.declared.books.Judgement.TheVariants.{Accepted}
 use Rattle.definitions.specs.Limits.{Limits, max_word, max_rules}
 use Rattle.definitions.specs.Numbers.{is_number}
 use Rattle.definitions.specs.Parts.{contains, after_parts, part}
@@ -44,14 +43,14 @@ rule_word l t =
 
 module _ (lim : Limits) where
   -- a line that passes is a rule, and none after the last
-  passed_is : (n last : ℕ) (l : List ℕ) → line_check lim n last l ≡ Pass → (n ≤ max_rules) × (is_rule l ≡ true)
+  passed_is : (n last : ℕ) (l : List ℕ) → line_check lim n last l ≡ Ok tt → (n ≤ max_rules) × (is_rule l ≡ true)
   unfolding line_check
   passed_is n last l e =
       let a = refuse_fine (ltb max_rules n) refusal.RuleCount _ e in
       let b = refuse_fine (not (is_rule l)) refusal.RuleForm _ a.1 in
       (ltb-false max_rules n a.0, not-false (is_rule l) b.0)
 
-  lines_are : (n last : ℕ) (ls : List (List ℕ)) (k : ℕ) → n ≤ max_rules → judge_lines lim n last ls ≡ Accepted k
+  lines_are : (n last : ℕ) (ls : List (List ℕ)) (k : ℕ) → n ≤ max_rules → judge_lines lim n last ls ≡ Ok k
       → (n + length ls ≤ max_rules) × Words (map rule_of ls)
   unfolding judge_lines Words rule_of
   lines_are n last [] k h e = (omega (arith, h), tt)
@@ -66,7 +65,7 @@ module _ (lim : Limits) where
   between last [] h w = tt
   between last (r ∷ rs) h w = (h.0, w.0, between r.number rs h.1 w.1)
 
-  module _ (book : List ℕ) (n : ℕ) (e : judge lim book ≡ Accepted n) where
+  module _ (book : List ℕ) (n : ℕ) (e : judge lim book ≡ Ok n) where
     lines : (0 + length (book_lines book) ≤ max_rules) × Words (rules_of book)
     unfolding rules_of
     lines = lines_are 0 0 (book_lines book) n (omega arith) (accepted_book lim book n e).1

@@ -1,5 +1,6 @@
 -- NOTHING IS WRITTEN EXACTLY IF THE TWO LISTS OF RULES ARE EQUAL (`nothing_exactly`), for every two books: both are accepted, and number, state, action and
 -- table are equal, rule by rule. Every line has bytes, and rules of one number without a line differ in nothing.
+use Rattle.std.specs.Prelude.{Result, Ok, Err, ℕ}
 use mathlib.Core.Path.{◌≡◌, refl}
 use mathlib.Core.Logic.{◌↔◌}
 use mathlib.Core.Bool.{Bool, true, false, not}
@@ -15,8 +16,7 @@ use Rattle.definitions.specs.declared.books.State.{State}
 use Rattle.definitions.specs.declared.books.State.TheVariants as state
 use Rattle.definitions.specs.declared.books.Action.{Action}
 use Rattle.definitions.specs.declared.books.Action.TheVariants as action
-use Rattle.definitions.specs.declared.books.Judgement.{Judgement}
-use Rattle.definitions.specs.declared.books.Judgement.TheVariants.{Accepted, Refused}
+use Rattle.definitions.specs.declared.answers.BookRefusal.{BookRefusal}
 use Rattle.definitions.specs.Limits.{Limits}
 use Rattle.definitions.specs.Books.{judge}
 use Rattle.table_equality.specs.SameTables.{same_table}
@@ -99,14 +99,14 @@ equal_none (a ∷ xs) = rw (le-ltb a.number a.number (omega arith), none_both a)
 -- ---- two books
 
 -- by two judgements and two lists of rules
-output_none : (j k : Judgement) (xs ys : List ReadRule) → (output_if j k xs ys ≡ [])
-    ↔ (((n : ℕ) × (j ≡ Accepted n)) × ((m : ℕ) × (k ≡ Accepted m)) × (xs ≡ ys))
+output_none : (j k : Result ℕ BookRefusal) (xs ys : List ReadRule) → (output_if j k xs ys ≡ [])
+    ↔ (((n : ℕ) × (j ≡ Ok n)) × ((m : ℕ) × (k ≡ Ok m)) × (xs ≡ ys))
 unfolding refused_output
-output_none (Refused r line) k xs ys = (λ e. never (cc), λ e. never (cc e.0.1))
-output_none (Accepted n) (Refused r line) xs ys = (λ e. never (cc), λ e. never (cc e.1.1))
-output_none (Accepted n) (Accepted m) xs ys = (λ e. ((n, refl), (m, refl), none_equal xs ys e), λ e. rw e.2 (equal_none ys))
+output_none (Err e') k xs ys = (λ e. never (cc), λ e. never (cc e.0.1))
+output_none (Ok n) (Err e') xs ys = (λ e. never (cc), λ e. never (cc e.1.1))
+output_none (Ok n) (Ok m) xs ys = (λ e. ((n, refl), (m, refl), none_equal xs ys e), λ e. rw e.2 (equal_none ys))
 
 pub nothing_exactly : (lim : Limits) (first second : List ℕ) → (compare_output lim first second ≡ [])
-    ↔ (((n : ℕ) × (judge lim first ≡ Accepted n)) × ((m : ℕ) × (judge lim second ≡ Accepted m)) × (read_rules lim first ≡ read_rules lim second))
+    ↔ (((n : ℕ) × (judge lim first ≡ Ok n)) × ((m : ℕ) × (judge lim second ≡ Ok m)) × (read_rules lim first ≡ read_rules lim second))
 unfolding compare_output
 nothing_exactly lim first second = output_none (judge lim first) (judge lim second) (read_rules lim first) (read_rules lim second)

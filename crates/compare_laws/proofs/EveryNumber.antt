@@ -1,5 +1,6 @@
 -- WHAT IS WRITTEN, NUMBER BY NUMBER (`every_number_lem`): for two accepted books the output is one line, or none, for each number from 1 to 65535 in turn, by the
 -- rules that have it. A number is either the first in a list, or stands nowhere in it, since numbers rise.
+use Rattle.std.specs.Prelude.{Ok}
 use mathlib.Core.Path.{◌≡◌, refl, sym, ap, ap₂, subst, ◌∙◌}
 use mathlib.Core.Bool.{false}
 use mathlib.Core.List.{List, [], ◌∷◌, ◌++◌}
@@ -8,7 +9,6 @@ use native.Mathlib.Omega.{arith}
 use lib.Dec.{eqb}
 use borrow.Author.Tests.{eqb-true, eqb-false, eq-eqb, ne_eqb}
 use Rattle.forms.proofs.Bools.{by_cases}
-use Rattle.definitions.specs.declared.books.Judgement.TheVariants.{Accepted}
 use Rattle.definitions.specs.Limits.{Limits, max_word}
 use Rattle.definitions.specs.Lists.{keep}
 use Rattle.definitions.specs.Books.{judge}
@@ -143,7 +143,7 @@ merged_numbers (suc n) k m (a ∷ xs) (b ∷ ys) e h g =
     step_none k n m (a ∷ xs) (b ∷ ys) l o (merged_numbers n (suc k) m (a ∷ xs) (b ∷ ys) q l o)))
 
 -- for every two accepted books
-pub every_number_lem : (lim : Limits) (first second : List ℕ) (n m : ℕ) → judge lim first ≡ Accepted n → judge lim second ≡ Accepted m
+pub every_number_lem : (lim : Limits) (first second : List ℕ) (n m : ℕ) → judge lim first ≡ Ok n → judge lim second ≡ Ok m
     → compare_output lim first second ≡ every_number (read_rules lim first) (read_rules lim second)
 unfolding every_number
 every_number_lem lim first second n m e f =

@@ -1,5 +1,6 @@
 -- WHAT IS WRITTEN HAS AT MOST 2,048 BYTES (`compare_most`): a line for a rule of one book has at most 10, one for rules of both at most 32, so there are at most
 -- 16 for each rule of either book.
+use Rattle.std.specs.Prelude.{Result, Ok, Err, ℕ}
 use mathlib.Core.Path.{◌≡◌, refl}
 use mathlib.Core.Logic.{⊎_elim}
 use mathlib.Core.Bool.{Bool, true, false, not}
@@ -11,8 +12,7 @@ use lib.ListN.{length, length-append}
 use Rattle.forms.specs.Bytes.{text}
 use Rattle.forms.proofs.Bools.{by_cases}
 use Rattle.definitions.specs.declared.answers.Refusal.{Refusal}
-use Rattle.definitions.specs.declared.books.Judgement.{Judgement}
-use Rattle.definitions.specs.declared.books.Judgement.TheVariants.{Accepted, Refused}
+use Rattle.definitions.specs.declared.answers.BookRefusal.{BookRefusal}
 use Rattle.definitions.specs.Limits.{Limits, max_word, max_rules}
 use Rattle.definitions.specs.Canonical.{decimal}
 use Rattle.definitions.specs.Lines.{refused_line}
@@ -94,7 +94,7 @@ rules_most k j (a ∷ xs) ys h g = merged_most a (rules_output xs) (length xs) j
 
 -- ---- the whole
 
-refused_short : (lim : Limits) (book which : List ℕ) (r : Refusal) (line : ℕ) → length which ≤ 7 → judge lim book ≡ Refused r line
+refused_short : (lim : Limits) (book which : List ℕ) (r : Refusal) (line : ℕ) → length which ≤ 7 → judge lim book ≡ Err (record { refusal = r; line = line })
     → length (refused_output which r line) ≤ 2048
 unfolding refused_output
 refused_short lim book which r line w e =
@@ -106,10 +106,10 @@ pub compare_most : (lim : Limits) (first second : List ℕ) → length (compare_
 unfolding compare_output
 compare_most lim first second = go (judge lim first) (judge lim second) refl refl
   where
-    go : (j k : Judgement) → judge lim first ≡ j → judge lim second ≡ k → length (output_if j k (read_rules lim first) (read_rules lim second)) ≤ 2048
-    go (Refused r line) k e f = refused_short lim first (text "first\t") r line (omega arith) e
-    go (Accepted n) (Refused r line) e f = refused_short lim second (text "second\t") r line (omega arith) f
-    go (Accepted n) (Accepted m) e f =
+    go : (j k : Result ℕ BookRefusal) → judge lim first ≡ j → judge lim second ≡ k → length (output_if j k (read_rules lim first) (read_rules lim second)) ≤ 2048
+    go (Err e') k e f = refused_short lim first (text "first\t") e'.refusal e'.line (omega arith) e
+    go (Ok n) (Err e') e f = refused_short lim second (text "second\t") e'.refusal e'.line (omega arith) f
+    go (Ok n) (Ok m) e f =
         omega (
           arith,
           rules_most 0 0 (read_rules lim first) (read_rules lim second) (accepted_between lim first n e) (accepted_between lim second m f),

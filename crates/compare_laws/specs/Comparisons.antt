@@ -1,5 +1,5 @@
 -- WHAT CHANGED BETWEEN TWO RULE BOOKS: what is written for them. Document 02, T-10.
-use Rattle.std.specs.Prelude.{ℕ, Bool, true, false, not, List, [], ◌∷◌, ◌++◌, map, ltb, if◌then◌else◌}
+use Rattle.std.specs.Prelude.{ℕ, Bool, true, false, not, List, [], ◌∷◌, ◌++◌, map, ltb, if◌then◌else◌, Result, Ok, Err}
 use Rattle.forms.specs.Bytes.{text}
 use Rattle.definitions.specs.declared.table.Table.{Table}
 use Rattle.definitions.specs.declared.answers.Refusal.{Refusal}
@@ -7,8 +7,7 @@ use Rattle.definitions.specs.declared.books.State.{State}
 use Rattle.definitions.specs.declared.books.State.TheVariants as state
 use Rattle.definitions.specs.declared.books.Action.{Action}
 use Rattle.definitions.specs.declared.books.Action.TheVariants as action
-use Rattle.definitions.specs.declared.books.Judgement.{Judgement}
-use Rattle.definitions.specs.declared.books.Judgement.TheVariants.{Accepted, Refused}
+use Rattle.definitions.specs.declared.answers.BookRefusal.{BookRefusal}
 use Rattle.definitions.specs.Limits.{Limits}
 use Rattle.definitions.specs.Reading.{read}
 use Rattle.definitions.specs.Canonical.{decimal}
@@ -105,10 +104,10 @@ unfoldable pub refused_output : List ℕ → Refusal → ℕ → List ℕ
 refused_output which r line = which ++ (refused_line r line ++ text "\n")
 
 -- the first book's refusal, else the second's
-abbrev pub output_if : Judgement → Judgement → List ReadRule → List ReadRule → List ℕ
-output_if (Refused r line) j xs ys = refused_output (text "first\t") r line
-output_if (Accepted n) (Refused r line) xs ys = refused_output (text "second\t") r line
-output_if (Accepted n) (Accepted m) xs ys = rules_output xs ys
+abbrev pub output_if : Result ℕ BookRefusal → Result ℕ BookRefusal → List ReadRule → List ReadRule → List ℕ
+output_if (Err e) j xs ys = refused_output (text "first\t") e.refusal e.line
+output_if (Ok n) (Err e) xs ys = refused_output (text "second\t") e.refusal e.line
+output_if (Ok n) (Ok m) xs ys = rules_output xs ys
 
 -- ALL THAT IS WRITTEN for two books
 unfoldable pub compare_output : Limits → List ℕ → List ℕ → List ℕ

@@ -1,4 +1,5 @@
 -- THE RULES OF A LOADED BOOK, READ: the one at a place, and those after it; none past the last. The table of a rule is what is read at its place.
+use Rattle.std.specs.Prelude.{Ok}
 use mathlib.Core.Path.{◌≡◌, sym, ap, subst, ◌∙◌}
 use mathlib.Core.Logic.{◌⊎◌, inl, inr}
 use mathlib.Core.Bool.{Bool, not}
@@ -10,7 +11,6 @@ use lib.ListN.{length, get_or, take, drop}
 use borrow.Author.Tests.{leb-true, leb-false}
 use Rattle.forms.proofs.Bools.{by_cases}
 use Rattle.definitions.specs.declared.answers.Reading.{Reading}
-use Rattle.definitions.specs.declared.books.Judgement.TheVariants.{Accepted}
 use Rattle.definitions.specs.declared.books.LoadedRule.{LoadedRule}
 use Rattle.definitions.specs.declared.books.Rules.{Rules}
 use Rattle.definitions.specs.Limits.{document_limits, max_rules}
@@ -57,7 +57,7 @@ module _ {rs : Rules} {n : ℕ} (u : InUse rs n) where
         ap (map (read_rule document_limits)) (rules_out book rs i (subst (λ (k : ℕ). (rs.count ≤ i) ⊎ (k ≤ i)) (sym u.long) g))
 
 -- those of an accepted book
-pub loaded_read : (book : List ℕ) (n : ℕ) → judge document_limits book ≡ Accepted n
+pub loaded_read : (book : List ℕ) (n : ℕ) → judge document_limits book ≡ Ok n
     → read_from book (loaded document_limits book).rules 0 ≡ read_rules document_limits book
 unfolding read_rules
 loaded_read book n e =

@@ -1,4 +1,5 @@
 -- The columns of a line together: the room that pairs need, each way in which a line is bad, and the line as its columns.
+use Rattle.std.specs.Prelude.{Result}
 use mathlib.Core.Path.{◌≡◌, refl, sym, ap, ◌∙◌}
 use mathlib.Core.Bool.{true, false, ◌&&◌, and-false}
 use mathlib.Core.List.{List}
@@ -17,6 +18,7 @@ use Rattle.definitions.specs.Parts.{contains, part_before, part_after, after_par
 use Rattle.line_parts.proofs.Delimiters.{after_parts-le, after_next, part_is, part_within}
 use Rattle.line_numbers.specs.HexPairs.{is_hex}
 use Rattle.line_packets.specs.declared.packets.PacketColumns.{PacketColumns}
+use Rattle.definitions.specs.declared.answers.BookRefusal.{BookRefusal}
 use Rattle.line_packets.specs.Packets.{is_packet, packet_of}
 use Rattle.line_packets.proofs.FourColumns.{packet_and}
 use Rattle.decision_lines.specs.DecisionLines.{max_line, is_decision_line, decision_text, decision_answer}
@@ -29,7 +31,7 @@ room_is e = omega (arith, e)
 -- ---- a decision by the bytes that the pairs wrote
 
 pub decided-is :
-    {p u d v b w : List ℕ} {r : Decision} (dir : Direction) (m : FieldMap) → p ≡ u → d ≡ v → b ≡ w → r ≡ decision document_limits p d dir m b
+    {p u d v b w : List ℕ} {r : Result Decision BookRefusal} (dir : Direction) (m : FieldMap) → p ≡ u → d ≡ v → b ≡ w → r ≡ decision document_limits p d dir m b
     → decision_text (decision document_limits u v dir m w) ≡ decision_text r
 decided-is dir m e f g h = cc
 

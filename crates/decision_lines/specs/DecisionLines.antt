@@ -1,11 +1,11 @@
 -- A LINE OF DECISIONS, and the answer to it: what a packet and a book come to, for comparison with other programs. docs/vectors/README.md has the form in words. In
 -- numbers a tab is 9.
-use Rattle.std.specs.Prelude.{ℕ, Bool, ◌&&◌, List, ◌++◌, length, leb, if◌then◌else◌}
+use Rattle.std.specs.Prelude.{ℕ, Bool, ◌&&◌, List, ◌++◌, length, leb, if◌then◌else◌, Result, Ok, Err}
 use Rattle.forms.specs.Bytes.{text}
 use Rattle.definitions.specs.declared.books.Action.{Action}
 use Rattle.definitions.specs.declared.books.Action.TheVariants.{Pass, Hold}
 use Rattle.definitions.specs.declared.books.Decision.{Decision}
-use Rattle.definitions.specs.declared.books.Decision.TheVariants.{Decided, Refused}
+use Rattle.definitions.specs.declared.answers.BookRefusal.{BookRefusal}
 use Rattle.definitions.specs.Limits.{document_limits}
 use Rattle.definitions.specs.Refusals.{number_of}
 use Rattle.definitions.specs.Canonical.{decimal}
@@ -31,9 +31,9 @@ action_text Pass = text "pass "
 action_text Hold = text "hold "
 
 -- action and rule, or the book's refusal and its line
-unfoldable pub decision_text : Decision → List ℕ
-decision_text (Decided a n) = action_text a ++ decimal n
-decision_text (Refused r line) = text "refused " ++ (decimal (number_of r) ++ (text " " ++ decimal line))
+unfoldable pub decision_text : Result Decision BookRefusal → List ℕ
+decision_text (Ok d) = action_text d.action ++ decimal d.rule
+decision_text (Err e) = text "refused " ++ (decimal (number_of e.refusal) ++ (text " " ++ decimal e.line))
 
 -- what is written for a line, without its number and the LF
 unfoldable pub decision_answer : List ℕ → List ℕ

@@ -1,6 +1,5 @@
 // The answer to a line of decisions, put into a lent buffer.
 ghost use Rattle.std.specs.Prelude.{◌≡◌, true, ◌≤◌, length};
-ghost use Rattle.definitions.specs.declared.books.Decision.TheVariants as decided;
 ghost use Rattle.definitions.specs.Cases.{pairs};
 ghost use Rattle.definitions.specs.Decisions.{decision};
 ghost use Rattle.definitions.specs.Limits.{document_limits};
@@ -9,10 +8,10 @@ ghost use Rattle.line_numbers.specs.HexPairs.{is_hex};
 ghost use Rattle.decision_lines.specs.DecisionLines.{max_line, action_text, decision_text, decision_answer};
 ghost use Rattle.decision_lines.specs.Columns.{columns_text};
 
-use definitions::answers::Refusal;
+use definitions::answers::{BookRefusal, Refusal};
 use definitions::books::{Action, Decision};
 use line_numbers::hex_pairs::{is_hex_pairs, put_pairs};
-use line_packets::packets::{PacketColumns, PacketResult, parse_packet};
+use line_packets::packets::{PacketColumns, parse_packet};
 use line_parts::{contains, part_after, part_before};
 use refusal_numbers::number_of;
 use write_bytes::{put, put_decimal, put_word};
@@ -35,7 +34,7 @@ fn put_action(out: &mut [u8], at: usize, a: Action) -> usize
 
 // A book's refusal with its line.
 fn put_unjudged(out: &mut [u8], at: usize, r: Refusal, line: usize) -> usize
-    ensures { Puts out.old at (decision_text (decided.Refused r line)) out.new result }
+    ensures { Puts out.old at (decision_text (Err (record { refusal = r; line = line }))) out.new result }
 {
     let a1 = put_word(out, at, b"refused ");
     let a2 = put_decimal(out, a1, number_of(r));
@@ -44,15 +43,15 @@ fn put_unjudged(out: &mut [u8], at: usize, r: Refusal, line: usize) -> usize
 }
 
 // Action and rule, or the book's refusal with its line.
-fn put_decision(out: &mut [u8], at: usize, d: Decision) -> usize
+fn put_decision(out: &mut [u8], at: usize, d: Result<Decision, BookRefusal>) -> usize
     ensures { Puts out.old at (decision_text d) out.new result }
 {
     match d {
-        Decision::Decided(action, number) => {
-            let a1 = put_action(out, at, action);
-            put_decimal(out, a1, number as u64)
+        Ok(d) => {
+            let a1 = put_action(out, at, d.action);
+            put_decimal(out, a1, d.rule as u64)
         }
-        Decision::Refused(r, line) => put_unjudged(out, at, r, line),
+        Err(e) => put_unjudged(out, at, e.refusal, e.line),
     }
 }
 
@@ -107,7 +106,7 @@ fn put_columns(
     if !is_hex_pairs(book) {
         return put_word(out, at, b"bad");
     }
-    let PacketResult::Parsed(located) = parse_packet(origin, packet, fields, decoded) else {
+    let Some(located) = parse_packet(origin, packet, fields, decoded) else {
         return put_word(out, at, b"bad");
     };
     put_formed(

@@ -1,5 +1,6 @@
 -- What document 01 leaves out is refused, by computation: the name of an option left out with 5 at its first dash, a form left out of a listed option
 -- with 6 at the first byte that is left out. One statement over one table.
+use Rattle.std.specs.Prelude.{Result}
 use mathlib.Core.Path.{◌≡◌, refl}
 use mathlib.Core.Bool.{Bool, true, ◌&&◌}
 use mathlib.Core.List.{List, [], ◌∷◌, ◌++◌}
@@ -8,12 +9,12 @@ use Prim.Native.String.{String}
 use lib.ListN.{length}
 use lib.Dec.{eqb}
 use Rattle.forms.specs.Bytes.{text}
-use Rattle.definitions.specs.declared.answers.ReadOutcome.{ReadOutcome}
 use Rattle.definitions.specs.Limits.{document_limits}
 use Rattle.definitions.specs.Lists.{all?}
 use Rattle.definitions.specs.Refusals.{read_number, read_place}
 use Rattle.definitions.specs.Reading.{read}
 use Rattle.definitions.specs.Computing.{computing}
+use Rattle.definitions.specs.declared.answers.TextRefusal.{TextRefusal}
 
 -- a refusal's number, how many bytes of the option stand before its place, and an option after its two dashes
 pub record LeftOut : Type 0 where
@@ -52,7 +53,7 @@ left_out =
 pub front : List ℕ
 front = text "F-SBID(--name \"n\";--protocol 6;"
 
-pub refused_at : ℕ → ℕ → ReadOutcome → Bool
+pub refused_at : ℕ → ℕ → Result Unit TextRefusal → Bool
 refused_at n p o = eqb (read_number o) n && eqb (read_place o) p
 
 pub refused : LeftOut → Bool

@@ -1,26 +1,20 @@
 -- EVERY ANSWER IN THE DOCUMENTS' NUMBERS: its refusal, 0 for none, and then its values. Document 01, sections "Numbers of refusal" and "Meaning", its last
 -- paragraph; document 02, T-03. The contract of an entry says what it answers, and what that is in numbers.
-use Rattle.std.specs.Prelude.{ℕ, List, [], ◌∷◌, map, length, replicate}
+use Rattle.std.specs.Prelude.{ℕ, List, [], ◌∷◌, map, length, replicate, Result, Ok, Err}
 use Rattle.definitions.specs.declared.table.Table.{Table}
 use Rattle.definitions.specs.declared.packets.Direction.{Direction}
 use Rattle.definitions.specs.declared.packets.FieldMap.{FieldMap}
 use Rattle.definitions.specs.declared.packets.Start.{Start}
 use Rattle.definitions.specs.declared.packets.Placement.{Placement}
 use Rattle.definitions.specs.declared.packets.PacketHeader.{PacketHeader}
-use Rattle.definitions.specs.declared.answers.Check.{Check}
-use Rattle.definitions.specs.declared.answers.Check.TheVariants.{Pass, Refuse}
-use Rattle.definitions.specs.declared.answers.ReadOutcome.{ReadOutcome}
-use Rattle.definitions.specs.declared.answers.Writing.{Writing}
-use Rattle.definitions.specs.declared.answers.PacketAnswer.{PacketAnswer}
-use Rattle.definitions.specs.declared.answers.PacketAnswer.TheVariants.{Seen, Refused}
 use Rattle.definitions.specs.declared.answers.Verdict.{Verdict}
 use Rattle.definitions.specs.declared.answers.Answer.{Answer}
 use Rattle.definitions.specs.declared.books.Action.{Action}
 use Rattle.definitions.specs.declared.books.Action.TheVariants as action
-use Rattle.definitions.specs.declared.books.Judgement.{Judgement}
-use Rattle.definitions.specs.declared.books.Judgement.TheVariants as judgement
 use Rattle.definitions.specs.declared.books.Decision.{Decision}
-use Rattle.definitions.specs.declared.books.Decision.TheVariants as decision
+use Rattle.definitions.specs.declared.answers.BookRefusal.{BookRefusal}
+use Rattle.definitions.specs.declared.answers.Refusal.{Refusal}
+use Rattle.definitions.specs.declared.answers.TextRefusal.{TextRefusal}
 use Rattle.definitions.specs.Limits.{Limits, max_patterns}
 use Rattle.definitions.specs.Lists.{keep, padded}
 use Rattle.definitions.specs.Starts.{start_number}
@@ -39,11 +33,11 @@ use Rattle.definitions.specs.Decisions.{decision as decisionOf}
 -- ---- of an answer, case by case
 
 -- number, place
-abbrev pub read_numbers : ReadOutcome → List ℕ
+abbrev pub read_numbers : Result Unit TextRefusal → List ℕ
 read_numbers o = read_number o ∷ read_place o ∷ []
 
 -- number, bytes written
-abbrev pub write_numbers : Writing → List ℕ
+abbrev pub write_numbers : Result ℕ Refusal → List ℕ
 write_numbers w = write_number w ∷ write_length w ∷ []
 
 -- number, header fields; a refusal has none
@@ -51,19 +45,19 @@ abbrev pub header_numbers : PacketHeader → List ℕ
 header_numbers h =
     h.total ∷ h.payload ∷ h.protocol ∷ h.tos ∷ h.id ∷ h.ttl ∷ h.checksum ∷ h.source ∷ h.destination ∷ h.sport ∷ h.dport ∷ []
 
-abbrev pub header_values : PacketAnswer → List ℕ
-header_values (Seen h) = header_numbers h
-header_values (Refused r) = []
+abbrev pub header_values : Result PacketHeader Refusal → List ℕ
+header_values (Ok h) = header_numbers h
+header_values (Err r) = []
 
-abbrev pub packet_numbers : PacketAnswer → List ℕ
+abbrev pub packet_numbers : Result PacketHeader Refusal → List ℕ
 packet_numbers a = packet_number a ∷ header_values a
 
 -- a check: number
-abbrev pub check_numbers : Check → List ℕ
+abbrev pub check_numbers : Result Unit Refusal → List ℕ
 check_numbers c = check_number c ∷ []
 
 -- number, 1 for met
-abbrev pub verdict_numbers : Verdict → List ℕ
+abbrev pub verdict_numbers : Result Verdict Refusal → List ℕ
 verdict_numbers v = verdict_number v ∷ verdict_met v ∷ []
 
 -- number, 1 for found, count, starts and unused room
@@ -71,25 +65,25 @@ abbrev pub answer_numbers : Answer → List ℕ
 answer_numbers a = found_number a.found ∷ found_one a.found ∷ a.placement.count ∷ map start_number a.placement.starts
 
 -- a book: number, line, how many rules
-abbrev pub judgement_numbers : Judgement → List ℕ
-judgement_numbers (judgement.Accepted n) = 0 ∷ 0 ∷ n ∷ []
-judgement_numbers (judgement.Refused r line) = number_of r ∷ line ∷ 0 ∷ []
+abbrev pub judgement_numbers : Result ℕ BookRefusal → List ℕ
+judgement_numbers (Ok n) = 0 ∷ 0 ∷ n ∷ []
+judgement_numbers (Err e) = number_of e.refusal ∷ e.line ∷ 0 ∷ []
 
 -- a decision: number, line, 1 for pass, rule; a refusal passes nothing
 abbrev pub pass_number : Action → ℕ
 pass_number action.Pass = 1
 pass_number action.Hold = 0
 
-abbrev pub decision_numbers : Decision → List ℕ
-decision_numbers (decision.Decided a n) = 0 ∷ 0 ∷ pass_number a ∷ n ∷ []
-decision_numbers (decision.Refused r line) = number_of r ∷ line ∷ 0 ∷ 0 ∷ []
+abbrev pub decision_numbers : Result Decision BookRefusal → List ℕ
+decision_numbers (Ok d) = 0 ∷ 0 ∷ pass_number d.action ∷ d.rule ∷ []
+decision_numbers (Err e) = number_of e.refusal ∷ e.line ∷ 0 ∷ 0 ∷ []
 
 -- ---- of what an entry is given
 
 -- the number of what is due and the values beside it: v where nothing is due, else w
-abbrev pub numbered : Check → List ℕ → List ℕ → List ℕ
-numbered Pass v w = 0 ∷ v
-numbered (Refuse r) v w = number_of r ∷ w
+abbrev pub numbered : Result Unit Refusal → List ℕ → List ℕ → List ℕ
+numbered (Ok tt) v w = 0 ∷ v
+numbered (Err r) v w = number_of r ∷ w
 
 -- reading a text: 1 to 12, and the place; a success has number and place 0
 abbrev pub read_in_numbers : Limits → List ℕ → List ℕ

@@ -1,17 +1,16 @@
 -- A BLOCK OF PACKETS, and what some rules decide for each. Document 02, T-03. A packet's record is 30 bytes, then the packet, then its decoded buffer:
 -- byte 0, 0 if it comes from the client; byte 1, a bit for each field that is present; bytes 2 and 3, the packet's length; 4 and 5, the decoded buffer's; from 6 on,
 -- for body, banner, file, uri, header and host, start and length. Numbers of two bytes have their big end first.
-use Rattle.std.specs.Prelude.{ℕ, zero, suc, ◌+◌, ◌*◌, ◌/◌, ◌%◌, Bool, List, [], ◌∷◌, ◌++◌, map, length, get_or, take, drop, eqb, leb, if◌then◌else◌}
+use Rattle.std.specs.Prelude.{ℕ, zero, suc, ◌+◌, ◌*◌, ◌/◌, ◌%◌, Bool, List, [], ◌∷◌, ◌++◌, map, length, get_or, take, drop, eqb, leb, if◌then◌else◌, Option, Some, None, Result, Ok, Err}
 use Rattle.definitions.specs.declared.packets.Direction.{Direction}
 use Rattle.definitions.specs.declared.packets.Direction.TheVariants.{Client, Server}
-use Rattle.definitions.specs.declared.packets.FieldSpan.{FieldSpan}
-use Rattle.definitions.specs.declared.packets.FieldSpan.TheVariants.{Absent, At}
 use Rattle.definitions.specs.declared.packets.FieldMap.{FieldMap}
 use Rattle.definitions.specs.declared.books.Action.{Action}
 use Rattle.definitions.specs.declared.books.Action.TheVariants as action
 use Rattle.definitions.specs.declared.books.Decision.{Decision}
-use Rattle.definitions.specs.declared.books.Decision.TheVariants.{Decided, Refused}
 use Rattle.definitions.specs.declared.books.Answered.{Answered}
+use Rattle.definitions.specs.declared.answers.BookRefusal.{BookRefusal}
+use Rattle.definitions.specs.declared.packets.Span.{Span}
 use Rattle.definitions.specs.Limits.{Limits}
 use Rattle.definitions.specs.Packet.{big_endian}
 use Rattle.definitions.specs.Books.{Rule}
@@ -42,9 +41,9 @@ unfoldable pub record_direction : List ℕ → Direction
 record_direction l = if eqb (get_or l 0 0) 0 then Client else Server
 
 -- the field whose bit has a weight and whose numbers stand at a place; these play no part where it is absent
-unfoldable pub record_field : List ℕ → ℕ → ℕ → FieldSpan
+unfoldable pub record_field : List ℕ → ℕ → ℕ → Option Span
 record_field l weight at =
-    if eqb (get_or l 1 0 / weight % 2) 1 then At (record { start = big_endian 2 l at; len = big_endian 2 l (at + 2) }) else Absent
+    if eqb (get_or l 1 0 / weight % 2) 1 then Some (record { start = big_endian 2 l at; len = big_endian 2 l (at + 2) }) else None
 
 unfoldable pub record_fields : List ℕ → FieldMap
 record_fields l =
@@ -84,9 +83,9 @@ abbrev pub action_number : Action → ℕ
 action_number action.Pass = 65536
 action_number action.Hold = 0
 
-abbrev pub decision_number : Decision → ℕ
-decision_number (Decided a n) = action_number a + n
-decision_number (Refused r line) = 0
+abbrev pub decision_number : Result Decision BookRefusal → ℕ
+decision_number (Ok d) = action_number d.action + d.rule
+decision_number (Err e) = 0
 
 module _ (lim : Limits) (rs : List Rule) where
   unfoldable pub record_number : PacketRecord → ℕ

@@ -1,17 +1,14 @@
 -- A RULE BOOK: its lines, the form of a line, and how a book is judged. Document 02, T-03. In numbers a tab is 9 and LF is 10.
-use Rattle.std.specs.Prelude.{ℕ, suc, Bool, true, false, not, ◌&&◌, ◌||◌, List, [], ◌∷◌, map, length, get_or, eqb, ltb, leb, if◌then◌else◌}
+use Rattle.std.specs.Prelude.{ℕ, suc, Bool, true, false, not, ◌&&◌, ◌||◌, List, [], ◌∷◌, map, length, get_or, eqb, ltb, leb, if◌then◌else◌, Result, Ok, Err}
 use Rattle.forms.specs.Bytes.{text}
 use Rattle.definitions.specs.declared.answers.Refusal.TheVariants as refusal
-use Rattle.definitions.specs.declared.answers.Check.{Check}
-use Rattle.definitions.specs.declared.answers.Check.TheVariants.{Pass, Refuse}
-use Rattle.definitions.specs.declared.answers.ReadOutcome.{ReadOutcome}
-use Rattle.definitions.specs.declared.answers.ReadOutcome.TheVariants as outcome
 use Rattle.definitions.specs.declared.books.State.{State}
 use Rattle.definitions.specs.declared.books.State.TheVariants as state
 use Rattle.definitions.specs.declared.books.Action.{Action}
 use Rattle.definitions.specs.declared.books.Action.TheVariants as action
-use Rattle.definitions.specs.declared.books.Judgement.{Judgement}
-use Rattle.definitions.specs.declared.books.Judgement.TheVariants.{Accepted, Refused}
+use Rattle.definitions.specs.declared.answers.BookRefusal.{BookRefusal}
+use Rattle.definitions.specs.declared.answers.Refusal.{Refusal}
+use Rattle.definitions.specs.declared.answers.TextRefusal.{TextRefusal}
 use Rattle.definitions.specs.Limits.{Limits, max_word, max_book, max_rules}
 use Rattle.definitions.specs.Lists.{same_bytes}
 use Rattle.definitions.specs.Numbers.{value_of, is_number}
@@ -75,27 +72,27 @@ rules_of book = map rule_of (book_lines book)
 
 -- ---- judging: 50, then line by line 53, 51, 52, the text's own refusal, whether the rule is on or off
 
-abbrev pub text_check : ReadOutcome → Check
-text_check outcome.Accepted = Pass
-text_check (outcome.Refused r place) = Refuse r
+abbrev pub text_check : Result Unit TextRefusal → Result Unit Refusal
+text_check (Ok tt) = Ok tt
+text_check (Err e) = Err e.refusal
 
 -- line n, after a rule of the number `last`; before the first rule that is 0
-unfoldable pub line_check : Limits → ℕ → ℕ → List ℕ → Check
+unfoldable pub line_check : Limits → ℕ → ℕ → List ℕ → Result Unit Refusal
 line_check lim n last l =
     refuse_if (ltb max_rules n) refusal.RuleCount
     (refuse_if (not (is_rule l)) refusal.RuleForm
     (refuse_if (leb (rule_number l) last) refusal.RuleOrder
     (text_check (read lim (rule_source l)).outcome)))
 
-abbrev pub unless_line : Check → ℕ → Judgement → Judgement
-unless_line Pass n j = j
-unless_line (Refuse r) n j = Refused r n
+abbrev pub unless_line : Result Unit Refusal → ℕ → Result ℕ BookRefusal → Result ℕ BookRefusal
+unless_line (Ok tt) n j = j
+unless_line (Err r) n j = Err (record { refusal = r; line = n })
 
 -- the lines after n good ones
-unfoldable pub judge_lines : Limits → ℕ → ℕ → List (List ℕ) → Judgement
-judge_lines lim n last [] = Accepted n
+unfoldable pub judge_lines : Limits → ℕ → ℕ → List (List ℕ) → Result ℕ BookRefusal
+judge_lines lim n last [] = Ok n
 judge_lines lim n last (l ∷ ls) = unless_line (line_check lim (suc n) last l) (suc n) (judge_lines lim (suc n) (rule_number l) ls)
 
 -- THE JUDGEMENT of a book: how many rules it has, or the first refusal with its line
-unfoldable pub judge : Limits → List ℕ → Judgement
-judge lim book = if ltb max_book (length book) then Refused refusal.BookLength 0 else judge_lines lim 0 0 (book_lines book)
+unfoldable pub judge : Limits → List ℕ → Result ℕ BookRefusal
+judge lim book = if ltb max_book (length book) then Err (record { refusal = refusal.BookLength; line = 0 }) else judge_lines lim 0 0 (book_lines book)

@@ -1,5 +1,5 @@
 -- Canonical text, which document 01 calls "house text". Section "House text": the options of a table in their order, and the text of each.
-use Rattle.std.specs.Prelude.{ℕ, zero, suc, ◌+◌, ◌/◌, ◌%◌, Bool, true, false, not, List, [], ◌∷◌, ◌++◌, length, take, eqb, ltb, ℤ, pos, negsuc, if◌then◌else◌}
+use Rattle.std.specs.Prelude.{ℕ, zero, suc, ◌+◌, ◌/◌, ◌%◌, Bool, true, false, not, List, [], ◌∷◌, ◌++◌, length, take, eqb, ltb, ℤ, pos, negsuc, if◌then◌else◌, Some, None, Option}
 use Rattle.forms.specs.Bytes.{text}
 use Rattle.forms.specs.Form.{has}
 use Rattle.definitions.specs.declared.table.Flow as flows
@@ -22,10 +22,6 @@ use Rattle.definitions.specs.declared.table.Context as contexts
 use Rattle.definitions.specs.declared.table.Context.TheVariants as context
 use Rattle.definitions.specs.declared.table.Reference.{Reference}
 use Rattle.definitions.specs.declared.table.Reference.TheVariants as reference
-use Rattle.definitions.specs.declared.table.Distance as distances
-use Rattle.definitions.specs.declared.table.Distance.TheVariants as distance
-use Rattle.definitions.specs.declared.table.Within as withins
-use Rattle.definitions.specs.declared.table.Within.TheVariants as within
 use Rattle.definitions.specs.declared.table.FieldTest.{FieldTest}
 use Rattle.definitions.specs.declared.table.ByteTest.{ByteTest}
 use Rattle.definitions.specs.declared.table.Pattern as patterns
@@ -34,6 +30,8 @@ use Rattle.definitions.specs.declared.table.Item.TheVariants as item
 use Rattle.definitions.specs.declared.table.Address.{Address}
 use Rattle.definitions.specs.declared.table.Slot.{Slot}
 use Rattle.definitions.specs.declared.table.Table.{Table}
+use Rattle.definitions.specs.declared.table.DistanceValue.{DistanceValue}
+use Rattle.definitions.specs.declared.table.WithinValue.{WithinValue}
 use Rattle.definitions.specs.Limits.{max_prefix}
 use Rattle.definitions.specs.OptionValues.{Modifier, Context, NoCase, Distance, Within, OptionValue, Name, Protocol, Flow, Test, Pattern, Modified}
 use Rattle.definitions.specs.Forms.{max_field, plain_bytes}
@@ -64,13 +62,13 @@ context_option context.File = modifier_option (Context context.File)
 abbrev pub no_case_option : Bool → List OptionValue
 no_case_option nocase = if nocase then modifier_option NoCase else []
 
-abbrev pub distance_option : distances.Distance → List OptionValue
-distance_option distance.Unset = []
-distance_option (distance.Given d) = modifier_option (Distance d)
+abbrev pub distance_option : Option DistanceValue → List OptionValue
+distance_option None = []
+distance_option (Some d) = modifier_option (Distance d)
 
-abbrev pub within_option : withins.Within → List OptionValue
-within_option within.Unset = []
-within_option (within.Given w) = modifier_option (Within w)
+abbrev pub within_option : Option WithinValue → List OptionValue
+within_option None = []
+within_option (Some w) = modifier_option (Within w)
 
 -- the pattern p, whose bytes stand at the front of b
 abbrev pub pattern_options : patterns.Pattern → List ℕ → List OptionValue

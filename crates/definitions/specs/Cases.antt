@@ -1,13 +1,12 @@
 -- The starred cases of document 01, section "On both sides of the line": one table. proofs/Starred.antt has the statement.
-use Rattle.std.specs.Prelude.{Bool, true, false, ◌&&◌, List, [], ◌∷◌, ◌++◌, map, ℕ, ◌+◌, ◌-◌, ◌*◌, ◌/◌, ◌%◌, length, replicate, eqb}
+use Rattle.std.specs.Prelude.{Bool, true, false, ◌&&◌, List, [], ◌∷◌, ◌++◌, map, ℕ, ◌+◌, ◌-◌, ◌*◌, ◌/◌, ◌%◌, length, replicate, eqb, Option, Some, None}
 use Prim.Native.String.{String}
 use Rattle.definitions.specs.declared.packets.Direction.TheVariants.{Client}
-use Rattle.definitions.specs.declared.packets.FieldSpan.{FieldSpan}
-use Rattle.definitions.specs.declared.packets.FieldSpan.TheVariants.{Absent, At}
 use Rattle.definitions.specs.declared.packets.FieldMap.{FieldMap}
 use Rattle.definitions.specs.declared.answers.Reading.{Reading}
 use Rattle.definitions.specs.declared.answers.Query.{Query}
 use Rattle.definitions.specs.declared.answers.Query.TheVariants.{First, Next}
+use Rattle.definitions.specs.declared.packets.Span.{Span}
 use Rattle.definitions.specs.Limits.{document_limits}
 use Rattle.forms.specs.Bytes.{text}
 use Rattle.definitions.specs.Lists.{same_bytes}
@@ -45,14 +44,14 @@ packet_with payload =
     ∷ (hex "12370000400600000a0a0aff010203040000000000000000000000005000000000000000" ++ payload))
 
 -- uri as said, no other field
-unfoldable pub uri_only : FieldSpan → FieldMap
-uri_only u = record { uri = u; header = Absent; body = Absent; banner = Absent; host = Absent; file = Absent }
+unfoldable pub uri_only : Option Span → FieldMap
+uri_only u = record { uri = u; header = None; body = None; banner = None; host = None; file = None }
 
 -- A case: a text, a payload, uri, the starts held at first and the queries; the text's refusal and place (0 and 0: it reads), and the answers
 pub record Case : Type 0 where
   pub source : List ℕ
   pub payload : List ℕ
-  pub uri : FieldSpan
+  pub uri : Option Span
   pub held : List ℕ
   pub queries : List Query
   pub number : ℕ
@@ -78,14 +77,14 @@ none = replicate 11 0
 -- a case on a payload, no field but packet; a text alone
 unfoldable pub on_payload : String → String → List ℕ → List Query → List (List ℕ) → Case
 on_payload p options held queries expected =
-    record { source = signature options; payload = text p; uri = Absent; held = held; queries = queries; number = 0; place = 0; expected = expected }
+    record { source = signature options; payload = text p; uri = None; held = held; queries = queries; number = 0; place = 0; expected = expected }
 
-unfoldable pub on_uri : FieldSpan → String → List Query → List (List ℕ) → Case
+unfoldable pub on_uri : Option Span → String → List Query → List (List ℕ) → Case
 on_uri u options queries expected =
     record { source = signature options; payload = text "aaXbbX"; uri = u; held = []; queries = queries; number = 0; place = 0; expected = expected }
 
 unfoldable pub on_text : String → ℕ → ℕ → Case
-on_text s n p = record { source = text s; payload = []; uri = Absent; held = []; queries = []; number = n; place = p; expected = [] }
+on_text s n p = record { source = text s; payload = []; uri = None; held = []; queries = []; number = n; place = p; expected = [] }
 
 unfoldable pub cases : List Case
 cases =
@@ -104,8 +103,8 @@ cases =
     on_payload "aaXbbX" "--data_at 6;" [] (First ∷ Next ∷ []) (found [] ∷ none ∷ []) ∷
     on_payload "aaXbbX" "--data_at 7;" [] (First ∷ []) (none ∷ []) ∷
     -- `!"q"`, context uri absent: none. Present with length 0: one empty placement
-    on_uri Absent "--pattern !\"q\"; --context uri;" (First ∷ []) (none ∷ []) ∷
-    on_uri (At (record { start = 0; len = 0 })) "--pattern !\"q\"; --context uri;" (First ∷ Next ∷ []) (found [] ∷ none ∷ []) ∷
+    on_uri None "--pattern !\"q\"; --context uri;" (First ∷ []) (none ∷ []) ∷
+    on_uri (Some (record { start = 0; len = 0 })) "--pattern !\"q\"; --context uri;" (First ∷ Next ∷ []) (found [] ∷ none ∷ []) ∷
     -- "aa" in payload `aaa`: (0), (1)
     on_payload "aaa" "--pattern \"aa\";" [] (First ∷ Next ∷ Next ∷ []) (found (0 ∷ []) ∷ found (1 ∷ []) ∷ none ∷ []) ∷
     -- id 0x1237 meets `ip.id & 0xff = 0x37`
@@ -123,7 +122,7 @@ unfoldable pub known_mistakes : List Case
 known_mistakes =
     on_payload "aaXbbX" "--pattern \"a\"; --pattern \"X\"; --distance 0; --within 1;" [] (First ∷ Next ∷ []) (found (1 ∷ 2 ∷ []) ∷ none ∷ []) ∷
     on_payload "aaXbbX" "--pattern \"a\"; --distance -1,packet; --within 2,packet;" [] (First ∷ Next ∷ []) (found (0 ∷ []) ∷ none ∷ []) ∷
-    on_uri Absent "--pattern \"X\"; --pattern !\"q\"; --context uri;" (First ∷ []) (none ∷ []) ∷
+    on_uri None "--pattern \"X\"; --pattern !\"q\"; --context uri;" (First ∷ []) (none ∷ []) ∷
     []
 
 -- Document 02, T-04, from both starting points: after the first X of `aaXbbX` three bytes follow, after the second none; an empty payload has 0 bytes

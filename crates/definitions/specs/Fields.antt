@@ -1,17 +1,14 @@
 -- The fields, the entry that returns a field's bytes, and refusal 35. Section "Packet and fields".
-use Rattle.std.specs.Prelude.{ℕ, ◌+◌, Bool, true, false, List, [], ◌∷◌, length, take, drop, ltb, if◌then◌else◌}
+use Rattle.std.specs.Prelude.{ℕ, ◌+◌, Bool, true, false, List, [], ◌∷◌, length, take, drop, ltb, if◌then◌else◌, Option, Some, None, Result, Ok}
 use Rattle.definitions.specs.declared.table.Context.{Context}
 use Rattle.definitions.specs.declared.table.Context.TheVariants as context
 use Rattle.definitions.specs.declared.table.SizeField.{SizeField}
 use Rattle.definitions.specs.declared.table.SizeField.TheVariants as size_field
 use Rattle.definitions.specs.declared.packets.Span.{Span}
-use Rattle.definitions.specs.declared.packets.FieldSpan.{FieldSpan}
-use Rattle.definitions.specs.declared.packets.FieldSpan.TheVariants.{Absent, At}
 use Rattle.definitions.specs.declared.packets.FieldMap.{FieldMap}
 use Rattle.definitions.specs.declared.packets.PacketHeader.{PacketHeader}
 use Rattle.definitions.specs.declared.answers.Refusal.TheVariants as refusal
-use Rattle.definitions.specs.declared.answers.Check.{Check}
-use Rattle.definitions.specs.declared.answers.Check.TheVariants.{Pass}
+use Rattle.definitions.specs.declared.answers.Refusal.{Refusal}
 use Rattle.definitions.specs.Lists.{any?}
 use Rattle.definitions.specs.Refusals.{refuse_if}
 use Rattle.definitions.specs.Packet.{datagram_of, header_of, payload_of}
@@ -27,8 +24,8 @@ buffer_of payload decoded context.Host = decoded
 buffer_of payload decoded context.File = payload
 
 -- context packet is the payload, always present
-abbrev pub span_of : List ℕ → FieldMap → Context → FieldSpan
-span_of payload m context.Packet = At (record { start = 0; len = length payload })
+abbrev pub span_of : List ℕ → FieldMap → Context → Option Span
+span_of payload m context.Packet = Some (record { start = 0; len = length payload })
 span_of payload m context.Uri = m.uri
 span_of payload m context.Header = m.header
 span_of payload m context.Body = m.body
@@ -36,19 +33,19 @@ span_of payload m context.Banner = m.banner
 span_of payload m context.Host = m.host
 span_of payload m context.File = m.file
 
-abbrev pub is_at : FieldSpan → Bool
-is_at Absent = false
-is_at (At sp) = true
+abbrev pub is_at : Option Span → Bool
+is_at None = false
+is_at (Some sp) = true
 
 -- a present span passes its buffer
-abbrev pub passes : FieldSpan → List ℕ → Bool
-passes Absent b = false
-passes (At sp) b = ltb (length b) (sp.start + sp.len)
+abbrev pub passes : Option Span → List ℕ → Bool
+passes None b = false
+passes (Some sp) b = ltb (length b) (sp.start + sp.len)
 
 -- the span's part of its buffer; absent, or past its buffer, the empty part at the buffer's start
-abbrev pub shown : FieldSpan → List ℕ → Span
-shown Absent b = record { start = 0; len = 0 }
-shown (At sp) b = if passes (At sp) b then record { start = 0; len = 0 } else sp
+abbrev pub shown : Option Span → List ℕ → Span
+shown None b = record { start = 0; len = 0 }
+shown (Some sp) b = if passes (Some sp) b then record { start = 0; len = 0 } else sp
 
 abbrev pub cut : Span → List ℕ → List ℕ
 cut sp b = take sp.len (drop sp.start b)
@@ -70,8 +67,8 @@ field_passes payload decoded m c = passes (span_of payload m c) (buffer_of paylo
 abbrev pub mapped : List Context
 mapped = context.Uri ∷ context.Header ∷ context.Body ∷ context.Banner ∷ context.Host ∷ context.File ∷ []
 
-unfoldable pub fields_check : List ℕ → List ℕ → FieldMap → Check
-fields_check payload decoded m = refuse_if (any? (field_passes payload decoded m) mapped) refusal.FieldSpan Pass
+unfoldable pub fields_check : List ℕ → List ℕ → FieldMap → Result Unit Refusal
+fields_check payload decoded m = refuse_if (any? (field_passes payload decoded m) mapped) refusal.FieldSpan (Ok tt)
 
 -- the field of data_size
 abbrev pub size_context : SizeField → Context

@@ -1,9 +1,8 @@
 -- THE SYNTAX as rules that make texts: which byte lists are texts, and of which table. No rule knows how a text is read. Section "Text".
-use Rattle.std.specs.Prelude.{◌≡◌, true, false, ℕ}
+use Rattle.std.specs.Prelude.{◌≡◌, true, false, ℕ, Ok}
 use mathlib.Core.List.{List, [], ◌∷◌, ◌++◌, Memᴰ as Mem}
 use Rattle.forms.specs.Bytes.{same_word}
 use Rattle.forms.specs.Form.{Means}
-use Rattle.definitions.specs.declared.answers.Check.TheVariants.{Pass}
 use Rattle.definitions.specs.declared.table.Table.{Table}
 use Rattle.definitions.specs.Lists.{all?, count}
 use Rattle.definitions.specs.OptionValues.{OptionValue}
@@ -29,7 +28,7 @@ OptionsText = OptionsBy OptionText
 -- each option may stand after those before it
 pub data Occurrences : List OptionValue → List OptionValue → Type 0 where
   none : {before : List OptionValue} → Occurrences before []
-  more : {before es : List OptionValue} {e : OptionValue} → occurrence_check before e ≡ Pass → Occurrences (before ++ (e ∷ [])) es → Occurrences before (e ∷ es)
+  more : {before es : List OptionValue} {e : OptionValue} → occurrence_check before e ≡ Ok tt → Occurrences (before ++ (e ∷ [])) es → Occurrences before (e ∷ es)
 
 -- the texts of a table, of any length: `F-SBID(` and the options, each byte from 0x20 to 0x7E; all references usable; name and protocol given
 pub record DerivesBy (Says : List ℕ → OptionValue → Type 1) (room : ℕ) (s : List ℕ) (t : Table) : Type 1 where

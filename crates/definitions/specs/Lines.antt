@@ -1,13 +1,10 @@
 -- What the line program writes. Section "The line program".
-use Rattle.std.specs.Prelude.{ℕ, suc, List, [], ◌∷◌, ◌++◌, eqb, if◌then◌else◌}
+use Rattle.std.specs.Prelude.{ℕ, suc, List, [], ◌∷◌, ◌++◌, eqb, if◌then◌else◌, Result, Ok, Err}
 use Rattle.forms.specs.Bytes.{text}
 use Rattle.definitions.specs.declared.table.Table.{Table}
 use Rattle.definitions.specs.declared.answers.Refusal.{Refusal}
-use Rattle.definitions.specs.declared.answers.ReadOutcome.{ReadOutcome}
-use Rattle.definitions.specs.declared.answers.ReadOutcome.TheVariants.{Accepted, Refused}
-use Rattle.definitions.specs.declared.answers.Check.{Check}
-use Rattle.definitions.specs.declared.answers.Check.TheVariants.{Pass, Refuse}
 use Rattle.definitions.specs.declared.answers.Reading.{Reading}
+use Rattle.definitions.specs.declared.answers.TextRefusal.{TextRefusal}
 use Rattle.definitions.specs.Limits.{Limits}
 use Rattle.definitions.specs.Refusals.{number_of}
 use Rattle.definitions.specs.Reading.{read}
@@ -19,13 +16,13 @@ abbrev pub refused_line : Refusal → ℕ → List ℕ
 refused_line r place = decimal (number_of r) ++ (text "\t" ++ decimal place)
 
 -- `ok`, tab, canonical text; or the writer's refusal at place 0, its buffer being as long as a canonical text may be
-abbrev pub canonical_line : Check → Table → List ℕ
-canonical_line Pass t = text "ok\t" ++ canonical_text t
-canonical_line (Refuse r) t = refused_line r 0
+abbrev pub canonical_line : Result Unit Refusal → Table → List ℕ
+canonical_line (Ok tt) t = text "ok\t" ++ canonical_text t
+canonical_line (Err r) t = refused_line r 0
 
-abbrev pub line_by : Limits → ReadOutcome → Table → List ℕ
-line_by lim Accepted t = canonical_line (writing_check lim t lim.canonical) t
-line_by lim (Refused r p) t = refused_line r p
+abbrev pub line_by : Limits → Result Unit TextRefusal → Table → List ℕ
+line_by lim (Ok tt) t = canonical_line (writing_check lim t lim.canonical) t
+line_by lim (Err e) t = refused_line e.refusal e.place
 
 abbrev pub reading_line : Limits → Reading → List ℕ
 reading_line lim r = line_by lim r.outcome r.table

@@ -1,12 +1,11 @@
 -- A LOADED BOOK: what is kept of a judged book, so that it is not judged again for each packet. A rule's text stays where it stands in the book. Document 02, T-03.
-use Rattle.std.specs.Prelude.{ℕ, ◌+◌, ◌-◌, List, [], ◌∷◌, map, length, take, drop}
+use Rattle.std.specs.Prelude.{ℕ, ◌+◌, ◌-◌, List, [], ◌∷◌, map, length, take, drop, Result, Ok, Err}
 use Rattle.definitions.specs.declared.books.State.TheVariants as state
 use Rattle.definitions.specs.declared.books.Action.TheVariants as action
-use Rattle.definitions.specs.declared.books.Judgement.{Judgement}
-use Rattle.definitions.specs.declared.books.Judgement.TheVariants.{Accepted, Refused}
 use Rattle.definitions.specs.declared.books.LoadedRule.{LoadedRule}
 use Rattle.definitions.specs.declared.books.Rules.{Rules}
 use Rattle.definitions.specs.declared.books.LoadedBook.{LoadedBook}
+use Rattle.definitions.specs.declared.answers.BookRefusal.{BookRefusal}
 use Rattle.definitions.specs.Limits.{Limits, max_rules}
 use Rattle.definitions.specs.Lists.{padded}
 use Rattle.definitions.specs.Parts.{after_parts}
@@ -50,9 +49,9 @@ abbrev pub rules_with : List LoadedRule → Rules
 rules_with rs = record { count = length rs; list = padded max_rules unused_rule rs }
 
 -- an accepted book's rules; a refused one has none
-abbrev pub loaded_if : Judgement → List LoadedRule → LoadedBook
-loaded_if (Accepted n) rs = record { judgement = Accepted n; rules = rules_with rs }
-loaded_if (Refused r line) rs = record { judgement = Refused r line; rules = rules_with [] }
+abbrev pub loaded_if : Result ℕ BookRefusal → List LoadedRule → LoadedBook
+loaded_if (Ok n) rs = record { judgement = Ok n; rules = rules_with rs }
+loaded_if (Err e) rs = record { judgement = Err e; rules = rules_with [] }
 
 -- THE LOADED BOOK
 unfoldable pub loaded : Limits → List ℕ → LoadedBook

@@ -1,11 +1,10 @@
 -- Every number of refusal with its place or effect, and the answers that refuse nothing, by examples: one table. Section "Numbers of refusal"; document 02, T-03.
 -- proofs/EveryNumber.antt has the statement.
-use Rattle.std.specs.Prelude.{Bool, false, List, [], ◌∷◌, ◌++◌, map, ℕ, zero, suc, ◌/◌, get_or, replicate, eqb}
+use Rattle.std.specs.Prelude.{Bool, false, List, [], ◌∷◌, ◌++◌, map, ℕ, zero, suc, ◌/◌, get_or, replicate, eqb, Some, None}
 use Prim.Native.String.{String}
 use Rattle.forms.specs.Bytes.{text}
 use Rattle.definitions.specs.declared.table.Table.{Table}
 use Rattle.definitions.specs.declared.packets.Direction.TheVariants.{Client}
-use Rattle.definitions.specs.declared.packets.FieldSpan.TheVariants.{Absent, At}
 use Rattle.definitions.specs.declared.packets.FieldMap.{FieldMap}
 use Rattle.definitions.specs.Limits.{Limits, document_limits}
 use Rattle.definitions.specs.Lists.{any?, same_bytes}
@@ -66,10 +65,10 @@ unfoldable pub good : List ℕ
 good = packet_with (text "aXbX")
 
 unfoldable pub no_fields : FieldMap
-no_fields = uri_only Absent
+no_fields = uri_only None
 
 unfoldable pub long_uri : FieldMap
-long_uri = uri_only (At (record { start = 0; len = 1 }))
+long_uri = uri_only (Some (record { start = 0; len = 1 }))
 
 -- ---- examples of each entry
 

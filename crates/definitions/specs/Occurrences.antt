@@ -1,8 +1,7 @@
 -- What an option may stand after: once, a modifier after a pattern, and the counts. Section "Text", and "Numbers of refusal", 8, 9 and 11.
-use Rattle.std.specs.Prelude.{ℕ, Bool, ◌||◌, List, [], ◌∷◌, length, eqb, ltb, leb}
+use Rattle.std.specs.Prelude.{ℕ, Bool, ◌||◌, List, [], ◌∷◌, length, eqb, ltb, leb, Result, Ok}
 use Rattle.definitions.specs.declared.answers.Refusal.TheVariants as refusal
-use Rattle.definitions.specs.declared.answers.Check.{Check}
-use Rattle.definitions.specs.declared.answers.Check.TheVariants.{Pass}
+use Rattle.definitions.specs.declared.answers.Refusal.{Refusal}
 use Rattle.definitions.specs.Limits.{max_patterns, max_tests, max_addresses}
 use Rattle.definitions.specs.Lists.{any?, count}
 use Rattle.definitions.specs.OptionValues.{Modifier, Context, NoCase, Distance, Within, OptionValue, Name, Protocol, Flow, Test, Pattern, Modified}
@@ -46,19 +45,19 @@ latest ms (Pattern n b ∷ es) = latest [] es
 latest ms (Modified m ∷ es) = latest (m ∷ ms) es
 
 -- given again where once is allowed
-abbrev pub once : List OptionValue → OptionValue → Check
-once es e = refuse_if (any? (same_kind e) es) refusal.Repeated Pass
+abbrev pub once : List OptionValue → OptionValue → Result Unit Refusal
+once es e = refuse_if (any? (same_kind e) es) refusal.Repeated (Ok tt)
 
 -- whether an option may stand after the options es, or 8, 9 or 11
-unfoldable pub occurrence_check : List OptionValue → OptionValue → Check
+unfoldable pub occurrence_check : List OptionValue → OptionValue → Result Unit Refusal
 occurrence_check es (Name n) = once es (Name n)
 occurrence_check es (Protocol p) = once es (Protocol p)
 occurrence_check es (Flow f) = once es (Flow f)
-occurrence_check es (Test it al) = refuse_if (ltb max_addresses (length al) || leb max_tests (count is_test es)) refusal.CountExceeded Pass
-occurrence_check es (Pattern n b) = refuse_if (leb max_patterns (count is_pattern es)) refusal.CountExceeded Pass
+occurrence_check es (Test it al) = refuse_if (ltb max_addresses (length al) || leb max_tests (count is_test es)) refusal.CountExceeded (Ok tt)
+occurrence_check es (Pattern n b) = refuse_if (leb max_patterns (count is_pattern es)) refusal.CountExceeded (Ok tt)
 occurrence_check es (Modified m) =
     refuse_if (eqb (count is_pattern es) 0) refusal.ModifierWithoutPattern
-    (refuse_if (any? (same_modifier m) (latest [] es)) refusal.Repeated Pass)
+    (refuse_if (any? (same_modifier m) (latest [] es)) refusal.Repeated (Ok tt))
 
 -- name and protocol must stand
 unfoldable pub missing : List OptionValue → Bool

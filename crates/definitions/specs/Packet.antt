@@ -1,12 +1,9 @@
 -- One IPv4 packet: datagram, header fields, payload, and refusals 30 to 34. Sections "Packet and fields" and "Numbers of refusal".
 -- Headers are those of RFC 791, 9293, 768 and 792. Checksums and the UDP length are not verified.
-use Rattle.std.specs.Prelude.{ℕ, zero, suc, ◌+◌, ◌*◌, ◌/◌, ◌%◌, Bool, not, ◌&&◌, ◌||◌, List, length, get_or, take, drop, eqb, ltb, if◌then◌else◌}
+use Rattle.std.specs.Prelude.{ℕ, zero, suc, ◌+◌, ◌*◌, ◌/◌, ◌%◌, Bool, not, ◌&&◌, ◌||◌, List, length, get_or, take, drop, eqb, ltb, if◌then◌else◌, Result, Ok, Err}
 use Rattle.definitions.specs.declared.packets.PacketHeader.{PacketHeader}
 use Rattle.definitions.specs.declared.answers.Refusal.TheVariants as refusal
-use Rattle.definitions.specs.declared.answers.Check.{Check}
-use Rattle.definitions.specs.declared.answers.Check.TheVariants.{Pass, Refuse}
-use Rattle.definitions.specs.declared.answers.PacketAnswer.{PacketAnswer}
-use Rattle.definitions.specs.declared.answers.PacketAnswer.TheVariants.{Seen, Refused}
+use Rattle.definitions.specs.declared.answers.Refusal.{Refusal}
 use Rattle.definitions.specs.Limits.{max_packet, max_decoded}
 use Rattle.definitions.specs.Refusals.{refuse_if}
 
@@ -105,20 +102,20 @@ transport_short d =
     else (is_udp (protocol_of d) || is_icmp (protocol_of d)) && ltb (length (after_header d)) 8
 
 -- 33 and 34 are the datagram's own
-abbrev pub datagram_check : List ℕ → Check
-datagram_check d = refuse_if (is_fragment d) refusal.Fragment (refuse_if (transport_short d) refusal.Transport Pass)
+abbrev pub datagram_check : List ℕ → Result Unit Refusal
+datagram_check d = refuse_if (is_fragment d) refusal.Fragment (refuse_if (transport_short d) refusal.Transport (Ok tt))
 
-unfoldable pub packet_check : List ℕ → List ℕ → Check
+unfoldable pub packet_check : List ℕ → List ℕ → Result Unit Refusal
 packet_check p decoded =
     refuse_if (ltb max_packet (length p) || ltb max_decoded (length decoded)) refusal.BufferLength
     (refuse_if (ltb (length p) 20 || not (eqb (version_of p) 4)) refusal.NotIpv4
     (refuse_if (ltb (header_words p) 5 || (ltb (total_length p) (header_length p) || ltb (length p) (total_length p))) refusal.Lengths
     (datagram_check (datagram_of p))))
 
-abbrev pub packet_by : Check → List ℕ → PacketAnswer
-packet_by Pass d = Seen (header_of d)
-packet_by (Refuse r) d = Refused r
+abbrev pub packet_by : Result Unit Refusal → List ℕ → Result PacketHeader Refusal
+packet_by (Ok tt) d = Ok (header_of d)
+packet_by (Err r) d = Err r
 
 -- the header fields of a lent packet, or 30 to 34
-unfoldable pub packet_answer : List ℕ → List ℕ → PacketAnswer
+unfoldable pub packet_answer : List ℕ → List ℕ → Result PacketHeader Refusal
 packet_answer p decoded = packet_by (packet_check p decoded) (datagram_of p)

@@ -1,14 +1,13 @@
 -- When a placement meets a table, and the list of placements. Section "Meaning".
-use Rattle.std.specs.Prelude.{◌≡◌, ℕ, zero, suc, ◌+◌, Bool, true, false, ◌&&◌, ◌||◌, List, [], ◌∷◌, ◌++◌, map, length, take, eqb, if◌then◌else◌}
+use Rattle.std.specs.Prelude.{◌≡◌, ℕ, zero, suc, ◌+◌, Bool, true, false, ◌&&◌, ◌||◌, List, [], ◌∷◌, ◌++◌, map, length, take, eqb, if◌then◌else◌, Option, None}
 use Rattle.definitions.specs.declared.table.Pattern.{Pattern}
 use Rattle.definitions.specs.declared.table.Item.{Item}
 use Rattle.definitions.specs.declared.table.Address.{Address}
 use Rattle.definitions.specs.declared.table.Slot.{Slot}
 use Rattle.definitions.specs.declared.table.Table.{Table}
 use Rattle.definitions.specs.declared.packets.Direction.{Direction}
-use Rattle.definitions.specs.declared.packets.LastMatch.{LastMatch}
-use Rattle.definitions.specs.declared.packets.LastMatch.TheVariants.{None}
 use Rattle.definitions.specs.declared.packets.Start.{Start}
+use Rattle.definitions.specs.declared.packets.Match.{Match}
 use Rattle.definitions.specs.Lists.{none?, keep}
 use Rattle.definitions.specs.Items.{Kind, unused, addressed, patterned, plain_test, kind_of, slots_of, after_item}
 use Rattle.definitions.specs.Starts.{start_at, start_before, same_start}
@@ -83,19 +82,19 @@ only_if b l = if b then l else []
 
 module _ (v : View) where
   -- the pattern lies at a start of its field; on an absent field it lies nowhere
-  unfoldable pub lies_in : Pattern → List ℕ → LastMatch → Start → Bool
+  unfoldable pub lies_in : Pattern → List ℕ → Option Match → Start → Bool
   lies_in p b l s = v.present p.context && lies p b l (v.field p.context) s.at
 
   -- each start at which it lies, in rising order
-  unfoldable pub starts : Pattern → List ℕ → LastMatch → List Start
+  unfoldable pub starts : Pattern → List ℕ → Option Match → List Start
   starts p b l = keep (lies_in p b l) (starts_to (length (v.field p.context)))
 
   -- a negated pattern holds if its field is present and it lies nowhere in its window
-  unfoldable pub unmatched_holds : Pattern → List ℕ → LastMatch → Bool
+  unfoldable pub unmatched_holds : Pattern → List ℕ → Option Match → Bool
   unmatched_holds p b l = v.present p.context && none? (starts p b l)
 
   -- q holds a start for each positive pattern, and each item holds; l is the last positive pattern before
-  unfoldable pub Meets : List Constraint → LastMatch → List Start → Type 0
+  unfoldable pub Meets : List Constraint → Option Match → List Start → Type 0
   Meets [] l [] = Unit {0}
   Meets [] l (s ∷ q) = ⊥
   Meets (matched p b ∷ ws) l [] = ⊥
@@ -104,7 +103,7 @@ module _ (v : View) where
   Meets (tested it al ∷ ws) l q = (test_holds v it al l ≡ true) × Meets ws l q
 
   -- the placements of the items
-  unfoldable pub placements : List Constraint → LastMatch → List (List Start)
+  unfoldable pub placements : List Constraint → Option Match → List (List Start)
   placements [] l = [] ∷ []
   placements (matched p b ∷ ws) l = spread (λ (s : Start). placements ws (last_after l p s)) (starts p b l)
   placements (unmatched p b ∷ ws) l = only_if (unmatched_holds p b l) (placements ws l)

@@ -1,13 +1,10 @@
 -- Reading a text into a table. Sections "Text" and "Numbers of refusal", 1 to 12 with their places and order; document 02, T-02: where 6 and 7 are
 -- placed. Places count from 0.
-use Rattle.std.specs.Prelude.{ℕ, zero, suc, ◌+◌, ◌-◌, Bool, not, List, [], ◌∷◌, ◌++◌, map, length, get_or, take, drop, eqb, ltb, if◌then◌else◌}
+use Rattle.std.specs.Prelude.{ℕ, zero, suc, ◌+◌, ◌-◌, Bool, not, List, [], ◌∷◌, ◌++◌, map, length, get_or, take, drop, eqb, ltb, if◌then◌else◌, Result, Ok, Err}
 use Rattle.forms.specs.Bytes.{text, run}
 use Rattle.forms.specs.Place.{Parsed, OutOfRange, Failed}
 use Rattle.definitions.specs.declared.answers.Refusal.{Refusal}
 use Rattle.definitions.specs.declared.answers.Refusal.TheVariants as refusal
-use Rattle.definitions.specs.declared.answers.Check.{Check}
-use Rattle.definitions.specs.declared.answers.Check.TheVariants as check
-use Rattle.definitions.specs.declared.answers.ReadOutcome.TheVariants as outcome
 use Rattle.definitions.specs.declared.answers.Reading.{Reading}
 use Rattle.definitions.specs.declared.table.Table.{Table}
 use Rattle.definitions.specs.Limits.{Limits}
@@ -33,9 +30,9 @@ pub data Options : Type 0 where
   ended : List Located → Options
   refused : Refusal → ℕ → Options
 
-abbrev pub unless_refused : Check → ℕ → Options → Options
-unless_refused check.Pass at k = k
-unless_refused (check.Refuse r) at k = refused r at
+abbrev pub unless_refused : Result Unit Refusal → ℕ → Options → Options
+unless_refused (Ok tt) at k = k
+unless_refused (Err r) at k = refused r at
 
 -- where 6 and 7 are placed: by the option's first dash, and by the place that its form answers with, for 6 the first at which it cannot go on, for 7
 -- that of the first broken limit
@@ -85,10 +82,10 @@ pattern_dash located k = get_or (map (λ (d : Located). d.dash) (keep (λ (d : L
 
 -- a refusal's table has no name, protocol 0, no items
 abbrev pub refused_reading : ℕ → Refusal → ℕ → Reading
-refused_reading room r p = record { outcome = outcome.Refused r p; table = table_of room [] }
+refused_reading room r p = record { outcome = Err (record { refusal = r; place = p }); table = table_of room [] }
 
 abbrev pub accepted_reading : Table → Reading
-accepted_reading t = record { outcome = outcome.Accepted; table = t }
+accepted_reading t = record { outcome = Ok tt; table = t }
 
 unfoldable pub checked_table : ℕ → List ℕ → List Located → Reading
 checked_table room s located =

@@ -1,20 +1,14 @@
 -- The number and values of each answer. Document 01, section "Numbers of refusal"; document 02, T-03: 50 to 53. No case of these answers is one that the papers
 -- leave free.
-use Rattle.std.specs.Prelude.{ℕ, Bool, if◌then◌else◌}
+use Rattle.std.specs.Prelude.{ℕ, Bool, if◌then◌else◌, Result, Ok, Err}
 use Rattle.definitions.specs.declared.answers.Refusal.{Refusal}
 use Rattle.definitions.specs.declared.answers.Refusal.TheVariants as refusal
-use Rattle.definitions.specs.declared.answers.Check.{Check}
-use Rattle.definitions.specs.declared.answers.Check.TheVariants.{Pass, Refuse}
-use Rattle.definitions.specs.declared.answers.ReadOutcome.{ReadOutcome}
-use Rattle.definitions.specs.declared.answers.ReadOutcome.TheVariants as outcome
-use Rattle.definitions.specs.declared.answers.PacketAnswer.{PacketAnswer}
-use Rattle.definitions.specs.declared.answers.PacketAnswer.TheVariants as packet
-use Rattle.definitions.specs.declared.answers.Writing.{Writing}
-use Rattle.definitions.specs.declared.answers.Writing.TheVariants as writing
 use Rattle.definitions.specs.declared.answers.Verdict.{Verdict}
 use Rattle.definitions.specs.declared.answers.Verdict.TheVariants as verdict
 use Rattle.definitions.specs.declared.answers.Found.{Found}
 use Rattle.definitions.specs.declared.answers.Found.TheVariants as found
+use Rattle.definitions.specs.declared.answers.TextRefusal.{TextRefusal}
+use Rattle.definitions.specs.declared.packets.PacketHeader.{PacketHeader}
 
 abbrev pub number_of : Refusal → ℕ
 number_of refusal.TextLength = 1
@@ -47,62 +41,62 @@ number_of refusal.RuleCount = 53
 -- ---- A success has number and place 0
 
 -- what is due: its number, of a packet's fields too
-abbrev pub check_number : Check → ℕ
-check_number Pass = 0
-check_number (Refuse r) = number_of r
+abbrev pub check_number : Result Unit Refusal → ℕ
+check_number (Ok tt) = 0
+check_number (Err r) = number_of r
 
 -- reading: number and place
-abbrev pub read_number : ReadOutcome → ℕ
-read_number outcome.Accepted = 0
-read_number (outcome.Refused r p) = number_of r
+abbrev pub read_number : Result Unit TextRefusal → ℕ
+read_number (Ok tt) = 0
+read_number (Err e) = number_of e.refusal
 
-abbrev pub read_place : ReadOutcome → ℕ
-read_place outcome.Accepted = 0
-read_place (outcome.Refused r p) = p
+abbrev pub read_place : Result Unit TextRefusal → ℕ
+read_place (Ok tt) = 0
+read_place (Err e) = e.place
 
 -- writing: number, and how many bytes are written
-abbrev pub write_number : Writing → ℕ
-write_number (writing.Written n) = 0
-write_number (writing.Refused r) = number_of r
+abbrev pub write_number : Result ℕ Refusal → ℕ
+write_number (Ok n) = 0
+write_number (Err r) = number_of r
 
-abbrev pub write_length : Writing → ℕ
-write_length (writing.Written n) = n
-write_length (writing.Refused r) = 0
+abbrev pub write_length : Result ℕ Refusal → ℕ
+write_length (Ok n) = n
+write_length (Err r) = 0
 
 -- a packet's header fields: number
-abbrev pub packet_number : PacketAnswer → ℕ
-packet_number (packet.Seen f) = 0
-packet_number (packet.Refused r) = number_of r
+abbrev pub packet_number : Result PacketHeader Refusal → ℕ
+packet_number (Ok f) = 0
+packet_number (Err r) = number_of r
 
 -- verdicts: number, and 1 for met
-abbrev pub verdict_number : Verdict → ℕ
-verdict_number verdict.Met = 0
-verdict_number verdict.NotMet = 0
-verdict_number (verdict.Refused r) = number_of r
+abbrev pub verdict_number : Result Verdict Refusal → ℕ
+verdict_number (Ok verdict.Met) = 0
+verdict_number (Ok verdict.NotMet) = 0
+verdict_number (Err r) = number_of r
 
-abbrev pub verdict_met : Verdict → ℕ
-verdict_met verdict.Met = 1
-verdict_met verdict.NotMet = 0
-verdict_met (verdict.Refused r) = 0
+abbrev pub verdict_met : Result Verdict Refusal → ℕ
+verdict_met (Ok verdict.Met) = 1
+verdict_met (Ok verdict.NotMet) = 0
+verdict_met (Err r) = 0
 
 -- "first" and "next": number, and 1 for found
-abbrev pub found_number : Found → ℕ
-found_number found.Placed = 0
-found_number found.Nothing = 0
-found_number (found.Refused r) = number_of r
+abbrev pub found_number : Result Found Refusal → ℕ
+found_number (Ok found.Placed) = 0
+found_number (Ok found.Nothing) = 0
+found_number (Err r) = number_of r
 
-abbrev pub found_one : Found → ℕ
-found_one found.Placed = 1
-found_one found.Nothing = 0
-found_one (found.Refused r) = 0
+abbrev pub found_one : Result Found Refusal → ℕ
+found_one (Ok found.Placed) = 1
+found_one (Ok found.Nothing) = 0
+found_one (Err r) = 0
 
 -- ---- the order of refusals
 
 -- the refusal r if the test holds, else what is due then
-abbrev pub refuse_if : Bool → Refusal → Check → Check
-refuse_if b r d = if b then Refuse r else d
+abbrev pub refuse_if : Bool → Refusal → Result Unit Refusal → Result Unit Refusal
+refuse_if b r d = if b then Err r else d
 
 -- what is due first
-abbrev pub and_then : Check → Check → Check
-and_then Pass d = d
-and_then (Refuse r) d = Refuse r
+abbrev pub and_then : Result Unit Refusal → Result Unit Refusal → Result Unit Refusal
+and_then (Ok tt) d = d
+and_then (Err r) d = Err r

@@ -1,10 +1,8 @@
 -- The table that options make. Section "Text", the paragraphs after the table of options; unused room is zero.
-use Rattle.std.specs.Prelude.{ℕ, Bool, true, false, List, [], ◌∷◌, ◌++◌, length}
+use Rattle.std.specs.Prelude.{ℕ, Bool, true, false, List, [], ◌∷◌, ◌++◌, length, Some, None}
 use Rattle.definitions.specs.declared.table.Flow as flows
 use Rattle.definitions.specs.declared.table.Flow.TheVariants as flow
 use Rattle.definitions.specs.declared.table.Context.TheVariants as context
-use Rattle.definitions.specs.declared.table.Distance.TheVariants as distance
-use Rattle.definitions.specs.declared.table.Within.TheVariants as within
 use Rattle.definitions.specs.declared.table.Pattern as patterns
 use Rattle.definitions.specs.declared.table.Item.{Item}
 use Rattle.definitions.specs.declared.table.Item.TheVariants as item
@@ -48,13 +46,13 @@ flow_in (Modified m ∷ es) = flow_in es
 
 -- a pattern of n bytes without modifiers, and with one more
 abbrev pub bare : Bool → ℕ → patterns.Pattern
-bare negated n = record { negated = negated; len = n; context = context.Packet; nocase = false; distance = distance.Unset; within = within.Unset }
+bare negated n = record { negated = negated; len = n; context = context.Packet; nocase = false; distance = None; within = None }
 
 abbrev pub with : Modifier → patterns.Pattern → patterns.Pattern
 with (Context c) p = record { negated = p.negated; len = p.len; context = c; nocase = p.nocase; distance = p.distance; within = p.within }
 with NoCase p = record { negated = p.negated; len = p.len; context = p.context; nocase = true; distance = p.distance; within = p.within }
-with (Distance d) p = record { negated = p.negated; len = p.len; context = p.context; nocase = p.nocase; distance = distance.Given d; within = p.within }
-with (Within w) p = record { negated = p.negated; len = p.len; context = p.context; nocase = p.nocase; distance = p.distance; within = within.Given w }
+with (Distance d) p = record { negated = p.negated; len = p.len; context = p.context; nocase = p.nocase; distance = Some d; within = p.within }
+with (Within w) p = record { negated = p.negated; len = p.len; context = p.context; nocase = p.nocase; distance = p.distance; within = Some w }
 
 -- the pattern p with the modifiers among the options after it, up to the next pattern
 unfoldable pub modified : List OptionValue → patterns.Pattern → patterns.Pattern

@@ -1,5 +1,5 @@
 -- When a test holds. Section "Meaning".
-use Rattle.std.specs.Prelude.{ℕ, ◌+◌, ◌-◌, ◌/◌, ◌^◌, Bool, true, false, not, ◌&&◌, ◌||◌, List, [], ◌∷◌, reverse, length, take, drop, eqb, ltb, leb, if◌then◌else◌}
+use Rattle.std.specs.Prelude.{ℕ, ◌+◌, ◌-◌, ◌/◌, ◌^◌, Bool, true, false, not, ◌&&◌, ◌||◌, List, [], ◌∷◌, reverse, length, take, drop, eqb, ltb, leb, if◌then◌else◌, Option, Some, None}
 use Rattle.std.specs.Int.Bits.{bit_and}
 use Rattle.definitions.specs.declared.table.Flow.{Flow}
 use Rattle.definitions.specs.declared.table.Flow.TheVariants as flow
@@ -28,8 +28,7 @@ use Rattle.definitions.specs.declared.table.Address.{Address}
 use Rattle.definitions.specs.declared.packets.Direction.{Direction}
 use Rattle.definitions.specs.declared.packets.Direction.TheVariants.{Client, Server}
 use Rattle.definitions.specs.declared.packets.PacketHeader.{PacketHeader}
-use Rattle.definitions.specs.declared.packets.LastMatch.{LastMatch}
-use Rattle.definitions.specs.declared.packets.LastMatch.TheVariants as last
+use Rattle.definitions.specs.declared.packets.Match.{Match}
 use Rattle.definitions.specs.ByteCounts.{byte_count}
 use Rattle.definitions.specs.Packet.{big_endian, has_ports}
 use Rattle.definitions.specs.Fields.{View, size_context}
@@ -95,15 +94,15 @@ field_holds f t = operator_holds t.operator (bit_and (header_value f t.field) t.
 
 -- ---- data_at and byte_test: what they are counted from. The payload's start; with relative the end of the last positive pattern before, in its field
 
-abbrev pub at_context : Bool → LastMatch → Context
+abbrev pub at_context : Bool → Option Match → Context
 at_context false l = context.Packet
-at_context true last.None = context.Packet
-at_context true (last.Some m) = m.context
+at_context true None = context.Packet
+at_context true (Some m) = m.context
 
-abbrev pub at_start : Bool → LastMatch → ℕ
+abbrev pub at_start : Bool → Option Match → ℕ
 at_start false l = 0
-at_start true last.None = 0
-at_start true (last.Some m) = m.end
+at_start true None = 0
+at_start true (Some m) = m.end
 
 -- data_at N (document 02, T-04): at least N bytes follow a start, in a field of so many bytes
 abbrev pub data_follows : ℕ → ℕ → ℕ → Bool
@@ -137,18 +136,18 @@ module _ (v : View) where
   unfoldable pub size_holds : SizeTest → Bool
   size_holds t = v.present (size_context t.field) && order_holds t.order (length (v.field (size_context t.field))) t.number
 
-  unfoldable pub at_holds : AtTest → LastMatch → Bool
+  unfoldable pub at_holds : AtTest → Option Match → Bool
   at_holds t l =
       v.present (at_context t.relative l)
       && data_follows t.number (at_start t.relative l) (length (v.field (at_context t.relative l)))
 
-  unfoldable pub byte_holds : ByteTest → LastMatch → Bool
+  unfoldable pub byte_holds : ByteTest → Option Match → Bool
   byte_holds t l =
       v.present (at_context t.relative l)
       && bytes_hold t (at_start t.relative l + t.offset) (v.field (at_context t.relative l))
 
   -- a test, after the last positive pattern; a slot that is not in use, and a pattern, are no tests
-  unfoldable pub test_holds : Item → List Address → LastMatch → Bool
+  unfoldable pub test_holds : Item → List Address → Option Match → Bool
   test_holds item.Unused al l = false
   test_holds (item.Address a) al l = address_holds v.header a al
   test_holds item.SameIp al l = eqb v.header.source v.header.destination

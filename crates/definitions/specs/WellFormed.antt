@@ -1,21 +1,18 @@
 -- The tables that some text, rule 1's upper bound lifted, reads as. Section "Numbers of refusal", 20.
-use Rattle.std.specs.Prelude.{◌≡◌, ℕ, ◌+◌, ◌-◌, Bool, true, false, ◌&&◌, length, take, drop, eqb, ltb, leb, nat_abs}
+use Rattle.std.specs.Prelude.{◌≡◌, ℕ, ◌+◌, ◌-◌, Bool, true, false, ◌&&◌, length, take, drop, eqb, ltb, leb, nat_abs, Option, Some, None}
 use mathlib.Core.List.{List, [], ◌∷◌, Memᴰ as Mem}
 use Rattle.forms.specs.Bytes.{between}
 use Rattle.forms.specs.Form.{has}
 use Rattle.definitions.specs.declared.table.NumberField.{NumberField}
 use Rattle.definitions.specs.declared.table.NumberField.TheVariants as number_field
-use Rattle.definitions.specs.declared.table.Distance.{Distance}
-use Rattle.definitions.specs.declared.table.Distance.TheVariants as distance
-use Rattle.definitions.specs.declared.table.Within.{Within}
-use Rattle.definitions.specs.declared.table.Within.TheVariants as within
 use Rattle.definitions.specs.declared.table.Pattern.{Pattern}
 use Rattle.definitions.specs.declared.table.Item.{Item}
 use Rattle.definitions.specs.declared.table.Item.TheVariants as item
 use Rattle.definitions.specs.declared.table.Address.{Address}
 use Rattle.definitions.specs.declared.table.Slot.{Slot}
 use Rattle.definitions.specs.declared.table.Table.{Table}
-use Rattle.definitions.specs.declared.packets.LastMatch.TheVariants.{None}
+use Rattle.definitions.specs.declared.table.DistanceValue.{DistanceValue}
+use Rattle.definitions.specs.declared.table.WithinValue.{WithinValue}
 use Rattle.definitions.specs.Limits.{max_name, max_patterns, max_tests, max_items, max_addresses, max_byte, max_word, max_long, max_prefix}
 use Rattle.definitions.specs.Lists.{all?}
 use Rattle.definitions.specs.Forms.{quotable, max_field, max_number}
@@ -51,13 +48,13 @@ abbrev pub address_unused : Address → Bool
 address_unused a = is_zero a.number && is_zero a.prefix
 
 -- each number within its limit
-abbrev pub distance_fits : Distance → Bool
-distance_fits distance.Unset = true
-distance_fits (distance.Given d) = leb (nat_abs d.offset) max_word
+abbrev pub distance_fits : Option DistanceValue → Bool
+distance_fits None = true
+distance_fits (Some d) = leb (nat_abs d.offset) max_word
 
-abbrev pub within_fits : Within → Bool
-within_fits within.Unset = true
-within_fits (within.Given w) = leb w.number max_word
+abbrev pub within_fits : Option WithinValue → Bool
+within_fits None = true
+within_fits (Some w) = leb w.number max_word
 
 -- no text reads as an item of the old kind, ip_id (document 02, T-09)
 abbrev pub number_fits : NumberField → ℕ → Bool

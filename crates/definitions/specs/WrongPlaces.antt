@@ -1,12 +1,11 @@
 -- Where refusals 6 and 7 are placed, said without scanning: by the texts that an option's form makes. Document 02, T-02.
-use Rattle.std.specs.Prelude.{ℕ, ◌+◌, ◌-◌, ◌≤◌, ◌<◌, ◌≡◌, Bool, true, false, ◌||◌, length, take, drop, eqb, leb, if◌then◌else◌}
+use Rattle.std.specs.Prelude.{ℕ, ◌+◌, ◌-◌, ◌≤◌, ◌<◌, ◌≡◌, Bool, true, false, ◌||◌, length, take, drop, eqb, leb, if◌then◌else◌, Result, Ok, Err}
 use mathlib.Core.List.{List, [], ◌∷◌, ◌++◌, Memᴰ as Mem}
 use Rattle.forms.specs.Bytes.{lower, same_word}
 use Rattle.forms.specs.Form.{has, Means}
 use Rattle.forms.specs.Bounds.{Bounded, bounds, all_kept}
 use Rattle.definitions.specs.declared.answers.Refusal.{Refusal}
-use Rattle.definitions.specs.declared.answers.ReadOutcome.{ReadOutcome}
-use Rattle.definitions.specs.declared.answers.ReadOutcome.TheVariants as outcome
+use Rattle.definitions.specs.declared.answers.TextRefusal.{TextRefusal}
 use Rattle.definitions.specs.Limits.{max_name}
 use Rattle.definitions.specs.Lists.{all?, none?}
 use Rattle.definitions.specs.Refusals.{number_of}
@@ -20,9 +19,9 @@ use Rattle.definitions.specs.Options.{Option, option_table, name_length}
 abbrev pub placed_anew : Refusal → Bool
 placed_anew r = eqb (number_of r) 6 || eqb (number_of r) 7
 
-abbrev pub except_places : ReadOutcome → ReadOutcome
-except_places outcome.Accepted = outcome.Accepted
-except_places (outcome.Refused r p) = outcome.Refused r (if placed_anew r then 0 else p)
+abbrev pub except_places : Result Unit TextRefusal → Result Unit TextRefusal
+except_places (Ok tt) = Ok tt
+except_places (Err e) = Err (record { refusal = e.refusal; place = (if placed_anew e.refusal then 0 else e.place) })
 
 -- ---- what the places of 6 and 7 are
 

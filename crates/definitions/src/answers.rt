@@ -1,9 +1,9 @@
 // The answers of the public entries. specs/Refusals.antt gives document 01's number and values for each case.
-use crate::packets::{PacketHeader, Placement};
+use crate::packets::Placement;
 use crate::table::Table;
 
 // The causes of refusal: 1 to 12, 20 to 22, 30 to 36, 50 to 53, in this order.
-#[derive(Clone, Copy)]
+#[derive(Clone, Copy, PartialEq, Eq)]
 pub enum Refusal {
     TextLength,
     TextByte,
@@ -33,66 +33,51 @@ pub enum Refusal {
     RuleCount,
 }
 
-// A check: it passes, or a refusal.
-#[derive(Clone, Copy)]
-pub enum Check {
-    Pass,
-    Refuse(Refusal),
+// A refusal of a text, and its place there.
+#[derive(Clone, Copy, PartialEq, Eq)]
+pub struct TextRefusal {
+    pub refusal: Refusal,
+    pub place: usize,
 }
 
-// The reader's answer: the table, or a refusal with its place and the empty table.
-#[derive(Clone, Copy)]
-pub enum ReadOutcome {
-    Accepted,
-    Refused(Refusal, usize),
+// A refusal of a rule book, and the number of the line.
+#[derive(Clone, Copy, PartialEq, Eq)]
+pub struct BookRefusal {
+    pub refusal: Refusal,
+    pub line: usize,
 }
 
-// An answer of reading with the table beside it.
-#[derive(Clone, Copy)]
+// The reader's answer. A refused text has a table too, the empty one: document 01 says what stands in it, and callers may rest on that.
+#[derive(Clone, Copy, PartialEq, Eq)]
 pub struct Reading {
-    pub outcome: ReadOutcome,
+    pub outcome: Result<(), TextRefusal>,
     pub table: Table,
 }
 
-// The writer's answer: the length of the canonical text, or a refusal.
-#[derive(Clone, Copy)]
-pub enum Writing {
-    Written(usize),
-    Refused(Refusal),
-}
-
-// A packet's header fields, or a refusal.
-#[derive(Clone, Copy)]
-pub enum PacketAnswer {
-    Seen(PacketHeader),
-    Refused(Refusal),
-}
-
-// The verdict's answer.
-#[derive(Clone, Copy)]
+// What the verdict says of a packet that is not refused.
+#[derive(Clone, Copy, PartialEq, Eq)]
 pub enum Verdict {
     Met,
     NotMet,
-    Refused(Refusal),
 }
 
-// The answer of "first" and "next": a placement, none, or a refusal; the last two with the placement of count 0.
-#[derive(Clone, Copy)]
+// What "first" and "next" say of a packet that is not refused.
+#[derive(Clone, Copy, PartialEq, Eq)]
 pub enum Found {
     Placed,
     Nothing,
-    Refused(Refusal),
 }
 
-// The answer of "first" or "next" with the placement beside it.
-#[derive(Clone, Copy)]
+// The answer of "first" or "next". Where none is found or something is due there is a placement too, of count 0: document 01 says so, and it is what the next
+// "next" is handed.
+#[derive(Clone, Copy, PartialEq, Eq)]
 pub struct Answer {
-    pub found: Found,
+    pub found: Result<Found, Refusal>,
     pub placement: Placement,
 }
 
 // One query of a list of queries.
-#[derive(Clone, Copy)]
+#[derive(Clone, Copy, PartialEq, Eq)]
 pub enum Query {
     First,
     Next,

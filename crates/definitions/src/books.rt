@@ -1,30 +1,23 @@
 // A rule book and what is decided by it (document 02, T-03).
-use crate::answers::Refusal;
+use crate::answers::BookRefusal;
 use crate::limits::RULES;
 
 // A rule that is off is read, and never decides.
-#[derive(Clone, Copy)]
+#[derive(Clone, Copy, PartialEq, Eq)]
 pub enum State {
     On,
     Off,
 }
 
 // What happens to a packet.
-#[derive(Clone, Copy)]
+#[derive(Clone, Copy, PartialEq, Eq)]
 pub enum Action {
     Pass,
     Hold,
 }
 
-// A book's judgement: how many rules it has, or a refusal and the line's number.
-#[derive(Clone, Copy)]
-pub enum Judgement {
-    Accepted(usize),
-    Refused(Refusal, usize),
-}
-
 // A rule of a judged book. Its text is not copied: it stands so far into the book, and has so many bytes.
-#[derive(Clone, Copy)]
+#[derive(Clone, Copy, PartialEq, Eq)]
 pub struct LoadedRule {
     pub number: u16,
     pub state: State,
@@ -34,28 +27,28 @@ pub struct LoadedRule {
 }
 
 // The rules of a judged book; those not in use are off, with every number 0.
-#[derive(Clone, Copy)]
+#[derive(Clone, Copy, PartialEq, Eq)]
 pub struct Rules {
     pub count: usize,
     pub list: [LoadedRule; RULES],
 }
 
-// A judged book and its rules; a refused one has none.
-#[derive(Clone, Copy)]
+// A judged book and its rules: how many they are, or the refusal; a refused book has none.
+#[derive(Clone, Copy, PartialEq, Eq)]
 pub struct LoadedBook {
-    pub judgement: Judgement,
+    pub judgement: Result<usize, BookRefusal>,
     pub rules: Rules,
 }
 
-// What is decided: an action and the number of the rule that decides, 0 if none does; or the book's refusal and the line's number.
-#[derive(Clone, Copy)]
-pub enum Decision {
-    Decided(Action, u16),
-    Refused(Refusal, usize),
+// What is decided: an action, and the number of the rule that decides, 0 if none does.
+#[derive(Clone, Copy, PartialEq, Eq)]
+pub struct Decision {
+    pub action: Action,
+    pub rule: u16,
 }
 
 // Packets of a block that are answered, and the bytes that they take.
-#[derive(Clone, Copy)]
+#[derive(Clone, Copy, PartialEq, Eq)]
 pub struct Answered {
     pub packets: usize,
     pub bytes: usize,

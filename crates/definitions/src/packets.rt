@@ -3,7 +3,7 @@ use crate::limits::PATTERNS;
 use crate::table::Context;
 
 // Where a packet comes from.
-#[derive(Clone, Copy)]
+#[derive(Clone, Copy, PartialEq, Eq)]
 pub enum Direction {
     Client,
     Server,
@@ -11,7 +11,7 @@ pub enum Direction {
 
 // The header fields of a datagram by value: its length, where its payload starts, and the header fields that tests compare.
 // The ports are 0 where the protocol has none.
-#[derive(Clone, Copy)]
+#[derive(Clone, Copy, PartialEq, Eq)]
 pub struct PacketHeader {
     pub total: usize,
     pub payload: usize,
@@ -26,53 +26,39 @@ pub struct PacketHeader {
     pub dport: u16,
 }
 
-// A field's place in its buffer. An absent field has no numbers.
-#[derive(Clone, Copy)]
+// A field's place in its buffer.
+#[derive(Clone, Copy, PartialEq, Eq)]
 pub struct Span {
     pub start: usize,
     pub len: usize,
 }
 
-// A field of the map: absent, or at a span.
-#[derive(Clone, Copy)]
-pub enum FieldSpan {
-    Absent,
-    At(Span),
-}
-
-// The field map: body, banner and file lie in the payload; uri, header and host in the decoded buffer.
-#[derive(Clone, Copy)]
+// The field map, each field at its span or absent: body, banner and file lie in the payload; uri, header and host in the decoded buffer.
+#[derive(Clone, Copy, PartialEq, Eq)]
 pub struct FieldMap {
-    pub uri: FieldSpan,
-    pub header: FieldSpan,
-    pub body: FieldSpan,
-    pub banner: FieldSpan,
-    pub host: FieldSpan,
-    pub file: FieldSpan,
+    pub uri: Option<Span>,
+    pub header: Option<Span>,
+    pub body: Option<Span>,
+    pub banner: Option<Span>,
+    pub host: Option<Span>,
+    pub file: Option<Span>,
 }
 
-// The last positive pattern before an item: its context and the end at which it lies; or there is none.
-#[derive(Clone, Copy)]
+// The last positive pattern before an item: its context and the end at which it lies.
+#[derive(Clone, Copy, PartialEq, Eq)]
 pub struct Match {
     pub context: Context,
     pub end: usize,
 }
 
-// The last positive pattern before an item, if there is one.
-#[derive(Clone, Copy)]
-pub enum LastMatch {
-    None,
-    Some(Match),
-}
-
 // An entry of a placement: where a positive pattern lies, counted from its field's start.
-#[derive(Clone, Copy)]
+#[derive(Clone, Copy, PartialEq, Eq)]
 pub struct Start {
     pub at: usize,
 }
 
 // A start for each positive pattern, in text order; starts not in use are zero.
-#[derive(Clone, Copy)]
+#[derive(Clone, Copy, PartialEq, Eq)]
 pub struct Placement {
     pub count: usize,
     pub starts: [Start; PATTERNS],

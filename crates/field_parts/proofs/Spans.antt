@@ -1,4 +1,5 @@
 -- A span's end is compared without a sum that could wrap; what a span shows lies within its buffer.
+use Rattle.std.specs.Prelude.{Option, Some, None}
 use mathlib.Core.Path.{◌≡◌, refl}
 use mathlib.Core.Bool.{Bool, true, false}
 use mathlib.Core.List.{List}
@@ -9,8 +10,6 @@ use lib.Dec.{ltb}
 use borrow.Author.Tests.{ltb-true, ltb-false, lt-ltb, le-ltb}
 use denote.Ref.{Bor}
 use Rattle.definitions.specs.declared.packets.Span.{Span}
-use Rattle.definitions.specs.declared.packets.FieldSpan.{FieldSpan}
-use Rattle.definitions.specs.declared.packets.FieldSpan.TheVariants.{Absent, At}
 use Rattle.definitions.specs.Fields.{shown}
 use Rattle.field_parts.specs.Parts.{PartOf}
 
@@ -25,15 +24,15 @@ module _ (n start len : ℕ) where
       go true e = let k : n < start + len = ltb-true n (start + len) e in lt-ltb (n - start) len (omega arith)
       go false e = let k : start + len ≤ n = ltb-false n (start + len) e in le-ltb (n - start) len (omega arith)
 
-shown_inside : (f : FieldSpan) (b : List ℕ) → (shown f b).start + (shown f b).len ≤ length b
-shown_inside Absent b = omega arith
-shown_inside (At sp) b = go (ltb (length b) (sp.start + sp.len)) refl
+shown_inside : (f : Option Span) (b : List ℕ) → (shown f b).start + (shown f b).len ≤ length b
+shown_inside None b = omega arith
+shown_inside (Some sp) b = go (ltb (length b) (sp.start + sp.len)) refl
   where
-    go : (t : Bool) → ltb (length b) (sp.start + sp.len) ≡ t → (shown (At sp) b).start + (shown (At sp) b).len ≤ length b
+    go : (t : Bool) → ltb (length b) (sp.start + sp.len) ≡ t → (shown (Some sp) b).start + (shown (Some sp) b).len ≤ length b
     go true e = rw e (omega arith)
     go false e = let k : sp.start + sp.len ≤ length b = ltb-false (length b) (sp.start + sp.len) e in rw e k
 
-module _ (f : FieldSpan) (b : Bor (List ℕ)) (s : Span) (e : s ≡ shown f b.now) where
+module _ (f : Option Span) (b : Bor (List ℕ)) (s : Span) (e : s ≡ shown f b.now) where
   pub end_inside : s.start + s.len ≤ length b.now
   end_inside = rw e (shown_inside f b.now)
 

@@ -5,15 +5,15 @@ ghost use Rattle.std.specs.Prelude.{◌≡◌, ◌+◌, ltb};
 ghost use Rattle.definitions.specs.Fields.{is_at, passes, shown};
 ghost use Rattle.field_parts.specs.Parts.{PartOf};
 
-use definitions::packets::{FieldSpan, Span};
+use definitions::packets::Span;
 
 // Whether a field is present.
-pub fn is_at(f: FieldSpan) -> bool
+pub fn is_at(f: Option<Span>) -> bool
     ensures { result ≡ is_at f }
 {
     match f {
-        FieldSpan::Absent => false,
-        FieldSpan::At(_) => true,
+        None => false,
+        Some(_) => true,
     }
 }
 
@@ -28,22 +28,22 @@ fn beyond(n: usize, start: usize, len: usize) -> bool
 }
 
 // Whether a present span passes its buffer.
-pub fn passes_end(b: &[u8], f: FieldSpan) -> bool
+pub fn passes_end(b: &[u8], f: Option<Span>) -> bool
     ensures { result ≡ passes f b.now }
 {
     match f {
-        FieldSpan::Absent => false,
-        FieldSpan::At(sp) => beyond(b.len(), sp.start, sp.len),
+        None => false,
+        Some(sp) => beyond(b.len(), sp.start, sp.len),
     }
 }
 
 // The span within its buffer that the field entry shows: its own, or none at the buffer's start.
-fn shown_span(b: &[u8], f: FieldSpan) -> Span
+fn shown_span(b: &[u8], f: Option<Span>) -> Span
     ensures { result ≡ shown f b.now }
 {
     match f {
-        FieldSpan::Absent => Span { start: 0, len: 0 },
-        FieldSpan::At(sp) => {
+        None => Span { start: 0, len: 0 },
+        Some(sp) => {
             if beyond(b.len(), sp.start, sp.len) {
                 Span { start: 0, len: 0 }
             } else {
@@ -54,7 +54,7 @@ fn shown_span(b: &[u8], f: FieldSpan) -> Span
 }
 
 // The part of the buffer that a span shows, at its own place there.
-pub fn part_of<'a>(b: &'a [u8], f: FieldSpan) -> &'a [u8]
+pub fn part_of<'a>(b: &'a [u8], f: Option<Span>) -> &'a [u8]
     ensures { PartOf b.entry (shown f b.now) result }
 {
     let sp = shown_span(b, f);

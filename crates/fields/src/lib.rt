@@ -10,7 +10,7 @@ ghost use Rattle.field_parts.specs.Parts.{PartOf};
 ghost use Rattle.fields.specs.Places.{own_buffer};
 
 use crate::places::{part_of_one, passes_one, place_of};
-use definitions::answers::{Check, Refusal};
+use definitions::answers::Refusal;
 use definitions::packets::FieldMap;
 use definitions::table::Context;
 use field_parts::is_at;
@@ -47,7 +47,7 @@ fn field_passes(payload: &[u8], decoded: &[u8], m: FieldMap, c: Context) -> bool
 }
 
 // Refusal 35, if a present field's span passes its buffer.
-pub fn fields_check(payload: &[u8], decoded: &[u8], m: FieldMap) -> Check
+pub fn fields_check(payload: &[u8], decoded: &[u8], m: FieldMap) -> Result<(), Refusal>
     ensures answer { result ≡ fields_check payload.now decoded.now m }
     ensures numbers { check_numbers result ≡ fields_in_numbers payload.now decoded.now m }
 {
@@ -58,8 +58,8 @@ pub fn fields_check(payload: &[u8], decoded: &[u8], m: FieldMap) -> Check
     let host = field_passes(payload, decoded, m, Context::Host);
     let file = field_passes(payload, decoded, m, Context::File);
     if uri | header | body | banner | host | file {
-        Check::Refuse(Refusal::FieldSpan)
+        Err(Refusal::FieldSpan)
     } else {
-        Check::Pass
+        Ok(())
     }
 }

@@ -4,7 +4,7 @@ ghost use Rattle.definitions.specs.Fields.{passes, shown};
 ghost use Rattle.field_parts.specs.Parts.{PartOf};
 ghost use Rattle.fields.specs.Places.{chosen, field_place};
 
-use definitions::packets::{FieldMap, FieldSpan, Span};
+use definitions::packets::{FieldMap, Span};
 use definitions::table::Context;
 use field_parts::{part_of, passes_end};
 
@@ -19,10 +19,10 @@ pub enum Buffer {
 #[derive(Clone, Copy)]
 pub struct Place {
     pub buffer: Buffer,
-    pub span: FieldSpan,
+    pub span: Option<Span>,
 }
 
-fn lies_in(buffer: Buffer, span: FieldSpan) -> Place
+fn lies_in(buffer: Buffer, span: Option<Span>) -> Place
     ensures { result ≡ record { buffer = buffer; span = span } }
 {
     Place { buffer, span }
@@ -39,7 +39,7 @@ pub fn place_of(len: usize, m: FieldMap, c: Context) -> Place
     let host = m.host;
     let file = m.file;
     match c {
-        Context::Packet => lies_in(Buffer::Payload, FieldSpan::At(Span { start: 0, len })),
+        Context::Packet => lies_in(Buffer::Payload, Some(Span { start: 0, len })),
         Context::Uri => lies_in(Buffer::Decoded, uri),
         Context::Header => lies_in(Buffer::Decoded, header),
         Context::Body => lies_in(Buffer::Payload, body),
@@ -50,7 +50,7 @@ pub fn place_of(len: usize, m: FieldMap, c: Context) -> Place
 }
 
 // The part of the payload or of the decoded buffer that a field's span shows.
-pub fn part_of_one<'a>(payload: &'a [u8], decoded: &'a [u8], b: Buffer, f: FieldSpan) -> &'a [u8]
+pub fn part_of_one<'a>(payload: &'a [u8], decoded: &'a [u8], b: Buffer, f: Option<Span>) -> &'a [u8]
     ensures { PartOf (chosen payload.entry decoded.entry b) (shown f (chosen payload.entry decoded.entry b).now) result }
 {
     match b {
@@ -60,7 +60,7 @@ pub fn part_of_one<'a>(payload: &'a [u8], decoded: &'a [u8], b: Buffer, f: Field
 }
 
 // Whether a span passes the payload or the decoded buffer.
-pub fn passes_one(payload: &[u8], decoded: &[u8], b: Buffer, f: FieldSpan) -> bool
+pub fn passes_one(payload: &[u8], decoded: &[u8], b: Buffer, f: Option<Span>) -> bool
     ensures { result ≡ passes f (chosen payload.now decoded.now b) }
 {
     match b {

@@ -1,5 +1,6 @@
 -- When a rule decides: never where it is off (`off_never`) or its text is refused (`unread-never`), since a refused reading has no well-formed table; else exactly
 -- if the table that was read is met (`on-met`). A table that was read is well formed (`read_formed`).
+use Rattle.std.specs.Prelude.{Result, Ok, Err}
 use mathlib.Core.Path.{◌≡◌, refl, sym, ap, ◌∙◌}
 use mathlib.Core.Bool.{true, false, false≢true, and-false}
 use mathlib.Core.List.{List, [], ◌∷◌}
@@ -9,11 +10,9 @@ use Rattle.definitions.specs.declared.packets.Direction.{Direction}
 use Rattle.definitions.specs.declared.packets.FieldMap.{FieldMap}
 use Rattle.definitions.specs.declared.table.Table.{Table}
 use Rattle.definitions.specs.declared.answers.Refusal.{Refusal}
-use Rattle.definitions.specs.declared.answers.ReadOutcome.{ReadOutcome}
-use Rattle.definitions.specs.declared.answers.ReadOutcome.TheVariants as outcome
 use Rattle.definitions.specs.declared.answers.Reading.{Reading}
 use Rattle.definitions.specs.declared.books.Action.TheVariants.{Hold}
-use Rattle.definitions.specs.declared.books.Decision.TheVariants.{Decided}
+use Rattle.definitions.specs.declared.answers.TextRefusal.{TextRefusal}
 use Rattle.definitions.specs.Limits.{document_limits}
 use Rattle.definitions.specs.Tables.{name_in, table_of}
 use Rattle.definitions.specs.Reading.{read, accepted_reading}
@@ -43,23 +42,23 @@ module _ (p decoded : List ℕ) (dir : Direction) (m : FieldMap) where
     off_never e = rw e
 
     module _ (x : Reading) (e : x ≡ read document_limits r.source) where
-      pub unread-never : (c : Refusal) (place : ℕ) → x.outcome ≡ outcome.Refused c place → decides document_limits p decoded dir m r ≡ false
+      pub unread-never : (c : Refusal) (place : ℕ) → x.outcome ≡ Err (record { refusal = c; place = place }) → decides document_limits p decoded dir m r ≡ false
       unfolding decides
       unread-never c place k =
-          let o : (read document_limits r.source).outcome ≡ outcome.Refused c place = ap (λ (y : Reading). y.outcome) (sym e) ∙ k in
+          let o : (read document_limits r.source).outcome ≡ Err (record { refusal = c; place = place }) = ap (λ (y : Reading). y.outcome) (sym e) ∙ k in
           let t = refused_empty document_limits r.source (λ a. accepted_not (sym a ∙ o)) in
           rw (t, ill_formed_unmet (table_of document_limits.room []) (empty_formed document_limits.room)) (and-false (is_on r.state))
         where
-          accepted_not : outcome.Accepted ≡ outcome.Refused c place → ⊥
+          accepted_not : (Ok tt) ≡ Err (record { refusal = c; place = place }) → ⊥
           accepted_not q = let z : false ≡ true = cc in false≢true z
 
       pub on-met : is_on r.state ≡ true → is_met (verdict_answer x.table p decoded dir m) ≡ decides document_limits p decoded dir m r
       unfolding decides
       on-met o = rw (e, o)
 
-module _ (s : List ℕ) (x : Reading) (e : x ≡ read document_limits s) (a : x.outcome ≡ outcome.Accepted) where
+module _ (s : List ℕ) (x : Reading) (e : x ≡ read document_limits s) (a : x.outcome ≡ Ok tt) where
   accepted : read document_limits s ≡ accepted_reading x.table
-  accepted = sym e ∙ ap (λ (o : ReadOutcome). record { outcome = o; table = x.table }) a
+  accepted = sym e ∙ ap (λ (o : Result Unit TextRefusal). record { outcome = o; table = x.table }) a
 
   pub read_formed : well_formed x.table ≡ true
   read_formed = read_well document_limits s x.table (omega arith) accepted
@@ -70,7 +69,7 @@ module _ (s : List ℕ) (x : Reading) (e : x ≡ read document_limits s) (a : x.
       formed_matchable x.table read_formed (omega (arith, n))
 
 module _ (p decoded : List ℕ) (dir : Direction) (m : FieldMap) (r : Rule) (rs : List Rule) where
-  pub decided_here : decides document_limits p decoded dir m r ≡ true → decided document_limits p decoded dir m (r ∷ rs) ≡ Decided r.action r.number
+  pub decided_here : decides document_limits p decoded dir m r ≡ true → decided document_limits p decoded dir m (r ∷ rs) ≡ Ok (record { action = r.action; rule = r.number })
   unfolding decided
   decided_here e = rw e
 
@@ -79,6 +78,6 @@ module _ (p decoded : List ℕ) (dir : Direction) (m : FieldMap) (r : Rule) (rs 
   decided_on e = rw e
 
 -- no rule is left
-pub ended : (p decoded : List ℕ) (dir : Direction) (m : FieldMap) → decided document_limits p decoded dir m [] ≡ Decided Hold 0
+pub ended : (p decoded : List ℕ) (dir : Direction) (m : FieldMap) → decided document_limits p decoded dir m [] ≡ Ok (record { action = Hold; rule = 0 })
 unfolding decided
 ended p decoded dir m = refl

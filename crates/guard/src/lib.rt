@@ -8,8 +8,8 @@ ghost use Rattle.definitions.specs.Decisions.{is_on, decides, decided, decision}
 ghost use Rattle.definitions.specs.LoadedBooks.{rule_at, rules_in};
 ghost use Rattle.definitions.specs.AnswerNumbers.{decision_numbers, decision_in_numbers};
 
-use definitions::answers::ReadOutcome;
-use definitions::books::{Action, Decision, Judgement, LoadedRule, Rules, State};
+use definitions::answers::BookRefusal;
+use definitions::books::{Action, Decision, LoadedRule, Rules, State};
 use definitions::limits::RULES;
 use definitions::packets::{Direction, FieldMap};
 use rule_book::load;
@@ -45,7 +45,7 @@ fn rule_decides<'a>(
     let reading = reader::read(text_at(book, rule.start, rule.len));
     let outcome = reading.outcome;
     match outcome {
-        ReadOutcome::Accepted => {
+        Ok(()) => {
             let t = reading.table;
             let flow = t.flow;
             let items = t.items;
@@ -53,7 +53,7 @@ fn rule_decides<'a>(
                 t.protocol, flow, items, t.count, &t.bytes, p, decoded, dir, m,
             )
         }
-        ReadOutcome::Refused(_, _) => false,
+        Err(_) => false,
     }
 }
 
@@ -65,7 +65,7 @@ pub fn decide_by<'a>(
     decoded: &'a [u8],
     dir: Direction,
     m: FieldMap,
-) -> Decision
+) -> Result<Decision, BookRefusal>
     ensures { result ≡ decided document_limits p.now decoded.now dir m (rules_in book.now rules) }
 {
     let mut i = 0;
@@ -76,11 +76,17 @@ pub fn decide_by<'a>(
         let rule = rules.list[i];
         if rule_decides(book, rule, p, decoded, dir, m) {
             let action = rule.action;
-            return Decision::Decided(action, rule.number);
+            return Ok(Decision {
+                action,
+                rule: rule.number,
+            });
         }
         i += 1;
     }
-    Decision::Decided(Action::Hold, 0)
+    Ok(Decision {
+        action: Action::Hold,
+        rule: 0,
+    })
 }
 
 // THE DECISION by a book: its refusal, or the first rule that is on and has a placement; hold and 0 if none has.
@@ -90,14 +96,14 @@ pub fn decide<'a>(
     decoded: &'a [u8],
     dir: Direction,
     m: FieldMap,
-) -> Decision
+) -> Result<Decision, BookRefusal>
     ensures answer { result ≡ decision document_limits p.now decoded.now dir m book.now }
     ensures numbers { decision_numbers result ≡ decision_in_numbers document_limits p.now decoded.now dir m book.now }
 {
     let b = load(book);
     let judgement = b.judgement;
     match judgement {
-        Judgement::Refused(r, line) => Decision::Refused(r, line),
-        Judgement::Accepted(_) => decide_by(book, b.rules, p, decoded, dir, m),
+        Err(e) => Err(e),
+        Ok(_) => decide_by(book, b.rules, p, decoded, dir, m),
     }
 }

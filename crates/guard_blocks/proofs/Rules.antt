@@ -1,10 +1,10 @@
 -- One rule: where it never decides, no number changes (`never_kept`); where its text is read, it decides exactly the packets that its table meets (`read_decides`).
+use Rattle.std.specs.Prelude.{Err}
 use mathlib.Core.Path.{◌≡◌, refl, sym, ap, ◌∙◌, fun_ext}
 use mathlib.Core.Bool.{Bool, true, false}
 use mathlib.Core.List.{List, [], ◌∷◌}
 use Prim.Native.Nat.{ℕ, ◌+◌}
 use Rattle.definitions.specs.declared.answers.Refusal.{Refusal}
-use Rattle.definitions.specs.declared.answers.ReadOutcome.TheVariants as outcome
 use Rattle.definitions.specs.declared.answers.Reading.{Reading}
 use Rattle.definitions.specs.Limits.{document_limits}
 use Rattle.definitions.specs.Reading.{read}
@@ -32,7 +32,7 @@ module _ (r : Rule) (ks : List PacketRecord) (out : List ℕ) where
   off_kept e = never_kept (λ k. off_never k.packet k.decoded k.direction k.fields r e)
 
   module _ (x : Reading) (e : x ≡ read document_limits r.source) where
-    pub unread_kept : (c : Refusal) (place : ℕ) → x.outcome ≡ outcome.Refused c place → out ≡ by_rule document_limits ks r out
+    pub unread_kept : (c : Refusal) (place : ℕ) → x.outcome ≡ Err (record { refusal = c; place = place }) → out ≡ by_rule document_limits ks r out
     unfolding decides_record
     unread_kept c place q = never_kept (λ k. unread-never k.packet k.decoded k.direction k.fields r x e c place q)
 

@@ -13,15 +13,12 @@ ghost use Rattle.matcher.specs.Matching.{Matchable};
 ghost use Rattle.guard_numbers.specs.OpenNumbers.{open_number};
 ghost use Rattle.guard_blocks.specs.Numbering.{meets_record, renumbered, by_rule};
 
-use definitions::answers::ReadOutcome;
 use definitions::books::{Answered, LoadedRule, Rules};
 use definitions::limits::{ITEMS, RULES};
 use definitions::table::{Flow, Slot, Table};
 use guard::is_on;
 use guard_numbers::{OPEN, answer_number, any_open, close_all, open_all};
-use guard_packets::{
-    HEAD, count_records, number_at, record_direction, record_fields, record_length,
-};
+use guard_packets::{HEAD, count_records, number_at, record_direction, record_fields, record_length};
 use rule_book::text_at;
 
 // Whether protocol and flow leave it open that a table meets the packet of the record at the front.
@@ -104,8 +101,8 @@ fn decide_rule(book: &[u8], rule: LoadedRule, block: &[u8], packets: usize, out:
     let reading = reader::read(text_at(book, rule.start, rule.len));
     let outcome = reading.outcome;
     match outcome {
-        ReadOutcome::Accepted => decide_table(reading.table, answer, block, packets, out),
-        ReadOutcome::Refused(_, _) => {}
+        Ok(()) => decide_table(reading.table, answer, block, packets, out),
+        Err(_) => {}
     }
 }
 

@@ -6,7 +6,7 @@ ghost use Rattle.definitions.specs.Packet.{big_endian};
 ghost use Rattle.definitions.specs.Blocks.{record_head, record_length, record_direction, record_field, record_fields, block_answered};
 
 use definitions::books::Answered;
-use definitions::packets::{Direction, FieldMap, FieldSpan, Span};
+use definitions::packets::{Direction, FieldMap, Span};
 
 // Bytes of a record before its packet.
 pub const HEAD: usize = 30;
@@ -45,17 +45,17 @@ pub fn record_direction(s: &[u8]) -> Direction
 }
 
 // A field of its map, by the weight of its bit and the place of its numbers.
-fn record_field(s: &[u8], weight: u8, at: usize) -> FieldSpan
+fn record_field(s: &[u8], weight: u8, at: usize) -> Option<Span>
     requires { (1 ≤ weight) × ((record_head ≤ length s.now) × (at + 4 ≤ record_head)) }
     ensures { result ≡ record_field s.now weight at }
 {
     if s[1] / weight % 2 == 1 {
-        return FieldSpan::At(Span {
+        return Some(Span {
             start: number_at(s, at),
             len: number_at(s, at + 2),
         });
     }
-    FieldSpan::Absent
+    None
 }
 
 // The map of its packet's fields.

@@ -2,6 +2,7 @@
 -- with such an item, at whatever place, has no placements (`absent_after`, `absent_none`); so a table with such an item is met by no packet and
 -- no decoded buffer (`absent_table`, `absent_verdict`). Of data_at and byte_test with relative, whose field is that of the last positive pattern before,
 -- `absent_at` says which that can be. Section "Meaning", its first paragraph. The argument: each item's test asks for its field first.
+use Rattle.std.specs.Prelude.{Option, None, Result, Ok, Err}
 use mathlib.Core.Path.{◌≡◌, refl, sym, ap, ◌∙◌, subst, fun_ext}
 use mathlib.Core.Logic.{◌⊎◌, inl, inr, ⊎_elim}
 use mathlib.Core.Bool.{Bool, true, false, ◌&&◌, true≢false, false≢true}
@@ -23,12 +24,10 @@ use Rattle.definitions.specs.declared.table.Table.{Table}
 use Rattle.definitions.specs.declared.packets.Direction.{Direction}
 use Rattle.definitions.specs.declared.packets.FieldMap.{FieldMap}
 use Rattle.definitions.specs.declared.packets.Start.{Start}
-use Rattle.definitions.specs.declared.packets.LastMatch.{LastMatch}
-use Rattle.definitions.specs.declared.packets.LastMatch.TheVariants.{None}
-use Rattle.definitions.specs.declared.answers.Check.{Check}
-use Rattle.definitions.specs.declared.answers.Check.TheVariants.{Pass, Refuse}
 use Rattle.definitions.specs.declared.answers.Verdict.{Verdict}
 use Rattle.definitions.specs.declared.answers.Verdict.TheVariants as verdict
+use Rattle.definitions.specs.declared.answers.Refusal.{Refusal}
+use Rattle.definitions.specs.declared.packets.Match.{Match}
 use Rattle.definitions.specs.Items.{kind_of, slots_of, after_item}
 use Rattle.definitions.specs.Starts.{start_at}
 use Rattle.definitions.specs.References.{last_after}
@@ -43,7 +42,7 @@ use Rattle.laws.proofs.Keep.{keep_none}
 
 -- the fields that a test looks at, after the last positive pattern: data_size its field, data_at and byte_test the payload or, with relative, the
 -- pattern's field; tests of the header none
-abbrev pub fields_tested : Item → LastMatch → List Context
+abbrev pub fields_tested : Item → Option Match → List Context
 fields_tested item.Unused l = []
 fields_tested (item.Address a) l = []
 fields_tested item.SameIp l = []
@@ -56,19 +55,19 @@ fields_tested (item.Byte t) l = at_context t.relative l ∷ []
 fields_tested (item.Pattern p) l = []
 
 -- the fields that an item looks at: a pattern, negated or not, its context
-abbrev pub fields_read : Constraint → LastMatch → List Context
+abbrev pub fields_read : Constraint → Option Match → List Context
 fields_read (matched p b) l = p.context ∷ []
 fields_read (unmatched p b) l = p.context ∷ []
 fields_read (tested it al) l = fields_tested it l
 
 -- the item holds after the last positive pattern, a pattern without `!` at the start s
-abbrev pub item_holds : View → Constraint → LastMatch → Start → Bool
+abbrev pub item_holds : View → Constraint → Option Match → Start → Bool
 item_holds v (matched p b) l s = lies_in v p b l s
 item_holds v (unmatched p b) l s = unmatched_holds v p b l
 item_holds v (tested it al) l s = test_holds v it al l
 
 -- the last positive pattern after some items; where it lies plays no part for the field
-unfoldable pub last_after_all : List Constraint → LastMatch → LastMatch
+unfoldable pub last_after_all : List Constraint → Option Match → Option Match
 last_after_all [] l = l
 last_after_all (matched p b ∷ ws) l = last_after_all ws (last_after l p (start_at 0))
 last_after_all (unmatched p b ∷ ws) l = last_after_all ws l
@@ -96,7 +95,7 @@ only c x m = ⊎_elim (λ e. e) (λ n. absurd (not-nil n)) (cases_cons m)
 absent_first : (v : View) (x c : Context) (b : Bool) → Mem c (x ∷ []) → v.present c ≡ false → (v.present x && b) ≡ false
 absent_first v x c b m e = let f : v.present x ≡ false = ap v.present (sym (only c x m)) ∙ e in rw f
 
-absent_test : (v : View) (it : Item) (al : List Address) (l : LastMatch) (c : Context) → Mem c (fields_tested it l) → v.present c ≡ false
+absent_test : (v : View) (it : Item) (al : List Address) (l : Option Match) (c : Context) → Mem c (fields_tested it l) → v.present c ≡ false
     → test_holds v it al l ≡ false
 unfolding test_holds size_holds at_holds byte_holds
 absent_test v item.Unused al l c m e = refl
@@ -111,7 +110,7 @@ absent_test v (item.Byte t) al l c m e = absent_first v (at_context t.relative l
 absent_test v (item.Pattern p) al l c m e = refl
 
 -- A TEST OR PATTERN ON AN ABSENT FIELD NEVER HOLDS, negated or not
-pub absent_never : (v : View) (w : Constraint) (l : LastMatch) (s : Start) (c : Context) → Mem c (fields_read w l) → v.present c ≡ false
+pub absent_never : (v : View) (w : Constraint) (l : Option Match) (s : Start) (c : Context) → Mem c (fields_read w l) → v.present c ≡ false
     → item_holds v w l s ≡ false
 unfolding lies_in unmatched_holds
 absent_never v (matched p b) l s c m e = absent_first v p.context c _ m e
@@ -119,7 +118,7 @@ absent_never v (unmatched p b) l s c m e = absent_first v p.context c _ m e
 absent_never v (tested it al) l s c m e = absent_test v it al l c m e
 
 -- `fields_read` leaves none out: besides the datagram's header fields an item depends on those fields only
-pub looks_only : (v v' : View) (w : Constraint) (l : LastMatch) (s : Start) → v.header ≡ v'.header
+pub looks_only : (v v' : View) (w : Constraint) (l : Option Match) (s : Start) → v.header ≡ v'.header
     → ((c : Context) → Mem c (fields_read w l) → (v.present c ≡ v'.present c) × (v.field c ≡ v'.field c)) → item_holds v w l s ≡ item_holds v' w l s
 unfolding lies_in unmatched_holds starts test_holds size_holds at_holds byte_holds
 looks_only v v' (matched p b) l s f h = let k = h p.context (here refl) in rw (k.0, k.1)
@@ -151,7 +150,7 @@ only_none false l e = refl
 
 module _ (v : View) where
   -- an item that never holds has no placements, whatever stands after it
-  never_none : (w : Constraint) (ws : List Constraint) (l : LastMatch) → ((s : Start) → item_holds v w l s ≡ false) → placements v (w ∷ ws) l ≡ []
+  never_none : (w : Constraint) (ws : List Constraint) (l : Option Match) → ((s : Start) → item_holds v w l s ≡ false) → placements v (w ∷ ws) l ≡ []
   unfolding placements starts spread
   never_none (matched p b) ws l h = rw (keep_none (lies_in v p b l) (starts_to (length (v.field p.context))) h)
   never_none (unmatched p b) ws l h = rw (h (start_at 0))
@@ -159,14 +158,14 @@ module _ (v : View) where
 
   module _ (w : Constraint) (ws : List Constraint) (c : Context) (e : v.present c ≡ false) where
     -- two last patterns in one field
-    abbrev Alike : LastMatch → LastMatch → Type 0
+    abbrev Alike : Option Match → Option Match → Type 0
     Alike k l = at_context true k ≡ at_context true l
 
-    tested_alike : (relative : Bool) (k l : LastMatch) → Alike k l → at_context relative k ≡ at_context relative l
+    tested_alike : (relative : Bool) (k l : Option Match) → Alike k l → at_context relative k ≡ at_context relative l
     tested_alike true k l h = h
     tested_alike false k l h = refl
 
-    read_alike : (x : Constraint) (k l : LastMatch) → Alike k l → fields_read x k ≡ fields_read x l
+    read_alike : (x : Constraint) (k l : Option Match) → Alike k l → fields_read x k ≡ fields_read x l
     read_alike (matched p b) k l h = refl
     read_alike (unmatched p b) k l h = refl
     read_alike (tested item.Unused al) k l h = refl
@@ -180,10 +179,10 @@ module _ (v : View) where
     read_alike (tested (item.Byte t) al) k l h = ap (λ (x : Context). x ∷ []) (tested_alike t.relative k l h)
     read_alike (tested (item.Pattern p) al) k l h = refl
 
-    after_alike : (p : Pattern) (s : Start) (k l : LastMatch) → Alike k l → Alike (last_after k p s) (last_after l p (start_at 0))
+    after_alike : (p : Pattern) (s : Start) (k l : Option Match) → Alike k l → Alike (last_after k p s) (last_after l p (start_at 0))
     after_alike p s k l h = by_cases p.negated (λ t. rw t h) (λ f. rw f)
 
-    after_none : (us : List Constraint) (k l : LastMatch) → Alike k l → Mem c (fields_read w (last_after_all us l)) → placements v (us ++ (w ∷ ws)) k ≡ []
+    after_none : (us : List Constraint) (k l : Option Match) → Alike k l → Mem c (fields_read w (last_after_all us l)) → placements v (us ++ (w ∷ ws)) k ≡ []
     unfolding placements last_after_all
     after_none [] k l h m = never_none w ws k (λ s. absent_never v w k s c (subst (Mem c) (sym (read_alike w k l h)) m) e)
     after_none (matched p b ∷ us) k l h m =
@@ -192,14 +191,14 @@ module _ (v : View) where
     after_none (tested it al ∷ us) k l h m = only_none (test_holds v it al k) _ (after_none us k l h m)
 
   -- A LIST OF ITEMS ONE OF WHICH LOOKS AT AN ABSENT FIELD HAS NO PLACEMENTS: the item w between the items us and ws, after the last pattern l
-  pub absent_after : (us : List Constraint) (w : Constraint) (ws : List Constraint) (l : LastMatch) (c : Context)
+  pub absent_after : (us : List Constraint) (w : Constraint) (ws : List Constraint) (l : Option Match) (c : Context)
       → Mem c (fields_read w (last_after_all us l)) → v.present c ≡ false
       → placements v (us ++ (w ∷ ws)) l ≡ []
   absent_after us w ws l c m e = after_none w ws c e us l l refl m
 
   -- the same of an item at whatever place, if it looks at the field whatever stands before it, as each pattern and data_size does
-  pub absent_none : (ws : List Constraint) (w : Constraint) (c : Context) → Mem w ws → ((k : LastMatch) → Mem c (fields_read w k)) → v.present c ≡ false
-      → (l : LastMatch) → placements v ws l ≡ []
+  pub absent_none : (ws : List Constraint) (w : Constraint) (c : Context) → Mem w ws → ((k : Option Match) → Mem c (fields_read w k)) → v.present c ≡ false
+      → (l : Option Match) → placements v ws l ≡ []
   absent_none ws w c m r e l =
       let p = split w ws m in
       rw p.2 (absent_after p.0 w p.1 l c (r (last_after_all p.0 l)) e)
@@ -215,10 +214,10 @@ module _ (v : View) where
 -- ---- a table
 
 -- an item as the meaning takes it looks at the fields of the slot's item
-pattern_reads : (p : Pattern) (b : List ℕ) (l : LastMatch) → fields_read (pattern_constraint p b) l ≡ p.context ∷ []
+pattern_reads : (p : Pattern) (b : List ℕ) (l : Option Match) → fields_read (pattern_constraint p b) l ≡ p.context ∷ []
 pattern_reads p b l = by_cases p.negated (λ t. rw t) (λ f. rw f)
 
-slot_reads : (it : Item) (al : List Address) (b : List ℕ) (c : Context) → Mem c (fields_of it) → (l : LastMatch)
+slot_reads : (it : Item) (al : List Address) (b : List ℕ) (c : Context) → Mem c (fields_of it) → (l : Option Match)
     → Mem c (fields_read (constraint_by (kind_of it) it al b) l)
 slot_reads item.Unused al b c m l = absurd (not-nil m)
 slot_reads (item.Address a) al b c m l = absurd (not-nil m)
@@ -253,18 +252,18 @@ module _ (t : Table) (sl : Slot) (c : Context) (inUse : Mem sl (slots_of t)) (lo
       (absent_none (view_of packet decoded m) (constraints (slots_of t) t.bytes) _ c w.1 (slot_reads sl.item sl.addresses w.0 c looks) absent None)
 
   -- so no verdict calls it met
-  pub absent_verdict : verdict_answer t packet decoded dir m ≡ verdict.Met → ⊥
+  pub absent_verdict : verdict_answer t packet decoded dir m ≡ Ok verdict.Met → ⊥
   unfolding verdict_answer placements_of
   absent_verdict e = never (input_check t packet decoded dir m) (sym (ap (verdict_by (input_check t packet decoded dir m)) absent_table) ∙ e)
     where
-      is_met : Verdict → Bool
-      is_met verdict.NotMet = false
-      is_met verdict.Met = true
-      is_met (verdict.Refused r) = false
+      is_met : Result Verdict Refusal → Bool
+      is_met (Ok verdict.NotMet) = false
+      is_met (Ok verdict.Met) = true
+      is_met (Err r) = false
 
-      never : (d : Check) → verdict_by d [] ≡ verdict.Met → ⊥
-      never Pass q = false≢true (ap is_met q)
-      never (Refuse r) q = false≢true (ap is_met q)
+      never : (d : Result Unit Refusal) → verdict_by d [] ≡ Ok verdict.Met → ⊥
+      never (Ok tt) q = false≢true (ap is_met q)
+      never (Err r) q = false≢true (ap is_met q)
 
 -- ---- data_at and byte_test
 
@@ -272,7 +271,7 @@ module _ (t : Table) (sl : Slot) (c : Context) (inUse : Mem sl (slots_of t)) (lo
 abbrev Among : List Constraint → Context → Type 0
 Among us x = (p : Pattern) × (b : List ℕ) × Mem (matched p b) us × (x ≡ p.context)
 
-last_among : (us : List Constraint) (l : LastMatch) → (at_context true (last_after_all us l) ≡ at_context true l) ⊎ Among us (at_context true (last_after_all us l))
+last_among : (us : List Constraint) (l : Option Match) → (at_context true (last_after_all us l) ≡ at_context true l) ⊎ Among us (at_context true (last_after_all us l))
 unfolding last_after_all
 last_among [] l = inl refl
 last_among (matched p b ∷ us) l =

@@ -1,6 +1,7 @@
 -- byte_test. It holds exactly if its field is present, every byte that it reads lies in it, and their number stands to the value as the operator says
 -- (`byte_test_exactly`); so past the end none holds, `!` as little as the others (`byte_test_past`). Of a field's bytes it depends on those that it reads alone
 -- (`byte_test_reads`), and `little` changes nothing with one (`little_alone`). Document 02, T-01.
+use Rattle.std.specs.Prelude.{Option}
 use mathlib.Core.Path.{◌≡◌, refl, sym, ap, ◌∙◌}
 use mathlib.Core.Logic.{◌↔◌}
 use mathlib.Core.Bool.{Bool, true, false, not, ◌&&◌, false≢true}
@@ -14,7 +15,7 @@ use Rattle.forms.proofs.Bools.{by_cases, both_left, both_right}
 use Rattle.definitions.specs.declared.table.ByteOperator.{ByteOperator}
 use Rattle.definitions.specs.declared.table.ByteOperator.TheVariants.{Greater, Less, Equal, Unequal}
 use Rattle.definitions.specs.declared.table.ByteTest.{ByteTest}
-use Rattle.definitions.specs.declared.packets.LastMatch.{LastMatch}
+use Rattle.definitions.specs.declared.packets.Match.{Match}
 use Rattle.definitions.specs.ByteCounts.{byte_count}
 use Rattle.definitions.specs.Packet.{big_endian}
 use Rattle.definitions.specs.Fields.{View}
@@ -41,7 +42,7 @@ stands Unequal x n = (λ e. unequal x n e, λ h. ap not (ne_eqb x n h))
 -- ---- one test
 
 -- the test t after the last positive pattern l: how many bytes it reads, and their number
-module _ (v : View) (t : ByteTest) (l : LastMatch) where
+module _ (v : View) (t : ByteTest) (l : Option Match) where
   abbrev pub field_present : Bool
   field_present = v.present (at_context t.relative l)
 

@@ -1,5 +1,6 @@
 -- NO NUMBER IS GIVEN FOR ANOTHER CAUSE: the number of each answer is 0 or one of those that document 01 has for its entry. Each definition of what
 -- is due is a row of tests, and every refusal in it has one of these numbers; "next" has one more than a verdict. Section "Numbers of refusal".
+use Rattle.std.specs.Prelude.{Result, Ok, Err}
 use mathlib.Core.Path.{◌≡◌, refl, ap, ◌∙◌}
 use mathlib.Core.Bool.{true, not, ◌||◌}
 use mathlib.Core.List.{List, [], ◌∷◌}
@@ -11,9 +12,7 @@ use Rattle.definitions.specs.declared.table.Table.{Table}
 use Rattle.definitions.specs.declared.packets.FieldMap.{FieldMap}
 use Rattle.definitions.specs.declared.packets.Placement.{Placement}
 use Rattle.definitions.specs.declared.answers.Refusal.TheVariants as refusal
-use Rattle.definitions.specs.declared.answers.Check.TheVariants.{Pass}
-use Rattle.definitions.specs.declared.answers.ReadOutcome.{ReadOutcome}
-use Rattle.definitions.specs.declared.answers.ReadOutcome.TheVariants as outcome
+use Rattle.definitions.specs.declared.answers.TextRefusal.{TextRefusal}
 use Rattle.definitions.specs.Limits.{Limits, max_packet, max_decoded}
 use Rattle.definitions.specs.Lists.{any?, all?}
 use Rattle.definitions.specs.Refusals.{check_number, read_number, write_number, packet_number, verdict_number, found_number, and_then}
@@ -52,7 +51,7 @@ unfolding writing_check any?
 writing_among lim t n =
     refuse_among write_causes (not (well_formed t)) refusal.IllFormed _ refl
     (refuse_among write_causes (ltb lim.canonical (length (canonical_text t))) refusal.CanonicalLength _ refl
-    (refuse_among write_causes (ltb n (length (canonical_text t))) refusal.ShortBuffer Pass refl refl))
+    (refuse_among write_causes (ltb n (length (canonical_text t))) refusal.ShortBuffer (Ok tt) refl refl))
 
 pub packet_among : (p decoded : List ℕ) → CheckAmong packet_causes (packet_check p decoded)
 unfolding packet_check any?
@@ -61,12 +60,12 @@ packet_among p decoded =
     (refuse_among packet_causes (ltb (length p) 20 || not (eqb (version_of p) 4)) refusal.NotIpv4 _ refl
     (refuse_among packet_causes (ltb (header_words p) 5 || (ltb (total_length p) (header_length p) || ltb (length p) (total_length p))) refusal.Lengths _ refl
     (refuse_among packet_causes (is_fragment (datagram_of p)) refusal.Fragment _ refl
-    (refuse_among packet_causes (transport_short (datagram_of p)) refusal.Transport Pass refl refl))))
+    (refuse_among packet_causes (transport_short (datagram_of p)) refusal.Transport (Ok tt) refl refl))))
 
 -- the fields' answer is what is due
 pub fields_causes_lem : (payload decoded : List ℕ) (m : FieldMap) → among fields_causes (check_number (fields_check payload decoded m)) ≡ true
 unfolding fields_check any?
-fields_causes_lem payload decoded m = refuse_among fields_causes (any? (field_passes payload decoded m) mapped) refusal.FieldSpan Pass refl refl
+fields_causes_lem payload decoded m = refuse_among fields_causes (any? (field_passes payload decoded m) mapped) refusal.FieldSpan (Ok tt) refl refl
 
 -- ---- of what the entries answer
 
@@ -77,9 +76,9 @@ accepted = refl
 pub read_causes_lem : (lim : Limits) (s : List ℕ) → among read_causes (read_number (read lim s).outcome) ≡ true
 read_causes_lem lim s = go (read lim s).outcome (read_fits lim s)
   where
-    go : (o : ReadOutcome) → OutcomeFits (length s) o → among read_causes (read_number o) ≡ true
-    go outcome.Accepted h = accepted
-    go (outcome.Refused r p) h = h.0
+    go : (o : Result Unit TextRefusal) → OutcomeFits (length s) o → among read_causes (read_number o) ≡ true
+    go (Ok tt) h = accepted
+    go (Err e) h = h.0
 
 pub write_causes_lem : (lim : Limits) (t : Table) (out : List ℕ) → among write_causes (write_number (writes lim t out)) ≡ true
 write_causes_lem lim t out = ap (among write_causes) (write_number_lem lim t out) ∙ writing_among lim t (length out)
@@ -102,7 +101,7 @@ module _ (t : Table) (p decoded : List ℕ) (dir : Direction) (m : FieldMap) whe
   next_among h =
       else_among next_causes (input_check t p decoded dir m) (earlier_check t p decoded dir m h)
       (among_more verdict_causes next_causes (check_number (input_check t p decoded dir m)) refl verdict_among)
-      (refuse_among next_causes (not (eqb h.count (positives (items_of t)))) refusal.EarlierCount Pass refl refl)
+      (refuse_among next_causes (not (eqb h.count (positives (items_of t)))) refusal.EarlierCount (Ok tt) refl refl)
 
   pub verdict_causes_lem : among verdict_causes (verdict_number (verdict_answer t p decoded dir m)) ≡ true
   verdict_causes_lem = ap (among verdict_causes) (verdict_number_lem t p decoded dir m) ∙ verdict_among

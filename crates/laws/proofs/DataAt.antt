@@ -1,6 +1,7 @@
 -- data_at N. It holds exactly if its field is present and at least N bytes follow its starting point there (`data_at_exactly`). So it holds for
 -- each smaller number too (`data_at_fewer`), and for N + 1 exactly if there is a byte at N (`data_at_byte`). data_at 0 always holds: leaving it out
 -- changes no list of placements (`data_at_zero`), since a pattern that was met ends within its field. Section "Meaning"; document 02, T-04.
+use Rattle.std.specs.Prelude.{Option, Some, None}
 use mathlib.Core.Path.{◌≡◌, refl, ap}
 use mathlib.Core.Logic.{◌↔◌}
 use mathlib.Core.Bool.{Bool, true, false, ◌&&◌}
@@ -20,8 +21,7 @@ use Rattle.definitions.specs.declared.table.Address.{Address}
 use Rattle.definitions.specs.declared.table.Context.TheVariants as context
 use Rattle.definitions.specs.declared.packets.FieldMap.{FieldMap}
 use Rattle.definitions.specs.declared.packets.Start.{Start}
-use Rattle.definitions.specs.declared.packets.LastMatch.{LastMatch}
-use Rattle.definitions.specs.declared.packets.LastMatch.TheVariants.{None, Some}
+use Rattle.definitions.specs.declared.packets.Match.{Match}
 use Rattle.definitions.specs.References.{last_after}
 use Rattle.definitions.specs.Fields.{View, view_of, present}
 use Rattle.definitions.specs.Tests.{at_context, at_start, at_holds, test_holds}
@@ -34,7 +34,7 @@ use Rattle.laws.proofs.PatternStarts.{starts_in_lem, lies_inside}
 abbrev pub data_at : ℕ → Bool → AtTest
 data_at n relative = record { number = n; relative = relative }
 
-module _ (v : View) (relative : Bool) (l : LastMatch) where
+module _ (v : View) (relative : Bool) (l : Option Match) where
   -- the field that it counts in: whether it is present, and how many bytes it has
   abbrev field_present : Bool
   field_present = v.present (at_context relative l)
@@ -77,22 +77,22 @@ spread_alike f g (s ∷ ss) h = rw (h s (here refl), spread_alike f g ss (λ x m
 
 module _ (v : View) where
   -- the last positive pattern, if there is one, lies in a present field and ends within it
-  abbrev LastWithin : LastMatch → Type 0
+  abbrev LastWithin : Option Match → Type 0
   LastWithin None = Unit {0}
   LastWithin (Some m) = (v.present m.context ≡ true) × (m.end ≤ length (v.field m.context))
 
-  after_within : (p : Pattern) (b : List ℕ) (l : LastMatch) (s : Start) → LastWithin l → lies_in v p b l s ≡ true → LastWithin (last_after l p s)
+  after_within : (p : Pattern) (b : List ℕ) (l : Option Match) (s : Start) → LastWithin l → lies_in v p b l s ≡ true → LastWithin (last_after l p s)
   unfolding lies_in
   after_within p b l s h e = by_cases p.negated (λ t. rw t h) (λ f. rw f (both_left (v.present p.context) _ e, lies_inside v p b l s e))
 
   module _ (payload : v.present context.Packet ≡ true) where
-    zero_holds : (relative : Bool) (l : LastMatch) → LastWithin l → at_holds v (data_at 0 relative) l ≡ true
+    zero_holds : (relative : Bool) (l : Option Match) → LastWithin l → at_holds v (data_at 0 relative) l ≡ true
     zero_holds false l h = (data_at_exactly v false l 0).1 (payload, omega arith)
     zero_holds true None h = (data_at_exactly v true None 0).1 (payload, omega arith)
     zero_holds true (Some m) h = let k = h.1 in (data_at_exactly v true (Some m) 0).1 (h.0, omega arith)
 
     module _ (relative : Bool) (al : List Address) (ws : List Constraint) where
-      zero-after : (us : List Constraint) (l : LastMatch) → LastWithin l
+      zero-after : (us : List Constraint) (l : Option Match) → LastWithin l
           → placements v (us ++ (tested (item.At (data_at 0 relative)) al ∷ ws)) l ≡ placements v (us ++ ws) l
       unfolding placements test_holds
       zero-after [] l h = rw (zero_holds relative l h)

@@ -2,6 +2,7 @@
 -- refusals 31 and 32 also on the packet's first four bytes (`verdict_depends`, `first_depends`, `next_depends`). A packet shorter than its total
 -- length has no datagram, and is refused by lengths and the first four bytes; an absent field's part is empty whatever the buffers hold.
 -- Section "Packet and fields".
+use Rattle.std.specs.Prelude.{Option, Some, None, Result, Ok, Err}
 use mathlib.Core.Path.{◌≡◌, refl, sym, ap, ◌∙◌, fun_ext}
 use mathlib.Core.Bool.{Bool, true, false, not, ◌||◌, true≢false}
 use mathlib.Core.List.{List, [], ◌∷◌}
@@ -14,14 +15,12 @@ use Rattle.definitions.specs.declared.packets.Direction.{Direction}
 use Rattle.definitions.specs.declared.table.Context.{Context}
 use Rattle.definitions.specs.declared.table.Context.TheVariants as context
 use Rattle.definitions.specs.declared.table.Table.{Table}
-use Rattle.definitions.specs.declared.packets.FieldSpan.{FieldSpan}
-use Rattle.definitions.specs.declared.packets.FieldSpan.TheVariants.{Absent, At}
 use Rattle.definitions.specs.declared.packets.FieldMap.{FieldMap}
 use Rattle.definitions.specs.declared.packets.Placement.{Placement}
 use Rattle.definitions.specs.declared.answers.Refusal.TheVariants as refusal
-use Rattle.definitions.specs.declared.answers.Check.{Check}
-use Rattle.definitions.specs.declared.answers.Check.TheVariants.{Pass, Refuse}
 use Rattle.definitions.specs.declared.answers.Answer.{Answer}
+use Rattle.definitions.specs.declared.answers.Refusal.{Refusal}
+use Rattle.definitions.specs.declared.packets.Span.{Span}
 use Rattle.definitions.specs.Limits.{max_packet, max_decoded}
 use Rattle.definitions.specs.Lists.{any?, keep}
 use Rattle.definitions.specs.Refusals.{refuse_if, and_then}
@@ -60,9 +59,9 @@ byte3 (a ∷ (b ∷ (c ∷ []))) = refl
 byte3 (a ∷ (b ∷ (c ∷ (e ∷ p)))) = refl
 
 -- a span passes a buffer by the buffer's length
-passes_same : (sp : FieldSpan) (b b' : List ℕ) → length b ≡ length b' → passes sp b ≡ passes sp b'
-passes_same Absent b b' e = refl
-passes_same (At sp) b b' e = ap (λ (n : ℕ). ltb n (sp.start + sp.len)) e
+passes_same : (sp : Option Span) (b b' : List ℕ) → length b ≡ length b' → passes sp b ≡ passes sp b'
+passes_same None b b' e = refl
+passes_same (Some sp) b b' e = ap (λ (n : ℕ). ltb n (sp.start + sp.len)) e
 
 buffer_same : (payload decoded decoded' : List ℕ) → length decoded ≡ length decoded' → (c : Context)
     → length (buffer_of payload decoded c) ≡ length (buffer_of payload decoded' c)
@@ -75,9 +74,9 @@ buffer_same payload decoded decoded' e context.Host = e
 buffer_same payload decoded decoded' e context.File = refl
 
 -- an absent field's part is empty
-cut_same : (sp : FieldSpan) (b b' : List ℕ) → is_at sp ≡ false → cut (shown sp b) b ≡ cut (shown sp b') b'
-cut_same Absent b b' e = refl
-cut_same (At sp) b b' e = absurd (true≢false e)
+cut_same : (sp : Option Span) (b b' : List ℕ) → is_at sp ≡ false → cut (shown sp b) b ≡ cut (shown sp b') b'
+cut_same None b b' e = refl
+cut_same (Some sp) b b' e = absurd (true≢false e)
 
 absent_same : (payload decoded decoded' : List ℕ) (m : FieldMap) (c : Context) → present m c ≡ false
     → field_of payload decoded m c ≡ field_of payload decoded' m c
@@ -100,7 +99,7 @@ other_version n b = ltb n 20 || not (eqb (b / 16) 4)
 abbrev wrong_lengths : ℕ → ℕ → ℕ → Bool
 wrong_lengths n b total = ltb (b % 16) 5 || (ltb total (b % 16 * 4) || ltb n total)
 
-unfoldable check_by : ℕ → ℕ → ℕ → ℕ → Check → Check
+unfoldable check_by : ℕ → ℕ → ℕ → ℕ → Result Unit Refusal → Result Unit Refusal
 check_by n k b total d =
     refuse_if (too_long n k) refusal.BufferLength (refuse_if (other_version n b) refusal.NotIpv4 (refuse_if (wrong_lengths n b total) refusal.Lengths d))
 
@@ -109,16 +108,16 @@ lengths_within n b total e =
     ltb-false n total (neither (ltb total (b % 16 * 4)) (ltb n total) (neither (ltb (b % 16) 5) (ltb total (b % 16 * 4) || ltb n total) e).1).1
 
 -- the datagram is looked at only where it lies in the lent bytes
-check_by_same : (n k b total : ℕ) (d d' : Check) → (total ≤ n → d ≡ d') → check_by n k b total d ≡ check_by n k b total d'
+check_by_same : (n k b total : ℕ) (d d' : Result Unit Refusal) → (total ≤ n → d ≡ d') → check_by n k b total d ≡ check_by n k b total d'
 unfolding check_by
 check_by_same n k b total d d' f =
-    ap (λ (u : Check). refuse_if (too_long n k) refusal.BufferLength (refuse_if (other_version n b) refusal.NotIpv4 u))
+    ap (λ (u : Result Unit Refusal). refuse_if (too_long n k) refusal.BufferLength (refuse_if (other_version n b) refusal.NotIpv4 u))
     (refuse_same (wrong_lengths n b total) refusal.Lengths d d' (λ e. f (lengths_within n b total e)))
 
-check_by_within : (n k b total : ℕ) (d : Check) → check_by n k b total d ≡ Pass → total ≤ n
+check_by_within : (n k b total : ℕ) (d : Result Unit Refusal) → check_by n k b total d ≡ Ok tt → total ≤ n
 unfolding check_by
 check_by_within n k b total d e =
-    let lengths : Check = refuse_if (wrong_lengths n b total) refusal.Lengths d in
+    let lengths : Result Unit Refusal = refuse_if (wrong_lengths n b total) refusal.Lengths d in
     let x = (refuse_fine (too_long n k) refusal.BufferLength (refuse_if (other_version n b) refusal.NotIpv4 lengths) e).1 in
     let y = (refuse_fine (other_version n b) refusal.NotIpv4 lengths x).1 in
     lengths_within n b total (refuse_fine (wrong_lengths n b total) refusal.Lengths d y).0
@@ -127,13 +126,13 @@ check_by_lem : (p decoded : List ℕ) → packet_check p decoded ≡ check_by (l
 unfolding packet_check check_by
 check_by_lem p decoded = refl
 
-verdict_by_same : (d : Check) (l l' : List (List Start)) → (d ≡ Pass → l ≡ l') → verdict_by d l ≡ verdict_by d l'
-verdict_by_same Pass l l' f = ap (verdict_by Pass) (f refl)
-verdict_by_same (Refuse r) l l' f = refl
+verdict_by_same : (d : Result Unit Refusal) (l l' : List (List Start)) → (d ≡ Ok tt → l ≡ l') → verdict_by d l ≡ verdict_by d l'
+verdict_by_same (Ok tt) l l' f = ap (verdict_by (Ok tt)) (f refl)
+verdict_by_same (Err r) l l' f = refl
 
-unless_same : (d : Check) (a a' : Answer) → (d ≡ Pass → a ≡ a') → unless d a ≡ unless d a'
-unless_same Pass a a' f = f refl
-unless_same (Refuse r) a a' f = refl
+unless_same : (d : Result Unit Refusal) (a a' : Answer) → (d ≡ Ok tt → a ≡ a') → unless d a ≡ unless d a'
+unless_same (Ok tt) a a' f = f refl
+unless_same (Err r) a a' f = refl
 
 module _ (p p' decoded decoded' : List ℕ) (m : FieldMap) (h : Alike p p' decoded decoded' m) where
   first_same : big_endian 1 p 0 ≡ big_endian 1 p' 0
@@ -147,7 +146,7 @@ module _ (p p' decoded decoded' : List ℕ) (m : FieldMap) (h : Alike p p' decod
       let c : get_or p 3 0 ≡ get_or p' 3 0 = byte3 p ∙ ap (λ (l : List ℕ). get_or l 3 0) h.front ∙ sym (byte3 p') in
       rw (b, c)
 
-  front_same : (d : Check)
+  front_same : (d : Result Unit Refusal)
       → check_by (length p) (length decoded) (big_endian 1 p 0) (total_length p) d ≡ check_by (length p') (length decoded') (big_endian 1 p' 0) (total_length p') d
   front_same d = rw (h.buffer, h.buffer_decoded, first_same, total_same)
 
@@ -159,7 +158,7 @@ module _ (p p' decoded decoded' : List ℕ) (m : FieldMap) (h : Alike p p' decod
       ∙ front_same (datagram_check (datagram_of p'))
       ∙ sym (check_by_lem p' decoded')
 
-  packet_within : packet_check p decoded ≡ Pass → total_length p ≤ length p
+  packet_within : packet_check p decoded ≡ Ok tt → total_length p ≤ length p
   packet_within e = check_by_within (length p) (length decoded) (big_endian 1 p 0) (total_length p) (datagram_check (datagram_of p)) (sym (check_by_lem p decoded) ∙ e)
 
   one_passes : (payload : List ℕ) (c : Context)
@@ -192,9 +191,9 @@ module _ (p p' decoded decoded' : List ℕ) (m : FieldMap) (h : Alike p p' decod
         ap (refuse_if (not (well_formed t)) refusal.IllFormed)
         (else_same (packet_check p decoded) (fields_check (payload_of (datagram_of p)) decoded m) (fields_check (payload_of (datagram_of p')) decoded' m)
         (λ e. fields_check_same (payload_of (datagram_of p)) ∙ ap (λ (d : List ℕ). fields_check (payload_of d) decoded' m) (h.datagrams (packet_within e)))
-        ∙ ap (λ (d : Check). and_then d (fields_check (payload_of (datagram_of p')) decoded' m)) packet_check_same)
+        ∙ ap (λ (d : Result Unit Refusal). and_then d (fields_check (payload_of (datagram_of p')) decoded' m)) packet_check_same)
 
-    list_same : input_check t p decoded dir m ≡ Pass → placements_of t p decoded dir m ≡ placements_of t p' decoded' dir m
+    list_same : input_check t p decoded dir m ≡ Ok tt → placements_of t p decoded dir m ≡ placements_of t p' decoded' dir m
     unfolding placements_of input_check
     list_same e =
         let f = (refuse_fine (not (well_formed t)) refusal.IllFormed _ e).1 in
@@ -204,20 +203,20 @@ module _ (p p' decoded decoded' : List ℕ) (m : FieldMap) (h : Alike p p' decod
     unfolding verdict_answer
     verdict_depends =
         verdict_by_same (input_check t p decoded dir m) (placements_of t p decoded dir m) (placements_of t p' decoded' dir m) list_same
-        ∙ ap (λ (d : Check). verdict_by d (placements_of t p' decoded' dir m)) check_same
+        ∙ ap (λ (d : Result Unit Refusal). verdict_by d (placements_of t p' decoded' dir m)) check_same
 
     pub first_depends : first_answer t p decoded dir m ≡ first_answer t p' decoded' dir m
     unfolding first_answer
     first_depends =
         unless_same (input_check t p decoded dir m) (head_of (placements_of t p decoded dir m)) (head_of (placements_of t p' decoded' dir m))
         (λ e. ap head_of (list_same e))
-        ∙ ap (λ (d : Check). unless d (head_of (placements_of t p' decoded' dir m))) check_same
+        ∙ ap (λ (d : Result Unit Refusal). unless d (head_of (placements_of t p' decoded' dir m))) check_same
 
     pub next_depends : (held : Placement) → next_answer t p decoded dir m held ≡ next_answer t p' decoded' dir m held
     unfolding next_answer
     next_depends held =
         let least : List (List Start) → Answer = λ l. head_of (keep (lex_less (starts_of held)) l) in
-        let check : Check → Check = λ d. and_then d (earlier_check t p decoded dir m held) in
+        let check : Result Unit Refusal → Result Unit Refusal = λ d. and_then d (earlier_check t p decoded dir m held) in
         unless_same (check (input_check t p decoded dir m)) (least (placements_of t p decoded dir m)) (least (placements_of t p' decoded' dir m))
         (λ e. ap least (list_same (else_fine (input_check t p decoded dir m) _ e).0))
-        ∙ ap (λ (d : Check). unless (check d) (least (placements_of t p' decoded' dir m))) check_same
+        ∙ ap (λ (d : Result Unit Refusal). unless (check d) (least (placements_of t p' decoded' dir m))) check_same

@@ -1,5 +1,6 @@
 -- 20 IS ANSWERED EXACTLY IF THE TABLE IS NOT WELL FORMED: that is tested first, and no later test gives this number. By cases on the test. Section
 -- "Numbers of refusal".
+use Rattle.std.specs.Prelude.{Result, Ok}
 use mathlib.Core.Path.{◌≡◌, refl, sym, ap, subst, ◌∙◌}
 use mathlib.Core.Bool.{Bool, true, false, not, true≢false, false≢true}
 use mathlib.Core.List.{List, [], ◌∷◌}
@@ -13,8 +14,6 @@ use Rattle.definitions.specs.declared.packets.FieldMap.{FieldMap}
 use Rattle.definitions.specs.declared.packets.Placement.{Placement}
 use Rattle.definitions.specs.declared.answers.Refusal.{Refusal}
 use Rattle.definitions.specs.declared.answers.Refusal.TheVariants as refusal
-use Rattle.definitions.specs.declared.answers.Check.{Check}
-use Rattle.definitions.specs.declared.answers.Check.TheVariants.{Pass}
 use Rattle.definitions.specs.Limits.{Limits}
 use Rattle.definitions.specs.Lists.{any?, all?}
 use Rattle.definitions.specs.Refusals.{check_number, write_number, verdict_number, found_number, refuse_if, and_then}
@@ -31,12 +30,12 @@ use Rattle.laws.proofs.Causes.{packet_causes, fields_causes, packet_among, field
 
 -- ---- the first test, where what is due later is among other numbers
 
-first_tested : (l : List ℕ) (b : Bool) (d : Check) → among l 20 ≡ false → CheckAmong l d
+first_tested : (l : List ℕ) (b : Bool) (d : Result Unit Refusal) → among l 20 ≡ false → CheckAmong l d
     → (check_number (refuse_if (not b) refusal.IllFormed d) ≡ 20) ↔ (b ≡ false)
 first_tested l true d none a = (λ e. absurd (false≢true (sym none ∙ subst (λ (n : ℕ). among l n ≡ true) e a)), λ e. absurd (true≢false e))
 first_tested l false d none a = (λ e. refl, λ e. refl)
 
-then_tested : (b : Bool) (r : Refusal) (d e : Check) → and_then (refuse_if b r d) e ≡ refuse_if b r (and_then d e)
+then_tested : (b : Bool) (r : Refusal) (d e : Result Unit Refusal) → and_then (refuse_if b r d) e ≡ refuse_if b r (and_then d e)
 then_tested true r d e = refl
 then_tested false r d e = refl
 
@@ -58,10 +57,10 @@ write_ill_formed lim t out =
     answered (write_number_lem lim t out)
     (first_tested later_writing (well_formed t) _ refl
     (refuse_among later_writing (ltb lim.canonical (length (canonical_text t))) refusal.CanonicalLength _ refl
-    (refuse_among later_writing (ltb (length out) (length (canonical_text t))) refusal.ShortBuffer Pass refl refl)))
+    (refuse_among later_writing (ltb (length out) (length (canonical_text t))) refusal.ShortBuffer (Ok tt) refl refl)))
 
 module _ (t : Table) (p decoded : List ℕ) (dir : Direction) (m : FieldMap) where
-  abbrev packet_and_fields : Check
+  abbrev packet_and_fields : Result Unit Refusal
   packet_and_fields = and_then (packet_check p decoded) (fields_check (payload_of (datagram_of p)) decoded m)
 
   later_among : CheckAmong later_input packet_and_fields
@@ -89,4 +88,4 @@ module _ (t : Table) (p decoded : List ℕ) (dir : Direction) (m : FieldMap) whe
       (next_number_lem t p decoded dir m h ∙ ap check_number (then_tested (not (well_formed t)) refusal.IllFormed packet_and_fields (earlier_check t p decoded dir m h)))
       (first_tested later_input (well_formed t) (and_then packet_and_fields (earlier_check t p decoded dir m h)) refl
       (else_among later_input packet_and_fields (earlier_check t p decoded dir m h) later_among
-      (refuse_among later_input (not (eqb h.count (positives (items_of t)))) refusal.EarlierCount Pass refl refl)))
+      (refuse_among later_input (not (eqb h.count (positives (items_of t)))) refusal.EarlierCount (Ok tt) refl refl)))

@@ -1,5 +1,6 @@
 -- What "next" answers is the least of the list of placements after the earlier one, and none if none is after it (`next_least`). The list
 -- rises, so what it keeps of itself rises too, and the first of that is its least.
+use Rattle.std.specs.Prelude.{Ok}
 use mathlib.Core.Path.{◌≡◌, refl, sym, ◌∙◌, subst}
 use mathlib.Core.Logic.{◌⊎◌, inl, inr, ◌↔◌}
 use mathlib.Core.Bool.{Bool, true, false, true≢false}
@@ -13,7 +14,6 @@ use Rattle.definitions.specs.declared.table.Table.{Table}
 use Rattle.definitions.specs.declared.packets.FieldMap.{FieldMap}
 use Rattle.definitions.specs.declared.packets.Start.{Start}
 use Rattle.definitions.specs.declared.packets.Placement.{Placement}
-use Rattle.definitions.specs.declared.answers.Check.TheVariants.{Pass}
 use Rattle.definitions.specs.Fields.{view_of}
 use Rattle.definitions.specs.Lists.{keep}
 use Rattle.definitions.specs.Refusals.{and_then}
@@ -77,7 +77,7 @@ module _ (t : Table) (p decoded : List ℕ) (dir : Direction) (m : FieldMap) whe
   pub after_none : (b : List Start) → (keep (lex_less b) (placements_of t p decoded dir m) ≡ []) ↔ NoneAfter b (placements_of t p decoded dir m)
   after_none b = kept_none b (placements_of t p decoded dir m)
 
-  pub next_least : (h : Placement) → and_then (input_check t p decoded dir m) (earlier_check t p decoded dir m h) ≡ Pass
+  pub next_least : (h : Placement) → and_then (input_check t p decoded dir m) (earlier_check t p decoded dir m h) ≡ Ok tt
       → ((q : List Start) × (next_answer t p decoded dir m h ≡ found_answer q) × Least (starts_of h) q (placements_of t p decoded dir m))
       ⊎ ((next_answer t p decoded dir m h ≡ none_answer) × NoneAfter (starts_of h) (placements_of t p decoded dir m))
   unfolding next_answer

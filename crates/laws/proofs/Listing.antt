@@ -1,6 +1,7 @@
 -- The theorems on the list of placements: it holds exactly the placements that meet the table (`listed_meets`), it rises strictly
 -- (`listed_rising`), so it holds each once (`listed_once`), and each has a start for each positive pattern (`listed_length`). Membership goes by cases on the
 -- items; nothing here knows what a test, a window or a start is.
+use Rattle.std.specs.Prelude.{Option, None}
 use mathlib.Core.Path.{◌≡◌, refl, sym, ap, ◌∙◌, subst}
 use mathlib.Core.Logic.{⊎_elim, ◌↔◌}
 use mathlib.Core.Bool.{Bool, true, false, ◌&&◌, false≢true}
@@ -19,9 +20,8 @@ use lib.ListN.{length}
 use Rattle.definitions.specs.declared.packets.Direction.{Direction}
 use Rattle.definitions.specs.declared.table.Pattern.{Pattern}
 use Rattle.definitions.specs.declared.table.Table.{Table}
-use Rattle.definitions.specs.declared.packets.LastMatch.{LastMatch}
-use Rattle.definitions.specs.declared.packets.LastMatch.TheVariants.{None}
 use Rattle.definitions.specs.declared.packets.Start.{Start}
+use Rattle.definitions.specs.declared.packets.Match.{Match}
 use Rattle.definitions.specs.Starts.{start_before}
 use Rattle.definitions.specs.References.{last_after}
 use Rattle.definitions.specs.Fields.{View}
@@ -84,34 +84,34 @@ nowhere_in (y ∷ l) x e m = false≢true e
 
 module _ (v : View) where
   -- a negated pattern holds where its field is present and it lies nowhere
-  absent_in : (p : Pattern) (b : List ℕ) (l : LastMatch) → none? (starts v p b l) ≡ true → (x : Start) → lies_in v p b l x ≡ false
+  absent_in : (p : Pattern) (b : List ℕ) (l : Option Match) → none? (starts v p b l) ≡ true → (x : Start) → lies_in v p b l x ≡ false
   absent_in p b l e x = go (lies_in v p b l x) refl
     where
       go : (t : Bool) → lies_in v p b l x ≡ t → lies_in v p b l x ≡ false
       go true h = absurd (nowhere_in (starts v p b l) x e (starts_of_lem v p b l x h))
       go false h = h
 
-  absent_of : (p : Pattern) (b : List ℕ) (l : LastMatch) → ((x : Start) → lies_in v p b l x ≡ false) → none? (starts v p b l) ≡ true
+  absent_of : (p : Pattern) (b : List ℕ) (l : Option Match) → ((x : Start) → lies_in v p b l x ≡ false) → none? (starts v p b l) ≡ true
   absent_of p b l h = go (starts v p b l) (λ x n. starts_in_lem v p b l x n)
     where
       go : (k : List Start) → ((x : Start) → Mem x k → lies_in v p b l x ≡ true) → none? k ≡ true
       go [] g = refl
       go (y ∷ k) g = absurd (false≢true (sym (h y) ∙ g y (here refl)))
 
-  nowhere_holds_in : (p : Pattern) (b : List ℕ) (l : LastMatch) → unmatched_holds v p b l ≡ true
+  nowhere_holds_in : (p : Pattern) (b : List ℕ) (l : Option Match) → unmatched_holds v p b l ≡ true
       → (v.present p.context ≡ true) × ((x : Start) → lies_in v p b l x ≡ false)
   unfolding unmatched_holds
   nowhere_holds_in p b l e =
       let w = both (v.present p.context) (none? (starts v p b l)) e in
       (w.0, absent_in p b l w.1)
 
-  nowhere_holds_of : (p : Pattern) (b : List ℕ) (l : LastMatch) → v.present p.context ≡ true → ((x : Start) → lies_in v p b l x ≡ false)
+  nowhere_holds_of : (p : Pattern) (b : List ℕ) (l : Option Match) → v.present p.context ≡ true → ((x : Start) → lies_in v p b l x ≡ false)
       → unmatched_holds v p b l ≡ true
   unfolding unmatched_holds
   nowhere_holds_of p b l e h = pair (v.present p.context) (none? (starts v p b l)) e (absent_of p b l h)
 
   -- the list of placements holds exactly those that meet the items
-  pub placements_meet : (ws : List Constraint) (l : LastMatch) (q : List Start) → Mem q (placements v ws l) → Meets v ws l q
+  pub placements_meet : (ws : List Constraint) (l : Option Match) (q : List Start) → Mem q (placements v ws l) → Meets v ws l q
   unfolding placements Meets
   placements_meet [] l [] n = tt
   placements_meet [] l (s ∷ q) n = ⊎_elim (λ e. cons≢nil e) (λ k. not-nil k) (cases_cons n)
@@ -131,7 +131,7 @@ module _ (v : View) where
       let w = only_in (test_holds v it al l) (placements v ws l) q n in
       (w.0, placements_meet ws l q w.1)
 
-  pub meeting_placed : (ws : List Constraint) (l : LastMatch) (q : List Start) → Meets v ws l q → Mem q (placements v ws l)
+  pub meeting_placed : (ws : List Constraint) (l : Option Match) (q : List Start) → Meets v ws l q → Mem q (placements v ws l)
   unfolding placements Meets
   meeting_placed [] l [] h = here refl
   meeting_placed [] l (s ∷ q) h = absurd h
@@ -145,7 +145,7 @@ module _ (v : View) where
       only_of (test_holds v it al l) (placements v ws l) q h.0 (meeting_placed ws l q h.1)
 
   -- a placement that meets the items has a start for each positive pattern
-  pub meets_length : (ws : List Constraint) (l : LastMatch) (q : List Start) → Meets v ws l q → length q ≡ positives ws
+  pub meets_length : (ws : List Constraint) (l : Option Match) (q : List Start) → Meets v ws l q → length q ≡ positives ws
   unfolding Meets positives
   meets_length [] l [] h = refl
   meets_length [] l (s ∷ q) h = absurd h
@@ -181,7 +181,7 @@ rising_only : (t : Bool) (l : List (List Start)) → Rising l → Rising (only_i
 rising_only true l h = h
 rising_only false l h = tt
 
-pub placements_rising : (v : View) (ws : List Constraint) (l : LastMatch) → Rising (placements v ws l)
+pub placements_rising : (v : View) (ws : List Constraint) (l : Option Match) → Rising (placements v ws l)
 unfolding placements
 placements_rising v [] l = ((λ q n. absurd (not-nil n)), tt)
 placements_rising v (matched p b ∷ ws) l =

@@ -1,5 +1,6 @@
 -- EACH ANSWER IN NUMBERS: the number of what is due, 0 if nothing is, and the values that document 01 has for it. An answer is a refusal exactly where
 -- something is due, so it goes by cases on that, and on whether the list of placements is empty. Sections "Numbers of refusal" and "Meaning".
+use Rattle.std.specs.Prelude.{Result, Ok, Err, ℕ}
 use mathlib.Core.Path.{◌≡◌, refl, sym, ap, ◌∙◌}
 use mathlib.Core.List.{List, [], ◌∷◌, ◌++◌, map, map-append}
 use Prim.Native.Nat.{ℕ, zero, suc, ◌-◌}
@@ -9,13 +10,11 @@ use Rattle.definitions.specs.declared.packets.Direction.{Direction}
 use Rattle.definitions.specs.declared.table.Table.{Table}
 use Rattle.definitions.specs.declared.packets.FieldMap.{FieldMap}
 use Rattle.definitions.specs.declared.packets.Placement.{Placement}
-use Rattle.definitions.specs.declared.answers.Check.{Check}
 use Rattle.definitions.specs.declared.answers.Reading.{Reading}
-use Rattle.definitions.specs.declared.answers.Writing.{Writing}
-use Rattle.definitions.specs.declared.answers.PacketAnswer.{PacketAnswer}
 use Rattle.definitions.specs.declared.answers.Verdict.{Verdict}
 use Rattle.definitions.specs.declared.answers.Answer.{Answer}
-use Rattle.definitions.specs.declared.answers.Check.TheVariants.{Pass, Refuse}
+use Rattle.definitions.specs.declared.answers.Refusal.{Refusal}
+use Rattle.definitions.specs.declared.packets.PacketHeader.{PacketHeader}
 use Rattle.definitions.specs.Limits.{Limits, document_limits, max_patterns}
 use Rattle.definitions.specs.Lists.{keep, padded}
 use Rattle.definitions.specs.Starts.{start_at, start_number}
@@ -33,18 +32,18 @@ use Rattle.definitions.specs.AnswerNumbers.{verdict_in_numbers, first_in_numbers
 
 -- ---- of anything due
 
-written_numbers : (d : Check) (n : ℕ) → write_numbers (written_if d n) ≡ numbered d (n ∷ []) (0 ∷ [])
-written_numbers Pass n = refl
-written_numbers (Refuse r) n = refl
+written_numbers : (d : Result Unit Refusal) (n : ℕ) → write_numbers (written_if d n) ≡ numbered d (n ∷ []) (0 ∷ [])
+written_numbers (Ok tt) n = refl
+written_numbers (Err r) n = refl
 
-packet_by_numbers : (d : Check) (g : List ℕ) → packet_numbers (packet_by d g) ≡ numbered d (header_numbers (header_of g)) []
-packet_by_numbers Pass g = refl
-packet_by_numbers (Refuse r) g = refl
+packet_by_numbers : (d : Result Unit Refusal) (g : List ℕ) → packet_numbers (packet_by d g) ≡ numbered d (header_numbers (header_of g)) []
+packet_by_numbers (Ok tt) g = refl
+packet_by_numbers (Err r) g = refl
 
-verdict_by_numbers : (d : Check) (l : List (List Start)) → verdict_numbers (verdict_by d l) ≡ numbered d (met_number l ∷ []) (0 ∷ [])
-verdict_by_numbers Pass [] = refl
-verdict_by_numbers Pass (q ∷ l) = refl
-verdict_by_numbers (Refuse r) l = refl
+verdict_by_numbers : (d : Result Unit Refusal) (l : List (List Start)) → verdict_numbers (verdict_by d l) ≡ numbered d (met_number l ∷ []) (0 ∷ [])
+verdict_by_numbers (Ok tt) [] = refl
+verdict_by_numbers (Ok tt) (q ∷ l) = refl
+verdict_by_numbers (Err r) l = refl
 
 -- unused room is zero
 zeros : (n : ℕ) → map start_number (replicate n (start_at 0)) ≡ replicate n 0
@@ -57,14 +56,14 @@ starts_padded n q =
     ∙ ap (λ (l : List ℕ). map start_number q ++ l) (zeros (n - length q))
     ∙ ap (λ (k : ℕ). map start_number q ++ replicate (n - k) 0) (sym (length-map q start_number))
 
-unless_numbers : (d : Check) (l : List (List Start)) → answer_numbers (unless d (head_of l)) ≡ numbered d (placed_numbers l) none_numbers
-unless_numbers Pass [] = refl
-unless_numbers Pass (q ∷ l) = ap (λ (s : List ℕ). 0 ∷ 1 ∷ length q ∷ s) (starts_padded max_patterns q)
-unless_numbers (Refuse r) l = refl
+unless_numbers : (d : Result Unit Refusal) (l : List (List Start)) → answer_numbers (unless d (head_of l)) ≡ numbered d (placed_numbers l) none_numbers
+unless_numbers (Ok tt) [] = refl
+unless_numbers (Ok tt) (q ∷ l) = ap (λ (s : List ℕ). 0 ∷ 1 ∷ length q ∷ s) (starts_padded max_patterns q)
+unless_numbers (Err r) l = refl
 
-check_numbers_lem : (d : Check) → check_numbers d ≡ numbered d [] []
-check_numbers_lem Pass = refl
-check_numbers_lem (Refuse r) = refl
+check_numbers_lem : (d : Result Unit Refusal) → check_numbers d ≡ numbered d [] []
+check_numbers_lem (Ok tt) = refl
+check_numbers_lem (Err r) = refl
 
 -- ---- of what the entries answer
 
@@ -99,19 +98,19 @@ pub read_told : (s : List ℕ) {r : Reading} → r ≡ read document_limits s
     → (r ≡ read document_limits s) × (read_numbers r.outcome ≡ read_in_numbers document_limits s)
 read_told s e = (e, ap (λ (x : Reading). read_numbers x.outcome) e)
 
-pub write_told : (t : Table) (out : List ℕ) {r : Writing} → r ≡ writes document_limits t out → write_numbers r ≡ write_in_numbers document_limits t (length out)
+pub write_told : (t : Table) (out : List ℕ) {r : Result ℕ Refusal} → r ≡ writes document_limits t out → write_numbers r ≡ write_in_numbers document_limits t (length out)
 write_told t out e = ap write_numbers e ∙ write_numbers_lem document_limits t out
 
-pub packet_told : (p decoded : List ℕ) {r : PacketAnswer} → r ≡ packet_answer p decoded
+pub packet_told : (p decoded : List ℕ) {r : Result PacketHeader Refusal} → r ≡ packet_answer p decoded
     → (r ≡ packet_answer p decoded) × (packet_numbers r ≡ packet_in_numbers p decoded)
 packet_told p decoded e = (e, ap packet_numbers e ∙ packet_numbers_lem p decoded)
 
-pub fields_told : (payload decoded : List ℕ) (m : FieldMap) {r : Check} → r ≡ fields_check payload decoded m
+pub fields_told : (payload decoded : List ℕ) (m : FieldMap) {r : Result Unit Refusal} → r ≡ fields_check payload decoded m
     → (r ≡ fields_check payload decoded m) × (check_numbers r ≡ fields_in_numbers payload decoded m)
 fields_told payload decoded m e = (e, ap check_numbers e ∙ fields_numbers payload decoded m)
 
 module _ (t : Table) (p decoded : List ℕ) (dir : Direction) (m : FieldMap) where
-  pub verdict_told : {r : Verdict} → r ≡ verdict_answer t p decoded dir m
+  pub verdict_told : {r : Result Verdict Refusal} → r ≡ verdict_answer t p decoded dir m
       → (r ≡ verdict_answer t p decoded dir m) × (verdict_numbers r ≡ verdict_in_numbers t p decoded dir m)
   verdict_told e = (e, ap verdict_numbers e ∙ verdict_numbers_lem t p decoded dir m)
 
@@ -128,9 +127,9 @@ module _ (t : Table) (p decoded : List ℕ) (dir : Direction) (m : FieldMap) whe
 abbrev first : List ℕ → ℕ
 first l = get_or l 0 0
 
-number_due : (d : Check) (v w : List ℕ) → first (numbered d v w) ≡ check_number d
-number_due Pass v w = refl
-number_due (Refuse r) v w = refl
+number_due : (d : Result Unit Refusal) (v w : List ℕ) → first (numbered d v w) ≡ check_number d
+number_due (Ok tt) v w = refl
+number_due (Err r) v w = refl
 
 pub write_number_lem : (lim : Limits) (t : Table) (out : List ℕ) → write_number (writes lim t out) ≡ check_number (writing_check lim t (length out))
 write_number_lem lim t out = ap first (write_numbers_lem lim t out) ∙ number_due (writing_check lim t (length out)) (length (canonical_text t) ∷ []) (0 ∷ [])
@@ -139,7 +138,7 @@ pub packet_number_lem : (p decoded : List ℕ) → packet_number (packet_answer 
 packet_number_lem p decoded = ap first (packet_numbers_lem p decoded) ∙ number_due (packet_check p decoded) (header_numbers (header_of (datagram_of p))) []
 
 module _ (t : Table) (p decoded : List ℕ) (dir : Direction) (m : FieldMap) where
-  abbrev due : Check
+  abbrev due : Result Unit Refusal
   due = input_check t p decoded dir m
 
   abbrev list : List (List Start)

@@ -1,5 +1,6 @@
 -- A TABLE THAT HOLDS AN ITEM OF THE OLD KIND, ip_id, in whatever slot and whatever else it holds, is not well formed (`ip_id_ill_formed`), so that every entry
 -- that takes a table answers 20 (`write_ip_id` to `answers_ip_id`). An item that fits, and an unused slot, are not of that kind. Document 02, T-09.
+use Rattle.std.specs.Prelude.{None}
 use mathlib.Core.Path.{◌≡◌, refl, sym, ap, ◌∙◌}
 use mathlib.Core.Bool.{Bool, true, false, ◌&&◌, false≢true}
 use mathlib.Core.List.{List, [], ◌∷◌, ◌++◌, map}
@@ -17,7 +18,6 @@ use Rattle.definitions.specs.declared.table.Table.{Table}
 use Rattle.definitions.specs.declared.packets.Direction.{Direction}
 use Rattle.definitions.specs.declared.packets.FieldMap.{FieldMap}
 use Rattle.definitions.specs.declared.packets.Placement.{Placement}
-use Rattle.definitions.specs.declared.packets.LastMatch.TheVariants.{None}
 use Rattle.definitions.specs.declared.answers.Refusal.TheVariants as refusal
 use Rattle.definitions.specs.declared.answers.Query.{Query}
 use Rattle.definitions.specs.Limits.{Limits, max_byte, max_items, max_patterns, max_tests}

@@ -1,5 +1,6 @@
 -- The starts of a pattern: those at which it lies and no others (`starts_in_lem`, `starts_of_lem`), in rising order (`starts_rise`). It lies within its field, whose
 -- starts are numbers made starts.
+use Rattle.std.specs.Prelude.{Option, Some, None}
 use mathlib.Core.Path.{◌≡◌, refl, ap}
 use mathlib.Core.Logic.{⊎_elim}
 use mathlib.Core.Bool.{Bool, true, false}
@@ -16,11 +17,10 @@ use lib.IntN.{ℤ, pos, ◌+ℤ◌}
 use lib.Signed.{le_z}
 use borrow.Author.Tests.{leb-true, eqb-true, eqb-false}
 use Rattle.forms.proofs.Bools.{both_left, both_right}
-use Rattle.definitions.specs.declared.table.Within.{Within}
-use Rattle.definitions.specs.declared.table.Within.TheVariants as within
 use Rattle.definitions.specs.declared.table.Pattern.{Pattern}
-use Rattle.definitions.specs.declared.packets.LastMatch.{LastMatch}
 use Rattle.definitions.specs.declared.packets.Start.{Start}
+use Rattle.definitions.specs.declared.packets.Match.{Match}
+use Rattle.definitions.specs.declared.table.WithinValue.{WithinValue}
 use Rattle.definitions.specs.Starts.{start_at, start_before}
 use Rattle.definitions.specs.Fields.{View}
 use Rattle.definitions.specs.Windows.{window_start, before_end, in_window, stands_at, lies}
@@ -53,11 +53,11 @@ numbers_rise a (suc m) = ((λ s n. number_before a s (numbers_in (suc a) m s n))
 
 -- ---- a pattern ends within its field
 
-before_le : (s : ℤ) (w : Within) (len e : ℕ) → before_end s w len e ≡ true → e ≤ len
-before_le s within.Unset len e h = leb-true e len h
-before_le s (within.Given w) len e h = leb-true e len (both_left (leb e len) (le_z (pos e) (s +ℤ pos w.number)) h)
+before_le : (s : ℤ) (w : Option WithinValue) (len e : ℕ) → before_end s w len e ≡ true → e ≤ len
+before_le s None len e h = leb-true e len h
+before_le s (Some w) len e h = leb-true e len (both_left (leb e len) (le_z (pos e) (s +ℤ pos w.number)) h)
 
-lies_within : (p : Pattern) (b : List ℕ) (l : LastMatch) (f : List ℕ) (x : ℕ) → lies p b l f x ≡ true → x + p.len ≤ length f
+lies_within : (p : Pattern) (b : List ℕ) (l : Option Match) (f : List ℕ) (x : ℕ) → lies p b l f x ≡ true → x + p.len ≤ length f
 unfolding lies in_window
 lies_within p b l f x e =
     let s = window_start l (length f) p.distance p.within in
@@ -66,7 +66,7 @@ lies_within p b l f x e =
 
 -- ---- the starts of a pattern
 
-module _ (v : View) (p : Pattern) (b : List ℕ) (l : LastMatch) where
+module _ (v : View) (p : Pattern) (b : List ℕ) (l : Option Match) where
   pub lies_inside : (s : Start) → lies_in v p b l s ≡ true → s.at + p.len ≤ length (v.field p.context)
   unfolding lies_in
   lies_inside s e = lies_within p b l (v.field p.context) s.at (both_right (v.present p.context) (lies p b l (v.field p.context) s.at) e)

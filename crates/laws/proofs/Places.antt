@@ -1,7 +1,7 @@
 -- A refused reading has a place at most the text's length (`place_within`), and never beyond the limit of a text (`place_most`), and a number from 1 to 12.
 -- The options are read left to right; each place is where the reading stands, an option's first dash before it, or one that the option's form answers with,
 -- and none of these lies after the text.
-use Rattle.std.specs.Prelude.{if◌then◌else◌}
+use Rattle.std.specs.Prelude.{if◌then◌else◌, Result, Ok, Err}
 use mathlib.Core.Path.{◌≡◌, refl, ap, subst}
 use mathlib.Core.Bool.{Bool, true, false, not, ◌&&◌, ◌||◌, false≢true}
 use mathlib.Core.List.{List, [], ◌∷◌, ◌++◌, map}
@@ -16,11 +16,8 @@ use Rattle.forms.specs.Place.{Parsed, OutOfRange, Failed, placed, read_at}
 use Rattle.forms.proofs.Bools.{by_cases}
 use Rattle.definitions.specs.declared.answers.Refusal.{Refusal}
 use Rattle.definitions.specs.declared.answers.Refusal.TheVariants as refusal
-use Rattle.definitions.specs.declared.answers.Check.{Check}
-use Rattle.definitions.specs.declared.answers.Check.TheVariants as check
-use Rattle.definitions.specs.declared.answers.ReadOutcome.{ReadOutcome}
-use Rattle.definitions.specs.declared.answers.ReadOutcome.TheVariants as outcome
 use Rattle.definitions.specs.declared.answers.Reading.{Reading}
+use Rattle.definitions.specs.declared.answers.TextRefusal.{TextRefusal}
 use Rattle.definitions.specs.Limits.{Limits, max_tests, max_patterns, max_addresses}
 use Rattle.definitions.specs.Lists.{any?, none?, keep, keep_one, count, same_bytes}
 use Rattle.definitions.specs.Refusals.{number_of, read_place}
@@ -42,18 +39,18 @@ Fits n r p = (among read_causes (number_of r) ≡ true) × (p ≤ n)
 
 -- ---- what is due for an option: 8, 9, 11 or nothing
 
-pub due_for : (Q : Check → Type 0) → Q check.Pass → Q (check.Refuse refusal.Repeated) → Q (check.Refuse refusal.ModifierWithoutPattern)
-    → Q (check.Refuse refusal.CountExceeded) → (es : List OptionValue) (e : OptionValue) → Q (occurrence_check es e)
+pub due_for : (Q : Result Unit Refusal → Type 0) → Q (Ok tt) → Q (Err refusal.Repeated) → Q (Err refusal.ModifierWithoutPattern)
+    → Q (Err refusal.CountExceeded) → (es : List OptionValue) (e : OptionValue) → Q (occurrence_check es e)
 unfolding occurrence_check
-due_for Q none eight nine eleven es (Name n) = refuse_by Q (any? (same_kind (Name n)) es) refusal.Repeated check.Pass eight none
-due_for Q none eight nine eleven es (Protocol p) = refuse_by Q (any? (same_kind (Protocol p)) es) refusal.Repeated check.Pass eight none
-due_for Q none eight nine eleven es (Flow f) = refuse_by Q (any? (same_kind (Flow f)) es) refusal.Repeated check.Pass eight none
+due_for Q none eight nine eleven es (Name n) = refuse_by Q (any? (same_kind (Name n)) es) refusal.Repeated (Ok tt) eight none
+due_for Q none eight nine eleven es (Protocol p) = refuse_by Q (any? (same_kind (Protocol p)) es) refusal.Repeated (Ok tt) eight none
+due_for Q none eight nine eleven es (Flow f) = refuse_by Q (any? (same_kind (Flow f)) es) refusal.Repeated (Ok tt) eight none
 due_for Q none eight nine eleven es (Test it al) =
-    refuse_by Q (ltb max_addresses (length al) || leb max_tests (count is_test es)) refusal.CountExceeded check.Pass eleven none
-due_for Q none eight nine eleven es (Pattern n b) = refuse_by Q (leb max_patterns (count is_pattern es)) refusal.CountExceeded check.Pass eleven none
+    refuse_by Q (ltb max_addresses (length al) || leb max_tests (count is_test es)) refusal.CountExceeded (Ok tt) eleven none
+due_for Q none eight nine eleven es (Pattern n b) = refuse_by Q (leb max_patterns (count is_pattern es)) refusal.CountExceeded (Ok tt) eleven none
 due_for Q none eight nine eleven es (Modified m) =
     refuse_by Q (eqb (count is_pattern es) 0) refusal.ModifierWithoutPattern _ nine
-    (refuse_by Q (any? (same_modifier m) (latest [] es)) refusal.Repeated check.Pass eight none)
+    (refuse_by Q (any? (same_modifier m) (latest [] es)) refusal.Repeated (Ok tt) eight none)
 
 -- ---- the options: every dash stands up to n
 
@@ -84,9 +81,9 @@ options_if : (n : ℕ) (b : Bool) (x y : Options) → OptionsFit n x → Options
 options_if n true x y hx hy = hx
 options_if n false x y hx hy = hy
 
-unless_fit : (n : ℕ) (d : Check) (at : ℕ) (k : Options) → CheckAmong read_causes d → at ≤ n → OptionsFit n k → OptionsFit n (unless_refused d at k)
-unless_fit n check.Pass at k e l h = h
-unless_fit n (check.Refuse r) at k e l h = (e, l)
+unless_fit : (n : ℕ) (d : Result Unit Refusal) (at : ℕ) (k : Options) → CheckAmong read_causes d → at ≤ n → OptionsFit n k → OptionsFit n (unless_refused d at k)
+unless_fit n (Ok tt) at k e l h = h
+unless_fit n (Err r) at k e l h = (e, l)
 
 -- ---- the places that an option's form answers with
 
@@ -137,9 +134,9 @@ options_fit s (b ∷ l) zero at located e h =
 
 -- ---- the whole text
 
-abbrev pub OutcomeFits : ℕ → ReadOutcome → Type 0
-OutcomeFits n outcome.Accepted = Unit {0}
-OutcomeFits n (outcome.Refused r p) = Fits n r p
+abbrev pub OutcomeFits : ℕ → Result Unit TextRefusal → Type 0
+OutcomeFits n (Ok tt) = Unit {0}
+OutcomeFits n (Err e) = Fits n e.refusal e.place
 
 reading_if : (n : ℕ) (b : Bool) (x y : Reading) → (b ≡ true → OutcomeFits n x.outcome) → (b ≡ false → OutcomeFits n y.outcome)
     → OutcomeFits n (if b then x else y).outcome
@@ -189,7 +186,7 @@ pub read_fits : (lim : Limits) (s : List ℕ) → OutcomeFits (length s) (read l
 unfolding read_placing any?
 read_fits lim s = reading_if (length s) (ltb lim.text (length s)) _ _ (λ e. (refl, omega arith)) (λ f. unbounded_fits lim.room s)
 
-pub place_within : (lim : Limits) (s : List ℕ) (r : Refusal) (p : ℕ) → (read lim s).outcome ≡ outcome.Refused r p → p ≤ length s
+pub place_within : (lim : Limits) (s : List ℕ) (r : Refusal) (p : ℕ) → (read lim s).outcome ≡ Err (record { refusal = r; place = p }) → p ≤ length s
 place_within lim s r p e = (subst (OutcomeFits (length s)) e (read_fits lim s)).1
 
 -- a text beyond the limit has place 0
@@ -198,9 +195,9 @@ unfolding read_placing
 long_place lim s t = rw t (omega arith)
 
 -- nor does a place lie beyond the limit of a text
-outcome_place : (n : ℕ) (o : ReadOutcome) → OutcomeFits n o → read_place o ≤ n
-outcome_place n outcome.Accepted h = omega arith
-outcome_place n (outcome.Refused r p) h = h.1
+outcome_place : (n : ℕ) (o : Result Unit TextRefusal) → OutcomeFits n o → read_place o ≤ n
+outcome_place n (Ok tt) h = omega arith
+outcome_place n (Err e) h = h.1
 
 pub place_most : (lim : Limits) (s : List ℕ) → read_place (read lim s).outcome ≤ lim.text
 place_most lim s =

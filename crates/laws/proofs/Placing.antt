@@ -1,6 +1,6 @@
 -- Number and table of a reading do not depend on how 6 and 7 are placed, and no other place does (`places_alone`). Where one placing refuses with 6 or 7,
 -- so does every other, for what the form of one option answers with (`form_cause`, `limit_cause`). By induction on the bytes, both placings at once.
-use Rattle.std.specs.Prelude.{if◌then◌else◌}
+use Rattle.std.specs.Prelude.{if◌then◌else◌, Result, Ok, Err}
 use mathlib.Core.Path.{◌≡◌, refl, ap, subst, sym, ◌∙◌}
 use mathlib.Core.Bool.{Bool, true, false, not}
 use mathlib.Core.List.{List, [], ◌∷◌, ◌++◌}
@@ -13,11 +13,8 @@ use Rattle.forms.specs.Place.{Parsed, OutOfRange, Failed}
 use Rattle.forms.proofs.Sound.{never}
 use Rattle.definitions.specs.declared.answers.Refusal.{Refusal}
 use Rattle.definitions.specs.declared.answers.Refusal.TheVariants as refusal
-use Rattle.definitions.specs.declared.answers.Check.{Check}
-use Rattle.definitions.specs.declared.answers.Check.TheVariants as check
-use Rattle.definitions.specs.declared.answers.ReadOutcome.{ReadOutcome}
-use Rattle.definitions.specs.declared.answers.ReadOutcome.TheVariants as outcome
 use Rattle.definitions.specs.declared.answers.Reading.{Reading}
+use Rattle.definitions.specs.declared.answers.TextRefusal.{TextRefusal}
 use Rattle.definitions.specs.Limits.{Limits}
 use Rattle.definitions.specs.Lists.{none?, count, same_bytes}
 use Rattle.definitions.specs.OptionValues.{OptionValue}
@@ -51,13 +48,13 @@ module _ (s : List ℕ) (P Q : Placing) where
   both_if false h g = g refl
 
   -- the refusals that are due for an option are 8, 9 and 11
-  abbrev DueOther : Check → Type 0
-  DueOther check.Pass = Unit {0}
-  DueOther (check.Refuse r) = placed_anew r ≡ false
+  abbrev DueOther : Result Unit Refusal → Type 0
+  DueOther (Ok tt) = Unit {0}
+  DueOther (Err r) = placed_anew r ≡ false
 
-  unless_both : (d : Check) (at : ℕ) {k k' : Options} → DueOther d → Both k k' → Both (unless_refused d at k) (unless_refused d at k')
-  unless_both check.Pass at e h = h
-  unless_both (check.Refuse r) at e h = refuses (other r at e)
+  unless_both : (d : Result Unit Refusal) (at : ℕ) {k k' : Options} → DueOther d → Both k k' → Both (unless_refused d at k) (unless_refused d at k')
+  unless_both (Ok tt) at e h = h
+  unless_both (Err r) at e h = refuses (other r at e)
 
   step_both : (o : NamedOption) (es : List OptionValue) (at : ℕ) {k k' : OptionValue → ℕ → Options} → OptionAnswers s at o
       → ((e : OptionValue) (next : ℕ) → Both (k e next) (k' e next)) → Both (option_step P o es at k) (option_step Q o es at k')
@@ -88,9 +85,9 @@ module _ (s : List ℕ) (P Q : Placing) where
   -- ---- the whole text
 
   -- one table, and an outcome by either placing
-  data Outcomes : ReadOutcome → ReadOutcome → Type 0 where
-    accepts : Outcomes outcome.Accepted outcome.Accepted
-    refuses : {r : Refusal} {p q : ℕ} → Cause r p q → Outcomes (outcome.Refused r p) (outcome.Refused r q)
+  data Outcomes : Result Unit TextRefusal → Result Unit TextRefusal → Type 0 where
+    accepts : Outcomes (Ok tt) (Ok tt)
+    refuses : {r : Refusal} {p q : ℕ} → Cause r p q → Outcomes (Err (record { refusal = r; place = p })) (Err (record { refusal = r; place = q }))
 
   abbrev Readings : Reading → Reading → Type 0
   Readings x y = (x.table ≡ y.table) × Outcomes x.outcome y.outcome
@@ -123,7 +120,7 @@ module _ (s : List ℕ) (P Q : Placing) where
 
   -- ---- the laws
 
-  same_except : {o o' : ReadOutcome} → Outcomes o o' → except_places o ≡ except_places o'
+  same_except : {o o' : Result Unit TextRefusal} → Outcomes o o' → except_places o ≡ except_places o'
   same_except accepts = refl
   same_except (refuses (form dash p a)) = refl
   same_except (refuses (limit dash p next a)) = refl
@@ -135,10 +132,10 @@ module _ (s : List ℕ) (P Q : Placing) where
   places_alone lim = let i = readings lim in (i.0, same_except i.1)
 
   -- 6 by one placing is 6 by the other, and there is an option whose form fails
-  abbrev pub FormCause : ℕ → ReadOutcome → Type 0
-  FormCause p o = (dash : ℕ) × (q : ℕ) × OptionAnswers s dash (listed (Failed q)) × (p ≡ P.form dash q) × (o ≡ outcome.Refused refusal.Form (Q.form dash q))
+  abbrev pub FormCause : ℕ → Result Unit TextRefusal → Type 0
+  FormCause p o = (dash : ℕ) × (q : ℕ) × OptionAnswers s dash (listed (Failed q)) × (p ≡ P.form dash q) × (o ≡ Err (record { refusal = refusal.Form; place = (Q.form dash q) }))
 
-  form_of : {o o' : ReadOutcome} → Outcomes o o' → (p : ℕ) → o ≡ outcome.Refused refusal.Form p → FormCause p o'
+  form_of : {o o' : Result Unit TextRefusal} → Outcomes o o' → (p : ℕ) → o ≡ Err (record { refusal = refusal.Form; place = p }) → FormCause p o'
   form_of accepts p e = never (cc)
   form_of (refuses (form dash q a)) p e = let z : P.form dash q ≡ p = cc in (dash, q, a, sym z, refl)
   form_of (refuses (limit dash q next a)) p e = never (cc)
@@ -147,16 +144,16 @@ module _ (s : List ℕ) (P Q : Placing) where
       let y : placed_anew refusal.Form ≡ false = subst (λ x. placed_anew x ≡ false) z w in
       never (cc)
 
-  pub form_cause : (lim : Limits) (p : ℕ) → (read_placing P lim s).outcome ≡ outcome.Refused refusal.Form p → FormCause p (read_placing Q lim s).outcome
+  pub form_cause : (lim : Limits) (p : ℕ) → (read_placing P lim s).outcome ≡ Err (record { refusal = refusal.Form; place = p }) → FormCause p (read_placing Q lim s).outcome
   form_cause lim p e = form_of (readings lim).1 p e
 
   -- 7 by one placing is 7 by the other, and there is an option of which a limit is broken
-  abbrev pub LimitCause : ℕ → ReadOutcome → Type 0
+  abbrev pub LimitCause : ℕ → Result Unit TextRefusal → Type 0
   LimitCause p o =
       (dash : ℕ) × (q : ℕ) × (next : ℕ) × OptionAnswers s dash (listed (OutOfRange q next)) × (p ≡ P.limit dash q)
-      × (o ≡ outcome.Refused refusal.Limit (Q.limit dash q))
+      × (o ≡ Err (record { refusal = refusal.Limit; place = (Q.limit dash q) }))
 
-  limit_of : {o o' : ReadOutcome} → Outcomes o o' → (p : ℕ) → o ≡ outcome.Refused refusal.Limit p → LimitCause p o'
+  limit_of : {o o' : Result Unit TextRefusal} → Outcomes o o' → (p : ℕ) → o ≡ Err (record { refusal = refusal.Limit; place = p }) → LimitCause p o'
   limit_of accepts p e = never (cc)
   limit_of (refuses (form dash q a)) p e = never (cc)
   limit_of (refuses (limit dash q next a)) p e = let z : P.limit dash q ≡ p = cc in (dash, q, next, a, sym z, refl)
@@ -165,5 +162,5 @@ module _ (s : List ℕ) (P Q : Placing) where
       let y : placed_anew refusal.Limit ≡ false = subst (λ x. placed_anew x ≡ false) z w in
       never (cc)
 
-  pub limit_cause : (lim : Limits) (p : ℕ) → (read_placing P lim s).outcome ≡ outcome.Refused refusal.Limit p → LimitCause p (read_placing Q lim s).outcome
+  pub limit_cause : (lim : Limits) (p : ℕ) → (read_placing P lim s).outcome ≡ Err (record { refusal = refusal.Limit; place = p }) → LimitCause p (read_placing Q lim s).outcome
   limit_cause lim p e = limit_of (readings lim).1 p e

@@ -1,6 +1,7 @@
 -- Where none of 20 and 30 to 35 is due and the list has m placements, "first" and then m times "next" answer these m in their order, then
 -- none (`all_listed`): of a rising list, those after one of it are those that follow it. Where one is due, each query of every list gets the first due
 -- (`all_refused`).
+use Rattle.std.specs.Prelude.{Ok, Err}
 use mathlib.Core.Path.{◌≡◌, refl, sym, ap, ◌∙◌, subst}
 use mathlib.Core.Bool.{true, false≢true}
 use mathlib.Core.Logic.{◌⊎◌, inl, inr}
@@ -19,7 +20,6 @@ use Rattle.definitions.specs.declared.packets.FieldMap.{FieldMap}
 use Rattle.definitions.specs.declared.packets.Start.{Start}
 use Rattle.definitions.specs.declared.packets.Placement.{Placement}
 use Rattle.definitions.specs.declared.answers.Refusal.{Refusal}
-use Rattle.definitions.specs.declared.answers.Check.TheVariants.{Pass, Refuse}
 use Rattle.definitions.specs.declared.answers.Answer.{Answer}
 use Rattle.definitions.specs.declared.answers.Query.{Query}
 use Rattle.definitions.specs.declared.answers.Query.TheVariants.{First, Next}
@@ -39,7 +39,7 @@ module _ (t : Table) (p decoded : List ℕ) (dir : Direction) (m : FieldMap) whe
   unfolding placements_of
   each_length q n = listed_length t (view_of p decoded m) dir q n
 
-  module _ (check : input_check t p decoded dir m ≡ Pass) where
+  module _ (check : input_check t p decoded dir m ≡ Ok tt) where
     next_after : (pre : List (List Start)) (q : List Start) (rest : List (List Start)) → placements_of t p decoded dir m ≡ pre ++ q ∷ rest
         → next_answer t p decoded dir m (placement_of q) ≡ head_of rest
     unfolding next_answer
@@ -68,7 +68,7 @@ module _ (t : Table) (p decoded : List ℕ) (dir : Direction) (m : FieldMap) whe
     all_listed h = from_list (placements_of t p decoded dir m) h refl
 
   -- whatever is held
-  pub all_refused : (r : Refusal) → input_check t p decoded dir m ≡ Refuse r → (h : Placement) (queries : List Query)
+  pub all_refused : (r : Refusal) → input_check t p decoded dir m ≡ Err r → (h : Placement) (queries : List Query)
       → answers t p decoded dir m h queries ≡ map (λ (a : Query). refused_answer r) queries
   unfolding answers first_answer next_answer
   all_refused r e h [] = refl

@@ -1,6 +1,6 @@
 -- A refused reading's table is the empty table (`refused_empty`), and a text over the limit is refusal 1 at 0 (`limit_kept`). Each answer of
 -- the reader is a refusal, whose table is empty by its definition, or accepted.
-use Rattle.std.specs.Prelude.{if◌then◌else◌}
+use Rattle.std.specs.Prelude.{if◌then◌else◌, Ok}
 use mathlib.Core.Path.{◌≡◌, refl}
 use mathlib.Core.Bool.{Bool, true, false, not}
 use mathlib.Core.List.{List, []}
@@ -11,7 +11,6 @@ use borrow.Author.Tests.{lt-ltb}
 use Rattle.forms.specs.Bytes.{run}
 use Rattle.definitions.specs.declared.answers.Refusal.{Refusal}
 use Rattle.definitions.specs.declared.answers.Refusal.TheVariants as refusal
-use Rattle.definitions.specs.declared.answers.ReadOutcome.TheVariants as outcome
 use Rattle.definitions.specs.declared.answers.Reading.{Reading}
 use Rattle.definitions.specs.Limits.{Limits}
 use Rattle.definitions.specs.Lists.{none?, count, same_bytes}
@@ -23,7 +22,7 @@ use Rattle.definitions.specs.Options.{printable, opening}
 use Rattle.definitions.specs.References.{usable_in}
 
 abbrev pub EmptyOrAccepted : ℕ → Reading → Type 0
-EmptyOrAccepted room r = (r.outcome ≡ outcome.Accepted → ⊥) → r.table ≡ table_of room []
+EmptyOrAccepted room r = (r.outcome ≡ Ok tt → ⊥) → r.table ≡ table_of room []
 
 either : (room : ℕ) (b : Bool) (x y : Reading) → EmptyOrAccepted room x → EmptyOrAccepted room y → EmptyOrAccepted room (if b then x else y)
 either room true x y hx hy = hx

@@ -1,5 +1,6 @@
 -- WHAT THE FORMER ROW OF IP_ID MADE, RENEWED: a text of the former form is one of the present form, its value renewed (`renewed_form`), and the table of
 -- renewed values is the renewed table (`renewed_options`): the one whose placements are those of the former (`renewed_matches`). Document 02, T-09.
+use Rattle.std.specs.Prelude.{None}
 use mathlib.Core.Path.{◌≡◌, refl, sym, ap, subst, ◌∙◌}
 use mathlib.Core.Bool.{Bool}
 use mathlib.Core.List.{List, [], ◌∷◌, ◌++◌, map}
@@ -14,7 +15,6 @@ use Rattle.definitions.specs.declared.table.Pattern as patterns
 use Rattle.definitions.specs.declared.table.Item.TheVariants as item
 use Rattle.definitions.specs.declared.table.Slot.{Slot}
 use Rattle.definitions.specs.Limits.{max_items}
-use Rattle.definitions.specs.declared.packets.LastMatch.TheVariants.{None}
 use Rattle.definitions.specs.Lists.{any?, keep, count}
 use Rattle.definitions.specs.OptionValues.{Modifier, OptionValue, Name, Protocol, Flow, Test, Pattern, Modified}
 use Rattle.definitions.specs.Numbers.{number}

@@ -1,6 +1,7 @@
 -- WHAT BECOMES OF A TABLE OF THE OLD KIND if each ip_id in it is replaced by the field test that ip_id now reads as: it has the same placements for every
 -- packet (`renewed_matches`), and its canonical text is two bytes longer for each (`renewed_longer`). Both tests compare the header's id, all of its 16 bits,
 -- with the same number. Document 02, T-09.
+use Rattle.std.specs.Prelude.{Option, None}
 use mathlib.Core.Path.{◌≡◌, refl, sym, ap, ◌∙◌}
 use mathlib.Core.Bool.{Bool, true, false}
 use mathlib.Core.List.{List, [], ◌∷◌, ◌++◌, map}
@@ -23,8 +24,7 @@ use Rattle.definitions.specs.declared.table.Slot.{Slot}
 use Rattle.definitions.specs.declared.table.Table.{Table}
 use Rattle.definitions.specs.declared.packets.Direction.{Direction}
 use Rattle.definitions.specs.declared.packets.FieldMap.{FieldMap}
-use Rattle.definitions.specs.declared.packets.LastMatch.{LastMatch}
-use Rattle.definitions.specs.declared.packets.LastMatch.TheVariants.{None}
+use Rattle.definitions.specs.declared.packets.Match.{Match}
 use Rattle.definitions.specs.Limits.{max_byte, max_word}
 use Rattle.definitions.specs.Lists.{all?, keep_one, keep, count}
 use Rattle.definitions.specs.OptionValues.{OptionValue, Name, Protocol}
@@ -50,7 +50,7 @@ all_bits n h = and_mask n 16 ∙ small
     small = omega (arith, h)
 
 module _ (v : View) (id : v.header.id ≤ max_word) where
-  same_number : (a : NumberTest) (f : NumberField) (al : List Address) (l : LastMatch) → a.field ≡ f
+  same_number : (a : NumberTest) (f : NumberField) (al : List Address) (l : Option Match) → a.field ≡ f
       → test_holds v (renewed_number a f) al l ≡ test_holds v (item.Number a) al l
   unfolding test_holds number_holds field_holds
   same_number a number_field.IpId al l e = rw (e, all_bits v.header.id id)
@@ -59,7 +59,7 @@ module _ (v : View) (id : v.header.id ≤ max_word) where
   same_number a number_field.Tos al l e = refl
 
   -- THE SAME TEST
-  pub renewed_test : (it : Item) (al : List Address) (l : LastMatch) → test_holds v (renewed_item it) al l ≡ test_holds v it al l
+  pub renewed_test : (it : Item) (al : List Address) (l : Option Match) → test_holds v (renewed_item it) al l ≡ test_holds v it al l
   renewed_test item.Unused al l = refl
   renewed_test (item.Address a) al l = refl
   renewed_test item.SameIp al l = refl
@@ -120,7 +120,7 @@ renewed_constraints (sl ∷ sls) b =
     rw (constraint_kept sl.item sl.addresses b, kind_kept sl.item, renewed_constraints sls (after_item (kind_of sl.item) b))
 
 module _ (v : View) (id : v.header.id ≤ max_word) where
-  same_placements : (ws : List Constraint) (l : LastMatch) → placements v (map renewed_constraint ws) l ≡ placements v ws l
+  same_placements : (ws : List Constraint) (l : Option Match) → placements v (map renewed_constraint ws) l ≡ placements v ws l
   unfolding placements
   same_placements [] l = refl
   same_placements (matched p b ∷ ws) l = spread_alike _ _ (starts v p b l) (λ s m. same_placements ws (last_after l p s))

@@ -1,5 +1,6 @@
 -- BOOKS UNDER TWO LIMITS: one that is accepted under the first is accepted under the second, loaded alike, and decides alike; and one that the second accepts has,
 -- under the first, its first longer text refused with 1. A line's check goes by the limits only through what its text reads as.
+use Rattle.std.specs.Prelude.{Result, Ok, Err, ℕ}
 use mathlib.Core.Path.{◌≡◌, refl, sym, ap, ◌∙◌, fun_ext}
 use mathlib.Core.Logic.{⊎_elim}
 use mathlib.Core.Bool.{true, false, not, ◌&&◌}
@@ -16,14 +17,11 @@ use Rattle.forms.proofs.Bools.{by_cases}
 use Rattle.definitions.specs.declared.packets.Direction.{Direction}
 use Rattle.definitions.specs.declared.packets.FieldMap.{FieldMap}
 use Rattle.definitions.specs.declared.answers.Refusal.TheVariants as refusal
-use Rattle.definitions.specs.declared.answers.Check.{Check}
-use Rattle.definitions.specs.declared.answers.Check.TheVariants.{Pass, Refuse}
-use Rattle.definitions.specs.declared.answers.ReadOutcome.{ReadOutcome}
-use Rattle.definitions.specs.declared.answers.ReadOutcome.TheVariants as outcome
 use Rattle.definitions.specs.declared.answers.Reading.{Reading}
 use Rattle.definitions.specs.declared.answers.Verdict.{Verdict}
-use Rattle.definitions.specs.declared.books.Judgement.{Judgement}
-use Rattle.definitions.specs.declared.books.Judgement.TheVariants.{Accepted, Refused}
+use Rattle.definitions.specs.declared.answers.BookRefusal.{BookRefusal}
+use Rattle.definitions.specs.declared.answers.Refusal.{Refusal}
+use Rattle.definitions.specs.declared.answers.TextRefusal.{TextRefusal}
 use Rattle.definitions.specs.Limits.{Limits, max_rules}
 use Rattle.definitions.specs.Refusals.{refuse_if}
 use Rattle.definitions.specs.Reading.{read}
@@ -42,7 +40,7 @@ use Rattle.limit_laws.proofs.WidenedAnswers.{verdict_widened}
 use Rattle.limit_laws.proofs.WidenedWriting.{accepted_formed}
 
 -- a line's check, by what its text reads as
-abbrev line_by : ℕ → ℕ → List ℕ → Check → Check
+abbrev line_by : ℕ → ℕ → List ℕ → Result Unit Refusal → Result Unit Refusal
 line_by n last l c =
     refuse_if (ltb max_rules n) refusal.RuleCount (refuse_if (not (is_rule l)) refusal.RuleForm (refuse_if (leb (rule_number l) last) refusal.RuleOrder c))
 
@@ -51,16 +49,16 @@ unfolding line_check
 line_checked lim n last l = refl
 
 -- a line that passes is refused by its text alone
-passes_by : (n last : ℕ) (l : List ℕ) (c : Check) → line_by n last l c ≡ Pass → (c ≡ Pass) × ((d : Check) → line_by n last l d ≡ d)
+passes_by : (n last : ℕ) (l : List ℕ) (c : Result Unit Refusal) → line_by n last l c ≡ Ok tt → (c ≡ Ok tt) × ((d : Result Unit Refusal) → line_by n last l d ≡ d)
 passes_by n last l c e =
     let x = refuse_fine (ltb max_rules n) refusal.RuleCount _ e in
     let y = refuse_fine (not (is_rule l)) refusal.RuleForm _ x.1 in
     let z = refuse_fine (leb (rule_number l) last) refusal.RuleOrder _ y.1 in
     (z.1, λ d. rw (x.0, y.0, z.0))
 
-text_accepted : (o : ReadOutcome) → text_check o ≡ Pass → o ≡ outcome.Accepted
-text_accepted outcome.Accepted e = refl
-text_accepted (outcome.Refused r p) e = no_fine r e
+text_accepted : (o : Result Unit TextRefusal) → text_check o ≡ Ok tt → o ≡ Ok tt
+text_accepted (Ok tt) e = refl
+text_accepted (Err e') e = no_fine e'.refusal e
 
 module _ (a b : Limits) (h : Raised a b) where
   -- ---- a text
@@ -68,12 +66,12 @@ module _ (a b : Limits) (h : Raised a b) where
   -- the rule's text is read under a
   pub record IsRead (r : Rule) : Type 0 where
     pub short : length r.source ≤ a.text
-    pub accepted : (read a r.source).outcome ≡ outcome.Accepted
+    pub accepted : (read a r.source).outcome ≡ Ok tt
 
-  longer_refused : (s : List ℕ) → ltb a.text (length s) ≡ true → text_check (read a s).outcome ≡ Refuse refusal.TextLength
+  longer_refused : (s : List ℕ) → ltb a.text (length s) ≡ true → text_check (read a s).outcome ≡ Err refusal.TextLength
   longer_refused s t = ap (λ (r : Reading). text_check r.outcome) (limit_kept a s (ltb-true a.text (length s) t))
 
-  accepted_short_text : (s : List ℕ) → (read a s).outcome ≡ outcome.Accepted → length s ≤ a.text
+  accepted_short_text : (s : List ℕ) → (read a s).outcome ≡ Ok tt → length s ≤ a.text
   accepted_short_text s e =
       by_cases (ltb a.text (length s))
       (λ t. no_fine refusal.TextLength (sym (longer_refused s t) ∙ ap text_check e))
@@ -87,24 +85,24 @@ module _ (a b : Limits) (h : Raised a b) where
 
   line_same : (n last : ℕ) (l : List ℕ) → length (rule_source l) ≤ a.text → line_check b n last l ≡ line_check a n last l
   line_same n last l short =
-      line_checked b n last l ∙ ap (λ (o : ReadOutcome). line_by n last l (text_check o)) (outcome_same (rule_source l) short) ∙ sym (line_checked a n last l)
+      line_checked b n last l ∙ ap (λ (o : Result Unit TextRefusal). line_by n last l (text_check o)) (outcome_same (rule_source l) short) ∙ sym (line_checked a n last l)
 
-  line_read : (n last : ℕ) (l : List ℕ) → line_check a n last l ≡ Pass → IsRead (rule_of l)
+  line_read : (n last : ℕ) (l : List ℕ) → line_check a n last l ≡ Ok tt → IsRead (rule_of l)
   unfolding rule_of
   line_read n last l e =
       let c = (passes_by n last l (text_check (read a (rule_source l)).outcome) (sym (line_checked a n last l) ∙ e)).0 in
       let o = text_accepted (read a (rule_source l)).outcome c in
       record { short = accepted_short_text (rule_source l) o; accepted = o }
 
-  lines_accepted : (n last : ℕ) (ls : List (List ℕ)) (k : ℕ) → judge_lines a n last ls ≡ Accepted k → judge_lines b n last ls ≡ Accepted k
+  lines_accepted : (n last : ℕ) (ls : List (List ℕ)) (k : ℕ) → judge_lines a n last ls ≡ Ok k → judge_lines b n last ls ≡ Ok k
   unfolding judge_lines rule_of
   lines_accepted n last [] k e = e
   lines_accepted n last (l ∷ ls) k e =
       let w = passed_line (line_check a (suc n) last l) (suc n) k _ e in
-      let c : line_check b (suc n) last l ≡ Pass = line_same (suc n) last l (line_read (suc n) last l w.0).short ∙ w.0 in
+      let c : line_check b (suc n) last l ≡ (Ok tt) = line_same (suc n) last l (line_read (suc n) last l w.0).short ∙ w.0 in
       rw c (lines_accepted (suc n) (rule_number l) ls k w.1)
 
-  lines_read : (n last : ℕ) (ls : List (List ℕ)) (k : ℕ) → judge_lines a n last ls ≡ Accepted k → (r : Rule) → Mem r (map rule_of ls) → IsRead r
+  lines_read : (n last : ℕ) (ls : List (List ℕ)) (k : ℕ) → judge_lines a n last ls ≡ Ok k → (r : Rule) → Mem r (map rule_of ls) → IsRead r
   unfolding judge_lines
   lines_read n last [] k e r m = absurd (not-nil m)
   lines_read n last (l ∷ ls) k e r m =
@@ -112,7 +110,7 @@ module _ (a b : Limits) (h : Raised a b) where
       ⊎_elim (λ p. rw p (line_read (suc n) last l w.0)) (λ q. lines_read (suc n) (rule_number l) ls k w.1 r q) (cases_cons m)
 
   -- the lines that b accepts, under a
-  lines_formerly : (n last : ℕ) (ls : List (List ℕ)) (k : ℕ) → judge_lines b n last ls ≡ Accepted k
+  lines_formerly : (n last : ℕ) (ls : List (List ℕ)) (k : ℕ) → judge_lines b n last ls ≡ Ok k
       → judge_lines a n last ls ≡ judged_below a.text n (map rule_of ls)
   unfolding judge_lines judged_below rule_of
   lines_formerly n last [] k e = refl
@@ -120,28 +118,28 @@ module _ (a b : Limits) (h : Raised a b) where
       let w = passed_line (line_check b (suc n) last l) (suc n) k _ e in
       let p = passes_by (suc n) last l (text_check (read b (rule_source l)).outcome) (sym (line_checked b (suc n) last l) ∙ w.0) in
       by_cases (ltb a.text (length (rule_source l)))
-      (λ t. let c : line_check a (suc n) last l ≡ Refuse refusal.TextLength = line_checked a (suc n) last l ∙ p.1 _ ∙ longer_refused (rule_source l) t in
+      (λ t. let c : line_check a (suc n) last l ≡ Err refusal.TextLength = line_checked a (suc n) last l ∙ p.1 _ ∙ longer_refused (rule_source l) t in
       rw (t, c))
-      (λ f. let c : line_check a (suc n) last l ≡ Pass =
+      (λ f. let c : line_check a (suc n) last l ≡ (Ok tt) =
       sym (line_same (suc n) last l (ltb-false a.text (length (rule_source l)) f)) ∙ w.0 in
       rw (f, c) (lines_formerly (suc n) (rule_number l) ls k w.1))
 
   -- ---- a book
 
-  pub book_accepted : (book : List ℕ) (n : ℕ) → judge a book ≡ Accepted n → judge b book ≡ Accepted n
+  pub book_accepted : (book : List ℕ) (n : ℕ) → judge a book ≡ Ok n → judge b book ≡ Ok n
   unfolding judge
   book_accepted book n e =
       rw (accepted_book a book n e).0 (lines_accepted 0 0 (book_lines book) n (accepted_book a book n e).1)
 
-  pub rules_read : (book : List ℕ) (n : ℕ) → judge a book ≡ Accepted n → (r : Rule) → Mem r (rules_of book) → IsRead r
+  pub rules_read : (book : List ℕ) (n : ℕ) → judge a book ≡ Ok n → (r : Rule) → Mem r (rules_of book) → IsRead r
   unfolding rules_of
   rules_read book n e = lines_read 0 0 (book_lines book) n (accepted_book a book n e).1
 
-  pub book_loaded : (book : List ℕ) (n : ℕ) → judge a book ≡ Accepted n → loaded b book ≡ loaded a book
+  pub book_loaded : (book : List ℕ) (n : ℕ) → judge a book ≡ Ok n → loaded b book ≡ loaded a book
   unfolding loaded
-  book_loaded book n e = ap (λ (j : Judgement). loaded_if j (loaded_from 0 (book_lines book))) (book_accepted book n e ∙ sym e)
+  book_loaded book n e = ap (λ (j : Result ℕ BookRefusal). loaded_if j (loaded_from 0 (book_lines book))) (book_accepted book n e ∙ sym e)
 
-  pub book_formerly : (book : List ℕ) (n : ℕ) → judge b book ≡ Accepted n → judge a book ≡ judged_below a.text 0 (rules_of book)
+  pub book_formerly : (book : List ℕ) (n : ℕ) → judge b book ≡ Ok n → judge a book ≡ judged_below a.text 0 (rules_of book)
   unfolding judge rules_of
   book_formerly book n e =
       rw (accepted_book b book n e).0 (lines_formerly 0 0 (book_lines book) n (accepted_book b book n e).1)
@@ -158,14 +156,14 @@ module _ (a b : Limits) (h : Raised a b) where
 
     decides_same : (r : Rule) → IsRead r → decides b p decoded dir m r ≡ decides a p decoded dir m r
     unfolding decides
-    decides_same r k = ap (λ (v : Verdict). is_on r.state && is_met v) (verdict_same r k)
+    decides_same r k = ap (λ (v : Result Verdict Refusal). is_on r.state && is_met v) (verdict_same r k)
 
     decided_same : (rs : List Rule) → ((r : Rule) → Mem r rs → IsRead r) → decided b p decoded dir m rs ≡ decided a p decoded dir m rs
     unfolding decided
     decided_same [] k = refl
     decided_same (r ∷ rs) k = rw (decides_same r (k r (here refl)), decided_same rs (λ s n. k s (there n)))
 
-  module _ (book : List ℕ) (n : ℕ) (e : judge a book ≡ Accepted n) where
+  module _ (book : List ℕ) (n : ℕ) (e : judge a book ≡ Ok n) where
     pub book_decides : (p decoded : List ℕ) (dir : Direction) (m : FieldMap) → decision b p decoded dir m book ≡ decision a p decoded dir m book
     book_decides p decoded dir m =
         by_rules b p decoded dir m book n (book_accepted book n e)

@@ -1,5 +1,6 @@
 -- MATCHING: a well-formed table has, widened, the same list of placements, the same verdict, first and next, and the same answers to every list of queries. All
 -- these go by its items, its protocol and flow, and by whether it is well formed.
+use Rattle.std.specs.Prelude.{None, Result, Ok}
 use mathlib.Core.Path.{◌≡◌, refl, ap, ap₂, ◌∙◌}
 use mathlib.Core.Bool.{true, not}
 use mathlib.Core.List.{List, [], ◌∷◌}
@@ -10,13 +11,11 @@ use Rattle.definitions.specs.declared.packets.Direction.{Direction}
 use Rattle.definitions.specs.declared.packets.FieldMap.{FieldMap}
 use Rattle.definitions.specs.declared.packets.Placement.{Placement}
 use Rattle.definitions.specs.declared.packets.Start.{Start}
-use Rattle.definitions.specs.declared.packets.LastMatch.TheVariants.{None}
 use Rattle.definitions.specs.declared.answers.Refusal.TheVariants as refusal
-use Rattle.definitions.specs.declared.answers.Check.{Check}
-use Rattle.definitions.specs.declared.answers.Check.TheVariants.{Pass}
 use Rattle.definitions.specs.declared.answers.Answer.{Answer}
 use Rattle.definitions.specs.declared.answers.Query.{Query}
 use Rattle.definitions.specs.declared.answers.Query.TheVariants.{First, Next}
+use Rattle.definitions.specs.declared.answers.Refusal.{Refusal}
 use Rattle.definitions.specs.Lists.{keep}
 use Rattle.definitions.specs.Refusals.{refuse_if, and_then}
 use Rattle.definitions.specs.WellFormed.{well_formed}
@@ -45,16 +44,16 @@ module _ (room : ℕ) (t : Table) (w : well_formed t ≡ true) (p decoded : List
 
   pub first_widened : first_answer (widened room t) p decoded dir m ≡ first_answer t p decoded dir m
   unfolding first_answer
-  first_widened = ap₂ (λ (c : Check) (l : List (List Start)). unless c (head_of l)) check_widened placements_widened
+  first_widened = ap₂ (λ (c : Result Unit Refusal) (l : List (List Start)). unless c (head_of l)) check_widened placements_widened
 
   earlier_widened : (held : Placement) → earlier_check (widened room t) p decoded dir m held ≡ earlier_check t p decoded dir m held
   earlier_widened held =
-      ap (λ (ws : List Constraint). refuse_if (not (eqb held.count (positives ws))) refusal.EarlierCount Pass) (items_widened room t w)
+      ap (λ (ws : List Constraint). refuse_if (not (eqb held.count (positives ws))) refusal.EarlierCount (Ok tt)) (items_widened room t w)
 
   pub next_widened : (held : Placement) → next_answer (widened room t) p decoded dir m held ≡ next_answer t p decoded dir m held
   unfolding next_answer
   next_widened held =
-      ap₂ (λ (c : Check) (l : List (List Start)). unless c (head_of (keep (lex_less (starts_of held)) l)))
+      ap₂ (λ (c : Result Unit Refusal) (l : List (List Start)). unless c (head_of (keep (lex_less (starts_of held)) l)))
       (ap₂ and_then check_widened (earlier_widened held)) placements_widened
 
   query_widened : (held : Placement) (q : Query) → query_answer (widened room t) p decoded dir m held q ≡ query_answer t p decoded dir m held q

@@ -1,6 +1,6 @@
 -- READING UNDER TWO LIMITS: a text within the first has the same number and place under the second, and its table with zero room added (`read_widened`). How many
 -- pattern bytes a table has room for enters a reading only where the table is made.
-use Rattle.std.specs.Prelude.{if◌then◌else◌}
+use Rattle.std.specs.Prelude.{if◌then◌else◌, Ok, Err}
 use mathlib.Core.Path.{◌≡◌, ap}
 use mathlib.Core.Bool.{Bool, true, false, not}
 use mathlib.Core.List.{List, []}
@@ -12,7 +12,6 @@ use borrow.Author.Tests.{le-ltb}
 use Rattle.forms.specs.Bytes.{run}
 use Rattle.definitions.specs.declared.answers.Refusal.{Refusal}
 use Rattle.definitions.specs.declared.answers.Refusal.TheVariants as refusal
-use Rattle.definitions.specs.declared.answers.ReadOutcome.TheVariants as outcome
 use Rattle.definitions.specs.declared.answers.Reading.{Reading}
 use Rattle.definitions.specs.declared.table.Table.{Table}
 use Rattle.definitions.specs.Limits.{Limits}
@@ -34,11 +33,11 @@ module _ (a b : ℕ) (h : a ≤ b) where
 
   refused_widened : (r : Refusal) (p : ℕ) → refused_reading b r p ≡ widened_reading b (refused_reading a r p)
   unfolding widened_reading
-  refused_widened r p = ap (λ (t : Table). record { outcome = outcome.Refused r p; table = t }) (table_widened [])
+  refused_widened r p = ap (λ (t : Table). record { outcome = Err (record { refusal = r; place = p }); table = t }) (table_widened [])
 
   accepted_widened : (es : List OptionValue) → accepted_reading (table_of b es) ≡ widened_reading b (accepted_reading (table_of a es))
   unfolding widened_reading
-  accepted_widened es = ap (λ (t : Table). record { outcome = outcome.Accepted; table = t }) (table_widened es)
+  accepted_widened es = ap (λ (t : Table). record { outcome = Ok tt; table = t }) (table_widened es)
 
   either : (c : Bool) (x y x' y' : Reading) → x' ≡ widened_reading b x → y' ≡ widened_reading b y
       → (if c then x' else y') ≡ widened_reading b (if c then x else y)

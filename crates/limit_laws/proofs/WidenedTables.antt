@@ -1,5 +1,6 @@
 -- A WELL-FORMED TABLE WITH ZERO ROOM ADDED has the same items (`items_widened`), the same canonical text (`canonical_widened`), and is well formed
 -- (`formed_widened`). Its patterns' bytes are the first of its bytes, so what stands after these enters nothing but the test that it is zero.
+use Rattle.std.specs.Prelude.{None}
 use mathlib.Core.Path.{◌≡◌, refl, ap, ap₂, ◌∙◌}
 use mathlib.Core.Bool.{true}
 use mathlib.Core.List.{List, [], ◌∷◌, ◌++◌}
@@ -14,7 +15,6 @@ use Rattle.definitions.specs.declared.table.Item.{Item}
 use Rattle.definitions.specs.declared.table.Address.{Address}
 use Rattle.definitions.specs.declared.table.Slot.{Slot}
 use Rattle.definitions.specs.declared.table.Table.{Table}
-use Rattle.definitions.specs.declared.packets.LastMatch.TheVariants.{None}
 use Rattle.definitions.specs.Limits.{max_byte}
 use Rattle.definitions.specs.OptionValues.{OptionValue, Name, Protocol}
 use Rattle.definitions.specs.Options.{opening}

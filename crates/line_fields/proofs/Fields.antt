@@ -1,4 +1,5 @@
 -- One field of a map, and the fields one after the other.
+use Rattle.std.specs.Prelude.{Option, Some, None}
 use mathlib.Core.Path.{◌≡◌, refl, sym, ap, ◌∙◌}
 use mathlib.Core.Bool.{true, false, false≢true, not, ◌&&◌, and-false}
 use mathlib.Core.List.{List, [], ◌∷◌}
@@ -8,7 +9,6 @@ use Rattle.forms.specs.Bytes.{text, run}
 use Rattle.forms.proofs.Bools.{by_cases}
 use Rattle.definitions.specs.declared.table.Context.{Context}
 use Rattle.definitions.specs.declared.packets.Span.{Span}
-use Rattle.definitions.specs.declared.packets.FieldSpan.TheVariants.{At}
 use Rattle.definitions.specs.declared.packets.FieldMap.{FieldMap}
 use Rattle.definitions.specs.Fields.{present}
 use Rattle.definitions.specs.Lists.{same_bytes}
@@ -16,10 +16,6 @@ use Rattle.definitions.specs.Parts.{find, contains, part_before, part_after, par
 use Rattle.line_parts.proofs.Delimiters.{after_empty}
 use Rattle.line_parts.proofs.PartsFrom.{parts_from, from_start, from_step, from_end}
 use Rattle.line_parts.proofs.Results.{failed_test, parsed_test, parsed_value}
-use Rattle.line_fields.specs.declared.field_maps.SpanResult.{SpanResult}
-use Rattle.line_fields.specs.declared.field_maps.SpanResult.TheVariants as span
-use Rattle.line_fields.specs.declared.field_maps.MapResult.{MapResult}
-use Rattle.line_fields.specs.declared.field_maps.MapResult.TheVariants.{Parsed, Failed}
 use Rattle.line_fields.specs.FieldMaps.{field_named, no_fields, with_field, is_span, line_span, is_field, insert_field, are_fields, map_from, is_map, map_of}
 use Rattle.line_fields.specs.FieldMaps.{parsed_span, parsed_field, parsed_fields, parsed_map}
 use Rattle.line_fields.proofs.Spans.{failed_span, parsed_span_lem, span_value}
@@ -43,43 +39,43 @@ module _ (m : FieldMap) (e x : List ℕ) (xe : x ≡ part_before 58 e) (field : 
   named : field ≡ field_named (part_before 58 e)
   named = fe ∙ ap field_named xe
 
-  pub given_already : present m field ≡ true → Failed ≡ parsed_field m e
+  pub given_already : present m field ≡ true → None ≡ parsed_field m e
   unfolding parsed_field
   given_already t = rw (field_is m e, ap (present m) (sym named) ∙ t)
 
-  module _ (free : present m field ≡ false) (y : List ℕ) (ye : y ≡ part_after 58 e) (a : SpanResult) (p : a ≡ parsed_span y) where
+  module _ (free : present m field ≡ false) (y : List ℕ) (ye : y ≡ part_after 58 e) (a : Option Span) (p : a ≡ parsed_span y) where
     now_span : is_field m e ≡ is_span y
     now_span = field_is m e ∙ rw (ap (present m) (sym named) ∙ free, ye)
 
-    pub no_span_there : a ≡ span.Failed → Failed ≡ parsed_field m e
+    pub no_span_there : a ≡ None → None ≡ parsed_field m e
     unfolding parsed_field
     no_span_there f = rw (now_span ∙ failed_span y (sym p ∙ f))
 
-    pub one_field : (v : Span) → a ≡ span.Parsed v → (after : FieldMap) → after ≡ with_field m field (At v) → Parsed after ≡ parsed_field m e
+    pub one_field : (v : Span) → a ≡ Some v → (after : FieldMap) → after ≡ with_field m field (Some v) → Some after ≡ parsed_field m e
     unfolding parsed_field insert_field
     one_field v t after ae =
         let value : v ≡ line_span (part_after 58 e) = span_value y v (sym p ∙ t) ∙ ap line_span ye in
-        let whole : after ≡ with_field m (field_named (part_before 58 e)) (At (line_span (part_after 58 e))) =
-        ae ∙ ap (λ (c : Context). with_field m c (At v)) named ∙ ap (λ (w : Span). with_field m (field_named (part_before 58 e)) (At w)) value in
-        rw (now_span ∙ parsed_span_lem y v (sym p ∙ t)) (ap Parsed whole)
+        let whole : after ≡ with_field m (field_named (part_before 58 e)) (Some (line_span (part_after 58 e))) =
+        ae ∙ ap (λ (c : Context). with_field m c (Some v)) named ∙ ap (λ (w : Span). with_field m (field_named (part_before 58 e)) (Some w)) value in
+        rw (now_span ∙ parsed_span_lem y v (sym p ∙ t)) (ap Some whole)
 
 -- ---- the fields in a row
 
-apart : (m : FieldMap) → Parsed m ≡ Failed → ⊥
+apart : (m : FieldMap) → Some m ≡ None → ⊥
 apart m e = false≢true cc
 
-same : (m n : FieldMap) → Parsed m ≡ Parsed n → m ≡ n
+same : (m n : FieldMap) → Some m ≡ Some n → m ≡ n
 same m n e = cc
 
 module _ (m : FieldMap) (e : List ℕ) (es : List (List ℕ)) where
-  fields_halt : parsed_field m e ≡ Failed → parsed_fields m (e ∷ es) ≡ Failed
+  fields_halt : parsed_field m e ≡ None → parsed_fields m (e ∷ es) ≡ None
   unfolding parsed_field parsed_fields are_fields
-  fields_halt f = rw (failed_test Parsed Failed apart (is_field m e) (insert_field m e) f)
+  fields_halt f = rw (failed_test Some None apart (is_field m e) (insert_field m e) f)
 
-  fields_on : (n : FieldMap) → parsed_field m e ≡ Parsed n → parsed_fields m (e ∷ es) ≡ parsed_fields n es
+  fields_on : (n : FieldMap) → parsed_field m e ≡ Some n → parsed_fields m (e ∷ es) ≡ parsed_fields n es
   unfolding parsed_field parsed_fields are_fields map_from
   fields_on n t =
-      rw (parsed_test Parsed Failed apart (is_field m e) (insert_field m e) n t, parsed_value Parsed Failed apart same (is_field m e) (insert_field m e) n t)
+      rw (parsed_test Some None apart (is_field m e) (insert_field m e) n t, parsed_value Some None apart same (is_field m e) (insert_field m e) n t)
 
 -- what is still to come: the fields from a place on, after those that made the map m
 abbrev pub Inserting : List ℕ → FieldMap → ℕ → Type 0
@@ -89,27 +85,27 @@ pub inserting_start : (s : List ℕ) (m : FieldMap) → m ≡ no_fields → Inse
 inserting_start s m e = ap (parsed_fields no_fields) (from_start 44 s) ∙ ap (λ (x : FieldMap). parsed_fields x (parts_from 44 s 0)) (sym e)
 
 module _ (s : List ℕ) (m : FieldMap) (at : ℕ) (k : Inserting s m at) where
-  module _ (h : at ≤ length s) (e : List ℕ) (q : e ≡ part_before 44 (take (length s - at) (drop at s))) (a : MapResult) (p : a ≡ parsed_field m e) where
+  module _ (h : at ≤ length s) (e : List ℕ) (q : e ≡ part_before 44 (take (length s - at) (drop at s))) (a : Option FieldMap) (p : a ≡ parsed_field m e) where
     next : parsed_fields no_fields (parts 44 s) ≡ parsed_fields m (e ∷ parts_from 44 s (at + (length e + 1)))
     next = k ∙ ap (parsed_fields m) (from_step 44 s at h e q)
 
-    pub inserting_halt : a ≡ Failed → Failed ≡ parsed_fields no_fields (parts 44 s)
+    pub inserting_halt : a ≡ None → None ≡ parsed_fields no_fields (parts 44 s)
     inserting_halt f = sym (next ∙ fields_halt m e (parts_from 44 s (at + (length e + 1))) (sym p ∙ f))
 
-    pub inserting_on : (n : FieldMap) → a ≡ Parsed n → Inserting s n (at + (length e + 1))
+    pub inserting_on : (n : FieldMap) → a ≡ Some n → Inserting s n (at + (length e + 1))
     inserting_on n t = next ∙ fields_on m e (parts_from 44 s (at + (length e + 1))) n (sym p ∙ t)
 
-  pub inserting_out : length s < at → Parsed m ≡ parsed_fields no_fields (parts 44 s)
+  pub inserting_out : length s < at → Some m ≡ parsed_fields no_fields (parts 44 s)
   unfolding parsed_fields are_fields map_from
   inserting_out h = sym (k ∙ ap (parsed_fields m) (from_end 44 s at h))
 
 -- ---- the map
 
 module _ (l : List ℕ) where
-  pub no_map : same_bytes l (text "-") ≡ true → (m : FieldMap) → m ≡ no_fields → Parsed m ≡ parsed_map l
+  pub no_map : same_bytes l (text "-") ≡ true → (m : FieldMap) → m ≡ no_fields → Some m ≡ parsed_map l
   unfolding parsed_map is_map map_of
   no_map t m e = rw (t, e)
 
-  pub some_map : same_bytes l (text "-") ≡ false → (a : MapResult) → a ≡ parsed_fields no_fields (parts 44 l) → a ≡ parsed_map l
+  pub some_map : same_bytes l (text "-") ≡ false → (a : Option FieldMap) → a ≡ parsed_fields no_fields (parts 44 l) → a ≡ parsed_map l
   unfolding parsed_map parsed_fields is_map map_of
   some_map f a e = rw f e

@@ -1,20 +1,14 @@
 -- THE MAP OF A PACKET'S FIELDS: fields such as `uri:0+12` parted by commas, `-` if there is none. In numbers `+` is 43, a comma 44, `:` 58.
-use Rattle.std.specs.Prelude.{ℕ, Bool, true, not, ◌&&◌, ◌||◌, List, [], ◌∷◌, if◌then◌else◌}
+use Rattle.std.specs.Prelude.{ℕ, Bool, true, not, ◌&&◌, ◌||◌, List, [], ◌∷◌, if◌then◌else◌, Option, Some, None}
 use Rattle.forms.specs.Bytes.{text}
 use Rattle.definitions.specs.declared.table.Context.{Context}
 use Rattle.definitions.specs.declared.table.Context.TheVariants as context
 use Rattle.definitions.specs.declared.packets.Span.{Span}
-use Rattle.definitions.specs.declared.packets.FieldSpan.{FieldSpan}
-use Rattle.definitions.specs.declared.packets.FieldSpan.TheVariants.{Absent, At}
 use Rattle.definitions.specs.declared.packets.FieldMap.{FieldMap}
 use Rattle.definitions.specs.Lists.{same_bytes}
 use Rattle.definitions.specs.Numbers.{value_of, is_number}
 use Rattle.definitions.specs.Fields.{present}
 use Rattle.definitions.specs.Parts.{contains, part_before, part_after, parts}
-use Rattle.line_fields.specs.declared.field_maps.SpanResult.{SpanResult}
-use Rattle.line_fields.specs.declared.field_maps.SpanResult.TheVariants as span
-use Rattle.line_fields.specs.declared.field_maps.MapResult.{MapResult}
-use Rattle.line_fields.specs.declared.field_maps.MapResult.TheVariants.{Parsed, Failed}
 
 -- the largest start, and length
 abbrev pub max_span : ℕ
@@ -32,9 +26,9 @@ field_named l =
     else context.Packet
 
 abbrev pub no_fields : FieldMap
-no_fields = record { uri = Absent; header = Absent; body = Absent; banner = Absent; host = Absent; file = Absent }
+no_fields = record { uri = None; header = None; body = None; banner = None; host = None; file = None }
 
-abbrev pub with_field : FieldMap → Context → FieldSpan → FieldMap
+abbrev pub with_field : FieldMap → Context → Option Span → FieldMap
 with_field m context.Packet f = m
 with_field m context.Uri f = record { uri = f; header = m.header; body = m.body; banner = m.banner; host = m.host; file = m.file }
 with_field m context.Header f = record { uri = m.uri; header = f; body = m.body; banner = m.banner; host = m.host; file = m.file }
@@ -68,7 +62,7 @@ unfoldable pub is_field : FieldMap → List ℕ → Bool
 is_field m e = contains 58 e && (not (present m (field_named (field_name_in e))) && is_span (span_in e))
 
 unfoldable pub insert_field : FieldMap → List ℕ → FieldMap
-insert_field m e = with_field m (field_named (field_name_in e)) (At (line_span (span_in e)))
+insert_field m e = with_field m (field_named (field_name_in e)) (Some (line_span (span_in e)))
 
 unfoldable pub are_fields : FieldMap → List (List ℕ) → Bool
 are_fields m [] = true
@@ -86,14 +80,14 @@ map_of l = if same_bytes l (text "-") then no_fields else map_from no_fields (pa
 
 -- ---- the code's answers
 
-unfoldable pub parsed_span : List ℕ → SpanResult
-parsed_span s = if is_span s then span.Parsed (line_span s) else span.Failed
+unfoldable pub parsed_span : List ℕ → Option Span
+parsed_span s = if is_span s then Some (line_span s) else None
 
-unfoldable pub parsed_field : FieldMap → List ℕ → MapResult
-parsed_field m e = if is_field m e then Parsed (insert_field m e) else Failed
+unfoldable pub parsed_field : FieldMap → List ℕ → Option FieldMap
+parsed_field m e = if is_field m e then Some (insert_field m e) else None
 
-unfoldable pub parsed_fields : FieldMap → List (List ℕ) → MapResult
-parsed_fields m es = if are_fields m es then Parsed (map_from m es) else Failed
+unfoldable pub parsed_fields : FieldMap → List (List ℕ) → Option FieldMap
+parsed_fields m es = if are_fields m es then Some (map_from m es) else None
 
-unfoldable pub parsed_map : List ℕ → MapResult
-parsed_map l = if is_map l then Parsed (map_of l) else Failed
+unfoldable pub parsed_map : List ℕ → Option FieldMap
+parsed_map l = if is_map l then Some (map_of l) else None

@@ -3,7 +3,7 @@ ghost use Rattle.std.specs.Prelude.{◌≡◌};
 ghost use Rattle.definitions.specs.declared.table.Context.TheVariants as context;
 ghost use Rattle.line_fields.specs.FieldMaps.{no_fields, field_named, with_field};
 
-use definitions::packets::{FieldMap, FieldSpan};
+use definitions::packets::{FieldMap, Span};
 use definitions::table::Context;
 use line_parts::is_word;
 
@@ -37,54 +37,54 @@ pub fn no_fields() -> FieldMap
     ensures { result ≡ no_fields }
 {
     FieldMap {
-        uri: FieldSpan::Absent,
-        header: FieldSpan::Absent,
-        body: FieldSpan::Absent,
-        banner: FieldSpan::Absent,
-        host: FieldSpan::Absent,
-        file: FieldSpan::Absent,
+        uri: None,
+        header: None,
+        body: None,
+        banner: None,
+        host: None,
+        file: None,
     }
 }
 
 // The map with another uri, and so for each field.
-fn with_uri(m: FieldMap, f: FieldSpan) -> FieldMap
+fn with_uri(m: FieldMap, f: Option<Span>) -> FieldMap
     ensures { result ≡ with_field m context.Uri f }
 {
     FieldMap { uri: f, ..m }
 }
 
-fn with_header(m: FieldMap, f: FieldSpan) -> FieldMap
+fn with_header(m: FieldMap, f: Option<Span>) -> FieldMap
     ensures { result ≡ with_field m context.Header f }
 {
     FieldMap { header: f, ..m }
 }
 
-fn with_body(m: FieldMap, f: FieldSpan) -> FieldMap
+fn with_body(m: FieldMap, f: Option<Span>) -> FieldMap
     ensures { result ≡ with_field m context.Body f }
 {
     FieldMap { body: f, ..m }
 }
 
-fn with_banner(m: FieldMap, f: FieldSpan) -> FieldMap
+fn with_banner(m: FieldMap, f: Option<Span>) -> FieldMap
     ensures { result ≡ with_field m context.Banner f }
 {
     FieldMap { banner: f, ..m }
 }
 
-fn with_host(m: FieldMap, f: FieldSpan) -> FieldMap
+fn with_host(m: FieldMap, f: Option<Span>) -> FieldMap
     ensures { result ≡ with_field m context.Host f }
 {
     FieldMap { host: f, ..m }
 }
 
-fn with_file(m: FieldMap, f: FieldSpan) -> FieldMap
+fn with_file(m: FieldMap, f: Option<Span>) -> FieldMap
     ensures { result ≡ with_field m context.File f }
 {
     FieldMap { file: f, ..m }
 }
 
 // The map with a field's span; the payload is in no map.
-pub fn with_field(m: FieldMap, c: Context, f: FieldSpan) -> FieldMap
+pub fn with_field(m: FieldMap, c: Context, f: Option<Span>) -> FieldMap
     ensures { result ≡ with_field m c f }
 {
     match c {

@@ -1,4 +1,5 @@
 -- A decimal number up to a limit, digit by digit: it fails at a byte that is no digit, and where the digits so far pass the limit.
+use Rattle.std.specs.Prelude.{Some, None}
 use mathlib.Core.Path.{◌≡◌, refl, sym, ap, ◌∙◌}
 use mathlib.Core.Bool.{true, false, not, ◌&&◌, and-false}
 use mathlib.Core.List.{List, [], ◌∷◌}
@@ -14,7 +15,6 @@ use Rattle.forms.specs.Form.{has}
 use Rattle.forms.proofs.Bools.{both_left, both_right, or-false}
 use Rattle.definitions.specs.Lists.{all?, none?}
 use Rattle.definitions.specs.Numbers.{decimal_digits, digit_value, value_of, is_number}
-use Rattle.line_numbers.specs.declared.decimals.NumberResult.TheVariants.{Parsed, Failed}
 use Rattle.line_numbers.specs.Decimals.{parsed_number}
 
 -- ---- one digit
@@ -43,21 +43,21 @@ grows a (b ∷ l) = omega (arith, grows (a * 10 + digit_value b) l)
 -- ---- each way in which bytes are no number
 
 module _ (limit : ℕ) where
-  not_number : (l : List ℕ) → is_number limit l ≡ false → Failed ≡ parsed_number limit l
+  not_number : (l : List ℕ) → is_number limit l ≡ false → None ≡ parsed_number limit l
   unfolding parsed_number
   not_number l e = rw e
 
-  pub no_digits : (l : List ℕ) → length l ≡ 0 → Failed ≡ parsed_number limit l
+  pub no_digits : (l : List ℕ) → length l ≡ 0 → None ≡ parsed_number limit l
   unfolding is_number
   no_digits [] e = not_number [] refl
   no_digits (b ∷ l) e = absurd (omega (arith, e))
 
-  other_byte : (l : List ℕ) → all? (has decimal_digits) l ≡ false → Failed ≡ parsed_number limit l
+  other_byte : (l : List ℕ) → all? (has decimal_digits) l ≡ false → None ≡ parsed_number limit l
   unfolding is_number
   other_byte [] e = not_number [] refl
   other_byte (b ∷ l) e = not_number (b ∷ l) (rw e)
 
-  too_large : (l : List ℕ) → limit < value_of 10 0 l → Failed ≡ parsed_number limit l
+  too_large : (l : List ℕ) → limit < value_of 10 0 l → None ≡ parsed_number limit l
   unfolding is_number
   too_large [] h = not_number [] refl
   too_large (b ∷ l) h = not_number (b ∷ l) (rw (lt-leb (value_of 10 0 (b ∷ l)) limit h) (and-false (all? (has decimal_digits) (b ∷ l))))
@@ -76,7 +76,7 @@ kept_start limit [] n = absurd (n refl)
 kept_start limit (b ∷ s) n = record { some = refl; place = omega arith; small = omega arith; sum = refl; digits = refl }
 
 module _ (limit : ℕ) (s : List ℕ) (v i : ℕ) (k : Kept limit s v i) (h : i < length s) where
-  pub kept_byte : between 48 57 (get_or s i 0) ≡ false → Failed ≡ parsed_number limit s
+  pub kept_byte : between 48 57 (get_or s i 0) ≡ false → None ≡ parsed_number limit s
   unfolding all?
   kept_byte f = other_byte limit s (k.digits ∙ rw (drop-cons s i 0 h, digit_between (get_or s i 0) ∙ f))
 
@@ -88,7 +88,7 @@ module _ (limit : ℕ) (s : List ℕ) (v i : ℕ) (k : Kept limit s v i) (h : i 
         ∙ ap (λ (d : ℕ). value_of 10 (v * 10 + d) (drop (suc i) s)) (digit_value_lem (get_or s i 0) t)
         ∙ ap (λ (j : ℕ). value_of 10 (v * 10 + (get_or s i 0 - 48)) (drop j s)) (sym (add-one i))
 
-    pub kept_large : limit < v * 10 + (get_or s i 0 - 48) → Failed ≡ parsed_number limit s
+    pub kept_large : limit < v * 10 + (get_or s i 0 - 48) → None ≡ parsed_number limit s
     kept_large g = too_large limit s (omega (arith, g, k.sum, step, grows (v * 10 + (get_or s i 0 - 48)) (drop (i + 1) s)))
 
     pub kept_on : v * 10 + (get_or s i 0 - 48) ≤ limit → Kept limit s (v * 10 + (get_or s i 0 - 48)) (i + 1)
@@ -102,7 +102,7 @@ module _ (limit : ℕ) (s : List ℕ) (v i : ℕ) (k : Kept limit s v i) (h : i 
           digits = k.digits ∙ rw (drop-cons s i 0 h, digit_between (get_or s i 0) ∙ t, add-one);
         }
 
-pub kept_out : (limit : ℕ) (s : List ℕ) (v i : ℕ) → Kept limit s v i → length s ≤ i → Parsed v ≡ parsed_number limit s
+pub kept_out : (limit : ℕ) (s : List ℕ) (v i : ℕ) → Kept limit s v i → length s ≤ i → Some v ≡ parsed_number limit s
 unfolding parsed_number is_number all? value_of
 kept_out limit s v i k h =
     let l : drop i s ≡ [] = drop_of_length-le s h in

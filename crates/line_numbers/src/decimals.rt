@@ -4,34 +4,27 @@ ghost use Rattle.line_numbers.specs.Decimals.{parsed_number};
 
 use scan_bytes::bytes::is_between;
 
-// The number that bytes write, or that they write none within the limit.
-#[derive(Clone, Copy)]
-pub enum NumberResult {
-    Parsed(u64),
-    Failed,
-}
-
-// The number that decimal digits write, if it is at most the limit.
-pub fn parse_decimal(s: &[u8], limit: u64) -> NumberResult
+// The number that decimal digits write, if it is at most the limit; none for a larger one, and for other bytes.
+pub fn parse_decimal(s: &[u8], limit: u64) -> Option<u64>
     requires { 9 ≤ limit }
     ensures { result ≡ parsed_number limit s.now }
 {
     if s.len() == 0 {
-        return NumberResult::Failed;
+        return None;
     }
     let mut v: u64 = 0;
     let mut i = 0;
     while i < s.len() {
         let b = s[i];
         if !is_between(b'0', b'9', b) {
-            return NumberResult::Failed;
+            return None;
         }
         let d = (b - b'0') as u64;
         if (limit - d) / 10 < v {
-            return NumberResult::Failed;
+            return None;
         }
         v = v * 10 + d;
         i += 1;
     }
-    NumberResult::Parsed(v)
+    Some(v)
 }

@@ -1,9 +1,7 @@
 -- THE FOUR COLUMNS OF A PACKET: where it comes from, its bytes, the map of its fields, the bytes of its decoded buffer.
-use Rattle.std.specs.Prelude.{ℕ, Bool, ◌&&◌, List, if◌then◌else◌}
+use Rattle.std.specs.Prelude.{ℕ, Bool, ◌&&◌, List, if◌then◌else◌, Option, Some, None}
 use Rattle.line_numbers.specs.HexPairs.{is_hex}
 use Rattle.line_packets.specs.declared.packets.PacketColumns.{PacketColumns}
-use Rattle.line_packets.specs.declared.packets.PacketResult.{PacketResult}
-use Rattle.line_packets.specs.declared.packets.PacketResult.TheVariants.{Parsed, Failed}
 use Rattle.line_packets.specs.Directions.{is_direction, direction_of}
 use Rattle.line_fields.specs.FieldMaps.{is_map, map_of}
 
@@ -16,5 +14,5 @@ module _ (origin packet fields decoded : List ℕ) where
   packet_of = record { direction = direction_of origin; fields = map_of fields }
 
   -- the code's answer
-  unfoldable pub parsed_packet : PacketResult
-  parsed_packet = if is_packet then Parsed packet_of else Failed
+  unfoldable pub parsed_packet : Option PacketColumns
+  parsed_packet = if is_packet then Some packet_of else None

@@ -5,22 +5,15 @@ ghost use Rattle.line_packets.specs.Directions.{parsed_direction};
 use definitions::packets::Direction;
 use line_parts::is_word;
 
-// The direction that a word names, or that it names none.
-#[derive(Clone, Copy)]
-pub enum DirectionResult {
-    Parsed(Direction),
-    Failed,
-}
-
-// The direction of its word.
-pub fn parse_direction(s: &[u8]) -> DirectionResult
+// The direction of its word; none for another.
+pub fn parse_direction(s: &[u8]) -> Option<Direction>
     ensures { result ≡ parsed_direction s.now }
 {
     if is_word(s, b"client") {
-        return DirectionResult::Parsed(Direction::Client);
+        return Some(Direction::Client);
     }
     if is_word(s, b"server") {
-        return DirectionResult::Parsed(Direction::Server);
+        return Some(Direction::Server);
     }
-    DirectionResult::Failed
+    None
 }

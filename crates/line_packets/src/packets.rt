@@ -2,9 +2,9 @@
 ghost use Rattle.std.specs.Prelude.{◌≡◌};
 ghost use Rattle.line_packets.specs.Packets.{parsed_packet};
 
-use crate::directions::{DirectionResult, parse_direction};
+use crate::directions::parse_direction;
 use definitions::packets::{Direction, FieldMap};
-use line_fields::field_maps::{MapResult, parse_map};
+use line_fields::field_maps::parse_map;
 use line_numbers::hex_pairs::is_hex_pairs;
 
 // What the columns say beside the bytes of packet and buffer.
@@ -14,30 +14,19 @@ pub struct PacketColumns {
     pub fields: FieldMap,
 }
 
-// What the columns say, or that one is of another form.
-#[derive(Clone, Copy)]
-pub enum PacketResult {
-    Parsed(PacketColumns),
-    Failed,
-}
-
 // What the four columns say, if each is of its form.
-pub fn parse_packet(origin: &[u8], packet: &[u8], fields: &[u8], decoded: &[u8]) -> PacketResult
+pub fn parse_packet(origin: &[u8], packet: &[u8], fields: &[u8], decoded: &[u8]) -> Option<PacketColumns>
     ensures { result ≡ parsed_packet origin.now packet.now fields.now decoded.now }
 {
-    let DirectionResult::Parsed(direction) = parse_direction(origin) else {
-        return PacketResult::Failed;
-    };
+    let direction = parse_direction(origin)?;
     if !is_hex_pairs(packet) {
-        return PacketResult::Failed;
+        return None;
     }
-    let MapResult::Parsed(map) = parse_map(fields) else {
-        return PacketResult::Failed;
-    };
+    let map = parse_map(fields)?;
     if !is_hex_pairs(decoded) {
-        return PacketResult::Failed;
+        return None;
     }
-    PacketResult::Parsed(PacketColumns {
+    Some(PacketColumns {
         direction,
         fields: map,
     })

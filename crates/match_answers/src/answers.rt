@@ -12,7 +12,7 @@ pub fn refused(r: Refusal) -> Answer
 {
     let placement = empty();
     Answer {
-        found: Found::Refused(r),
+        found: Err(r),
         placement,
     }
 }
@@ -24,12 +24,12 @@ pub fn answered(x: Outcome) -> Answer
     let placement = x.placement;
     if x.found {
         return Answer {
-            found: Found::Placed,
+            found: Ok(Found::Placed),
             placement,
         };
     }
     Answer {
-        found: Found::Nothing,
+        found: Ok(Found::Nothing),
         placement,
     }
 }

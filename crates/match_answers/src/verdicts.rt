@@ -2,15 +2,15 @@
 ghost use Rattle.std.specs.Prelude.{◌≡◌};
 ghost use Rattle.match_answers.specs.Verdicts.{verdict_of};
 
-use definitions::answers::{Found, Verdict};
+use definitions::answers::{Found, Refusal, Verdict};
 
 // The verdict that the answer to "first" comes to.
-pub fn verdict_of(f: Found) -> Verdict
+pub fn verdict_of(f: Result<Found, Refusal>) -> Result<Verdict, Refusal>
     ensures { result ≡ verdict_of f }
 {
     match f {
-        Found::Placed => Verdict::Met,
-        Found::Nothing => Verdict::NotMet,
-        Found::Refused(r) => Verdict::Refused(r),
+        Ok(Found::Placed) => Ok(Verdict::Met),
+        Ok(Found::Nothing) => Ok(Verdict::NotMet),
+        Err(r) => Err(r),
     }
 }

@@ -1,4 +1,5 @@
 -- byte_test, by whether its field is present, and in a field, by whether its bytes lie there.
+use Rattle.std.specs.Prelude.{Option}
 use mathlib.Core.Path.{◌≡◌}
 use mathlib.Core.Bool.{Bool, true, false}
 use mathlib.Core.List.{List}
@@ -12,7 +13,7 @@ use Rattle.definitions.specs.declared.table.Context.{Context}
 use Rattle.definitions.specs.declared.table.ByteTest.{ByteTest}
 use Rattle.definitions.specs.declared.packets.PacketHeader.{PacketHeader}
 use Rattle.definitions.specs.declared.packets.FieldMap.{FieldMap}
-use Rattle.definitions.specs.declared.packets.LastMatch.{LastMatch}
+use Rattle.definitions.specs.declared.packets.Match.{Match}
 use Rattle.definitions.specs.ByteCounts.{byte_count}
 use Rattle.definitions.specs.Packet.{big_endian}
 use Rattle.definitions.specs.Fields.{present, field_of}
@@ -41,7 +42,7 @@ bytes_inside t start offset n d o q h r e =
     let there : leb (start + offset + n) (length d) ≡ true = le-leb (start + offset + n) (length d) h in
     rw (← o, ← q, there) (rw (whole, ← q) at e)
 
-module _ (f : PacketHeader) (s d : List ℕ) (m : FieldMap) (c : Context) (t : ByteTest) (last : LastMatch) (e : c ≡ at_context t.relative last) where
+module _ (f : PacketHeader) (s d : List ℕ) (m : FieldMap) (c : Context) (t : ByteTest) (last : Option Match) (e : c ≡ at_context t.relative last) where
   pub byte_absent : present m c ≡ false → false ≡ byte_holds (seen f s d m) t last
   unfolding byte_holds
   byte_absent p = rw (← e, p)

@@ -8,7 +8,7 @@ ghost use Rattle.definitions.specs.Tests.{operator_holds, compared_by, big_end_f
 ghost use Rattle.fields.specs.Seen.{seen};
 ghost use Rattle.definitions.specs.declared.packets.PacketHeader.{PacketHeader};
 
-use definitions::packets::{FieldMap, LastMatch};
+use definitions::packets::{FieldMap, Match, PacketHeader};
 use definitions::table::{ByteOperator, ByteTest, Operator};
 use fields::{field_of, is_present};
 use match_number_tests::{of_word, operator_holds};
@@ -73,7 +73,7 @@ pub fn byte_holds<'a>(
     decoded: &'a [u8],
     m: FieldMap,
     t: ByteTest,
-    last: LastMatch,
+    last: Option<Match>,
 ) -> bool
     ensures { (f : PacketHeader) → result ≡ byte_holds (seen f payload.now decoded.now m) t last }
 {

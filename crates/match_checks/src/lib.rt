@@ -4,15 +4,16 @@
 ghost use Rattle.std.specs.Prelude.{◌≡◌};
 ghost use Rattle.match_checks.specs.InputChecks.{input_header};
 
-use definitions::answers::{PacketAnswer, Refusal};
+use definitions::answers::Refusal;
 use packet::packet_header;
+use definitions::packets::PacketHeader;
 
 // The header fields of the packet's datagram, or the first refusal that is due; `formed` is whether the table is well formed.
-pub fn check_input<'a>(formed: bool, p: &'a [u8], decoded: &'a [u8]) -> PacketAnswer
+pub fn check_input<'a>(formed: bool, p: &'a [u8], decoded: &'a [u8]) -> Result<PacketHeader, Refusal>
     ensures { result ≡ input_header formed p.now decoded.now }
 {
     if !formed {
-        return PacketAnswer::Refused(Refusal::IllFormed);
+        return Err(Refusal::IllFormed);
     }
     packet_header(p, decoded)
 }

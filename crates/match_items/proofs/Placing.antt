@@ -1,4 +1,5 @@
 -- A negated pattern, by whether its field is present; a field is no longer than its buffer.
+use Rattle.std.specs.Prelude.{Option}
 use mathlib.Core.Path.{◌≡◌, refl}
 use mathlib.Core.Bool.{Bool, true, false}
 use mathlib.Core.List.{List, [], ◌∷◌, map}
@@ -10,9 +11,9 @@ use Rattle.definitions.specs.declared.table.Context.TheVariants as context
 use Rattle.definitions.specs.declared.table.Pattern.{Pattern}
 use Rattle.definitions.specs.declared.packets.PacketHeader.{PacketHeader}
 use Rattle.definitions.specs.declared.packets.FieldMap.{FieldMap}
-use Rattle.definitions.specs.declared.packets.LastMatch.{LastMatch}
 use Rattle.definitions.specs.declared.packets.Span.{Span}
 use Rattle.definitions.specs.declared.packets.Start.{Start}
+use Rattle.definitions.specs.declared.packets.Match.{Match}
 use Rattle.definitions.specs.Lists.{keep, keep_one, none?}
 use Rattle.definitions.specs.Starts.{start_at}
 use Rattle.definitions.specs.Fields.{present, buffer_of, field_span, field_of, cut}
@@ -40,7 +41,7 @@ field_short : (s d : List ℕ) (m : FieldMap) (c : Context) → length s < size_
 unfolding field_of
 field_short s d m c h k = omega (arith, cut_short (field_span s d m c) (buffer_of s d c), buffer_short s d c h k)
 
-pub measured : (s d : List ℕ) (m : FieldMap) (p : Pattern) (b : List ℕ) (l : LastMatch) (f : List ℕ) → Bounded s d p b l → f ≡ field_of s d m p.context
+pub measured : (s d : List ℕ) (m : FieldMap) (p : Pattern) (b : List ℕ) (l : Option Match) (f : List ℕ) → Bounded s d p b l → f ≡ field_of s d m p.context
     → Measured p l (length f)
 measured s d m p b l f h e =
     record {
@@ -65,7 +66,7 @@ none_numbers_lem : (l : List ℕ) → none? (map start_at l) ≡ none? l
 none_numbers_lem [] = refl
 none_numbers_lem (x ∷ l) = refl
 
-module _ (v : PacketHeader) (s d : List ℕ) (m : FieldMap) (p : Pattern) (b : List ℕ) (l : LastMatch) where
+module _ (v : PacketHeader) (s d : List ℕ) (m : FieldMap) (p : Pattern) (b : List ℕ) (l : Option Match) where
   pub nowhere_absent : present m p.context ≡ false → false ≡ unmatched_holds (seen v s d m) p b l
   unfolding unmatched_holds
   nowhere_absent e = rw e

@@ -9,7 +9,7 @@ ghost use Rattle.definitions.specs.Tests.{test_holds};
 ghost use Rattle.fields.specs.Seen.{seen};
 
 use definitions::limits::ADDRESSES;
-use definitions::packets::{FieldMap, LastMatch, PacketHeader};
+use definitions::packets::{FieldMap, Match, PacketHeader};
 use definitions::table::{Address, Item};
 use match_address_tests::{address_holds, same_ip};
 use match_byte_tests::byte_holds;
@@ -24,7 +24,7 @@ pub fn test_holds<'a>(
     m: FieldMap,
     item: Item,
     addresses: [Address; ADDRESSES],
-    last: LastMatch,
+    last: Option<Match>,
 ) -> bool
     ensures { result ≡ test_holds (seen f payload.now decoded.now m) item addresses last }
 {

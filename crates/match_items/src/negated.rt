@@ -5,7 +5,7 @@ ghost use Rattle.definitions.specs.declared.packets.PacketHeader.{PacketHeader};
 ghost use Rattle.fields.specs.Seen.{seen};
 ghost use Rattle.match_items.specs.Bounds.{Bounded};
 
-use definitions::packets::{FieldMap, LastMatch};
+use definitions::packets::{FieldMap, Match, PacketHeader};
 use definitions::table::Pattern;
 use fields::{field_of, is_present};
 use match_patterns::nowhere::lies_nowhere;
@@ -17,7 +17,7 @@ pub fn negated_holds<'a>(
     m: FieldMap,
     p: Pattern,
     b: &[u8],
-    last: LastMatch,
+    last: Option<Match>,
 ) -> bool
     requires { Bounded payload.now decoded.now p b.now last }
     ensures { (f : PacketHeader) → result ≡ unmatched_holds (seen f payload.now decoded.now m) p b.now last }

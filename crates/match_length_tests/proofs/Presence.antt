@@ -1,4 +1,5 @@
 -- Tests of a field's length, by whether the field is present.
+use Rattle.std.specs.Prelude.{Option}
 use mathlib.Core.Path.{◌≡◌}
 use mathlib.Core.Bool.{Bool, true, false}
 use mathlib.Core.List.{List}
@@ -9,7 +10,7 @@ use Rattle.definitions.specs.declared.table.SizeTest.{SizeTest}
 use Rattle.definitions.specs.declared.table.AtTest.{AtTest}
 use Rattle.definitions.specs.declared.packets.PacketHeader.{PacketHeader}
 use Rattle.definitions.specs.declared.packets.FieldMap.{FieldMap}
-use Rattle.definitions.specs.declared.packets.LastMatch.{LastMatch}
+use Rattle.definitions.specs.declared.packets.Match.{Match}
 use Rattle.definitions.specs.Fields.{present, field_of, size_context}
 use Rattle.definitions.specs.Tests.{order_holds, at_context, at_start, data_follows, size_holds, at_holds}
 use Rattle.fields.specs.Seen.{seen}
@@ -25,7 +26,7 @@ module _ (f : PacketHeader) (s d : List ℕ) (m : FieldMap) (c : Context) where
     unfolding size_holds
     size_present p len n r l q h = rw (← e, p, ← l, ← q) h
 
-  module _ (t : AtTest) (last : LastMatch) (e : c ≡ at_context t.relative last) where
+  module _ (t : AtTest) (last : Option Match) (e : c ≡ at_context t.relative last) where
     pub at_absent : present m c ≡ false → false ≡ at_holds (seen f s d m) t last
     unfolding at_holds
     at_absent p = rw (← e, p)

@@ -7,7 +7,7 @@ ghost use Rattle.definitions.specs.Tests.{data_follows, size_holds, at_holds};
 ghost use Rattle.fields.specs.Seen.{seen};
 ghost use Rattle.definitions.specs.declared.packets.PacketHeader.{PacketHeader};
 
-use definitions::packets::{FieldMap, LastMatch};
+use definitions::packets::{FieldMap, Match, PacketHeader};
 use definitions::table::{AtTest, Context, SizeField, SizeTest};
 use fields::{field_of, is_present};
 use match_number_tests::{of_word, order_holds};
@@ -62,7 +62,7 @@ pub fn at_holds<'a>(
     decoded: &'a [u8],
     m: FieldMap,
     t: AtTest,
-    last: LastMatch,
+    last: Option<Match>,
 ) -> bool
     ensures { (f : PacketHeader) → result ≡ at_holds (seen f payload.now decoded.now m) t last }
 {

@@ -9,7 +9,7 @@ ghost use Rattle.definitions.specs.Refusals.{found_number, found_one};
 ghost use Rattle.definitions.specs.AnswerNumbers.{answer_numbers};
 ghost use Rattle.match_numbers.specs.Numbers.{numbers_of_one};
 
-use definitions::answers::{Answer, Found};
+use definitions::answers::{Answer, Found, Refusal};
 use definitions::limits::PATTERNS;
 use definitions::packets::Start;
 use match_starts::start_number;
@@ -19,24 +19,24 @@ use refusal_numbers::number_of;
 pub const NUMBERS: usize = 3 + PATTERNS;
 
 // 0 where nothing is refused.
-fn found_number(f: Found) -> u64
+fn found_number(f: Result<Found, Refusal>) -> u64
     ensures { result ≡ found_number f }
 {
     match f {
-        Found::Placed => 0,
-        Found::Nothing => 0,
-        Found::Refused(r) => number_of(r),
+        Ok(Found::Placed) => 0,
+        Ok(Found::Nothing) => 0,
+        Err(r) => number_of(r),
     }
 }
 
 // 1 for a placement.
-fn found_one(f: Found) -> u64
+fn found_one(f: Result<Found, Refusal>) -> u64
     ensures { result ≡ found_one f }
 {
     match f {
-        Found::Placed => 1,
-        Found::Nothing => 0,
-        Found::Refused(_) => 0,
+        Ok(Found::Placed) => 1,
+        Ok(Found::Nothing) => 0,
+        Err(_) => 0,
     }
 }
 

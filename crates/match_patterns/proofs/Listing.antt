@@ -1,4 +1,5 @@
 -- The starts of a list that pass a test, start by start; and where a pattern lies, by the span of its window.
+use Rattle.std.specs.Prelude.{Option}
 use mathlib.Core.Path.{◌≡◌, refl, ap, ◌∙◌}
 use mathlib.Core.Bool.{Bool, true, false, and-false}
 use mathlib.Core.List.{List, [], ◌∷◌}
@@ -11,11 +12,11 @@ use lib.Dec.{ltb, leb}
 use borrow.Author.Tests.{ltb-true, ltb-false, lt-ltb, le-ltb, le-leb, lt-leb}
 use Rattle.forms.proofs.Bools.{by_cases}
 use Rattle.definitions.specs.declared.table.Pattern.{Pattern}
-use Rattle.definitions.specs.declared.packets.LastMatch.{LastMatch}
 use Rattle.definitions.specs.Lists.{keep, keep_one, none?}
 use Rattle.definitions.specs.Windows.{stands_at, lies}
 use Rattle.definitions.specs.Placements.{up_from}
 use Rattle.match_windows.specs.declared.Window.{Window}
+use Rattle.definitions.specs.declared.packets.Match.{Match}
 use Rattle.match_windows.specs.Spans.{Spans, places_of}
 use Rattle.match_patterns.specs.Starts.{standing}
 
@@ -65,7 +66,7 @@ agree f g a (suc k) more h n =
     rw (suc-add k more, h a (omega arith) (omega arith))
     (ap (keep_one (g a) a) (agree f g (suc a) k more (λ x l r. h x (omega arith) (omega arith)) (λ x l. n x (omega arith))))
 
-module _ (p : Pattern) (b : List ℕ) (l : LastMatch) (f : List ℕ) (w : Window) (s : Spans p l (length f) w) (at : ℕ) where
+module _ (p : Pattern) (b : List ℕ) (l : Option Match) (f : List ℕ) (w : Window) (s : Spans p l (length f) w) (at : ℕ) where
   lies_in_lem : w.from ≤ at → at < w.to → lies p b l f at ≡ stands_at p.nocase b (drop at f)
   unfolding lies
   lies_in_lem h k = rw (s.exact at, le-leb w.from at h, lt-ltb at w.to k)
@@ -79,7 +80,7 @@ module _ (p : Pattern) (b : List ℕ) (l : LastMatch) (f : List ℕ) (w : Window
   lies_after h = rw (s.exact at, le-ltb at w.to h, and-false (leb w.from at))
 
 -- the starts at which a pattern lies are those of its window at which its bytes stand
-module _ (p : Pattern) (b : List ℕ) (l : LastMatch) (f : List ℕ) (w : Window) (s : Spans p l (length f) w) where
+module _ (p : Pattern) (b : List ℕ) (l : Option Match) (f : List ℕ) (w : Window) (s : Spans p l (length f) w) where
   few : w.to ≤ suc (length f)
   few =
       by_cases (ltb 0 w.to)

@@ -4,12 +4,12 @@ ghost use Rattle.definitions.specs.Lists.{none?};
 ghost use Rattle.match_windows.specs.Spans.{Measured, places_of};
 
 use crate::starts::next_start;
-use definitions::packets::LastMatch;
+use definitions::packets::Match;
 use definitions::table::Pattern;
 use match_windows::starts::window;
 
 // The pattern with the bytes `b` lies nowhere in its window.
-pub fn lies_nowhere(p: Pattern, b: &[u8], last: LastMatch, f: &[u8]) -> bool
+pub fn lies_nowhere(p: Pattern, b: &[u8], last: Option<Match>, f: &[u8]) -> bool
     requires { Measured p last (length f.now) × (length b.now ≡ p.len) }
     ensures { result ≡ none? (places_of p b.now last f.now) }
 {

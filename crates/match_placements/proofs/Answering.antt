@@ -1,5 +1,6 @@
 -- From refusal 35 or 36, or the outcome of a search, to the answers of "first" and "next": only as many starts of the placement held matter as each
 -- placement of the list has.
+use Rattle.std.specs.Prelude.{Result, Ok, Err}
 use mathlib.Core.Path.{◌≡◌, refl, sym, ap, ◌∙◌}
 use mathlib.Core.Bool.{true, false}
 use mathlib.Core.List.{List, [], ◌∷◌, Memᴰ as Mem}
@@ -15,8 +16,6 @@ use Rattle.definitions.specs.declared.packets.Start.{Start}
 use Rattle.definitions.specs.declared.packets.Placement.{Placement}
 use Rattle.definitions.specs.declared.answers.Refusal.{Refusal}
 use Rattle.definitions.specs.declared.answers.Refusal.TheVariants as refusal
-use Rattle.definitions.specs.declared.answers.Check.{Check}
-use Rattle.definitions.specs.declared.answers.Check.TheVariants.{Pass, Refuse}
 use Rattle.definitions.specs.declared.answers.Answer.{Answer}
 use Rattle.definitions.specs.Lists.{keep}
 use Rattle.definitions.specs.Fields.{fields_check}
@@ -42,8 +41,8 @@ keep_every b (q ∷ l) = ap (λ (k : List (List Start)). q ∷ k) (keep_every b 
 
 module _ (t : Table) (f : PacketHeader) (s d : List ℕ) (dir : Direction) (m : FieldMap) where
   -- w is what the test of the fields says, y the answer given
-  module _ {w : Check} (ew : w ≡ fields_check s d m) {y : Answer} where
-    module _ {r : Refusal} (k : w ≡ Refuse r) (g : y ≡ refused_answer r) where
+  module _ {w : Result Unit Refusal} (ew : w ≡ fields_check s d m) {y : Answer} where
+    module _ {r : Refusal} (k : w ≡ Err r) (g : y ≡ refused_answer r) where
       pub first_refused : y ≡ first_in_list t f s d dir m
       unfolding first_in_list
       first_refused = rw (sym ew ∙ k) g
@@ -52,7 +51,7 @@ module _ (t : Table) (f : PacketHeader) (s d : List ℕ) (dir : Direction) (m : 
       unfolding next_in_list
       next_refused h = rw (sym ew ∙ k) g
 
-    module _ (k : w ≡ Pass) where
+    module _ (k : w ≡ Ok tt) where
       pub first_found : (b : List Start) {x : Outcome} → x ≡ outcome_of (keep (after_if false b) (list_in t f s d dir m)) → y ≡ answer_of x
           → y ≡ first_in_list t f s d dir m
       unfolding first_in_list

@@ -6,7 +6,7 @@ ghost use Rattle.std.specs.Prelude.{◌≡◌};
 ghost use Rattle.search.specs.Searching.{searched_table, Searchable};
 ghost use Rattle.match_placements.specs.Listing.{first_in_list, next_in_list};
 
-use definitions::answers::{Answer, Check, Refusal};
+use definitions::answers::{Answer, Refusal};
 use definitions::limits::{ITEMS, PATTERNS};
 use definitions::packets::{Direction, FieldMap, PacketHeader, Placement, Start};
 use definitions::table::{Flow, Slot};
@@ -32,7 +32,7 @@ pub fn first_in<'a>(
     ensures { result ≡ first_in_list (searched_table protocol flow items count bytes.now) header payload.now decoded.now dir m }
 {
     let check = fields_check(payload, decoded, m);
-    if let Check::Refuse(r) = check {
+    if let Err(r) = check {
         return refused(r);
     }
     let x = find(
@@ -70,7 +70,7 @@ pub fn next_in<'a>(
     ensures { result ≡ next_in_list (searched_table protocol flow items count bytes.now) header payload.now decoded.now dir m held }
 {
     let check = fields_check(payload, decoded, m);
-    if let Check::Refuse(r) = check {
+    if let Err(r) = check {
         return refused(r); // 35 comes before 36
     }
     if held.count != positive_count(items, count) {

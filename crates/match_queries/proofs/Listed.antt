@@ -1,6 +1,7 @@
 -- ALL PLACEMENTS IN ORDER, THEN NONE. Where none of 20 and 30 to 35 is due and the list has m placements, "first" and then m times "next" answer these m in
 -- their order, then none: of any answers that the contracts of the two entries allow (`allowed_lists`), and of what `run` writes (`run_lists`). With no
 -- positive pattern that is one empty placement or none (`allowed_empty`, `run_empty`).
+use Rattle.std.specs.Prelude.{Ok}
 use mathlib.Core.Path.{◌≡◌, sym, ap, ◌∙◌, subst}
 use mathlib.Core.Bool.{Bool, true}
 use mathlib.Core.Logic.{◌⊎◌, inl, inr, ⊎_elim}
@@ -17,7 +18,6 @@ use Rattle.definitions.specs.declared.packets.FieldMap.{FieldMap}
 use Rattle.definitions.specs.declared.packets.Start.{Start}
 use Rattle.definitions.specs.declared.packets.Placement.{Placement}
 use Rattle.definitions.specs.declared.answers.Refusal.TheVariants as refusal
-use Rattle.definitions.specs.declared.answers.Check.TheVariants.{Pass}
 use Rattle.definitions.specs.declared.answers.Answer.{Answer}
 use Rattle.definitions.specs.declared.answers.Query.{Query}
 use Rattle.definitions.specs.declared.answers.Query.TheVariants.{First, Next}
@@ -44,7 +44,7 @@ module _ (t : Table) (p d : List ℕ) (dir : Direction) (m : FieldMap) where
       ((placements_of t p d dir m ≡ []) × claim (none_answer ∷ none_answer ∷ []))
       ⊎ ((placements_of t p d dir m ≡ [] ∷ []) × claim (found_answer [] ∷ none_answer ∷ []))
 
-  module _ (check : input_check t p d dir m ≡ Pass) (none : positives (items_of t) ≡ 0) (h : Placement) where
+  module _ (check : input_check t p d dir m ≡ Ok tt) (none : positives (items_of t) ≡ 0) (h : Placement) where
     none_twice : placements_of t p d dir m ≡ [] → answers t p d dir m h (First ∷ Next ∷ []) ≡ none_answer ∷ none_answer ∷ []
     unfolding answers first_answer next_answer keep
     none_twice e = rw (check, e, none)
@@ -62,7 +62,7 @@ module _ (t : Table) (p d : List ℕ) (dir : Direction) (m : FieldMap) where
 
 -- ---- by the contracts of the two entries
 
-module _ (κs : Lfts 1) (t : Table) (p d : Bor (List ℕ)) (dir : Direction) (m : FieldMap) (check : input_check t p.now d.now dir m ≡ Pass)
+module _ (κs : Lfts 1) (t : Table) (p d : Bor (List ℕ)) (dir : Direction) (m : FieldMap) (check : input_check t p.now d.now dir m ≡ Ok tt)
     (h : Placement) (rs : List Answer) where
   pub allowed_lists : Allowed κs t p d dir m h (First ∷ replicate (length (placements_of t p.now d.now dir m)) Next) rs
       → rs ≡ map found_answer (placements_of t p.now d.now dir m) ++ (none_answer ∷ [])
@@ -94,7 +94,7 @@ module _ (κs : Lfts 3) (t : Table) (p d : Bor (List ℕ)) (dir : Direction) (m 
     pub run_refuses_ip_id : holds_ip_id t ≡ true → Answers (map (λ (q : Query). refused_answer refusal.IllFormed) (map query_of_byte queries.now))
     run_refuses_ip_id h = run_answers _ (answers_ip_id t h p.now d.now dir m held (map query_of_byte queries.now))
 
-  module _ (fits : room queries.now out.now ≡ true) (check : input_check t p.now d.now dir m ≡ Pass) where
+  module _ (fits : room queries.now out.now ≡ true) (check : input_check t p.now d.now dir m ≡ Ok tt) where
     pub run_lists : map query_of_byte queries.now ≡ First ∷ replicate (length (placements_of t p.now d.now dir m)) Next
         → Answers (map found_answer (placements_of t p.now d.now dir m) ++ (none_answer ∷ []))
     run_lists queried = run_answers fits _ (ap (answers t p.now d.now dir m held) queried ∙ all_listed t p.now d.now dir m check held)

@@ -1,4 +1,5 @@
 -- What a range is counted from.
+use Rattle.std.specs.Prelude.{Option, Some, None}
 use mathlib.Core.Path.{◌≡◌, refl}
 use Prim.Native.Nat.{ℕ, ◌<◌}
 use native.Mathlib.Omega.{arith}
@@ -9,27 +10,24 @@ use mir.ValLaws.{to_z-of_z}
 use Rattle.definitions.specs.declared.table.WithinValue.{WithinValue}
 use Rattle.definitions.specs.declared.table.Reference.{Reference}
 use Rattle.definitions.specs.declared.table.Reference.TheVariants as reference
-use Rattle.definitions.specs.declared.table.Distance.TheVariants as distance
-use Rattle.definitions.specs.declared.table.Within.{Within}
-use Rattle.definitions.specs.declared.table.Within.TheVariants as within
-use Rattle.definitions.specs.declared.packets.LastMatch.{LastMatch}
+use Rattle.definitions.specs.declared.packets.Match.{Match}
 use Rattle.definitions.specs.Windows.{last_end, base, window_start}
 use Rattle.match_windows.specs.Spans.{size_bound}
 use Rattle.match_windows.specs.Ends.{Begins}
 
-pub base_small : (l : LastMatch) (r : Reference) → last_end l < size_bound → base l r < size_bound
+pub base_small : (l : Option Match) (r : Reference) → last_end l < size_bound → base l r < size_bound
 base_small l reference.Match h = h
 base_small l reference.Packet h = omega arith
 base_small l reference.Context h = omega arith
 
 -- without a distance the field's length plays no part
-pub free_start : (l : LastMatch) (len : ℕ) (w : Within) → window_start l 0 distance.Unset w ≡ window_start l len distance.Unset w
-free_start l len within.Unset = refl
-free_start l len (within.Given w) = refl
+pub free_start : (l : Option Match) (len : ℕ) (w : Option WithinValue) → window_start l 0 None w ≡ window_start l len None w
+free_start l len None = refl
+free_start l len (Some w) = refl
 
 -- with a reach alone the window starts at what it is counted from
-pub within_begins : (l : LastMatch) (w : Within) (v : WithinValue) → w ≡ within.Given v → last_end l < size_bound
-    → (r : ℕ) → r ≡ base l v.reference → (s : ℤ) → s ≡ pos r → Begins (window_start l 0 distance.Unset w) s
+pub within_begins : (l : Option Match) (w : Option WithinValue) (v : WithinValue) → w ≡ Some v → last_end l < size_bound
+    → (r : ℕ) → r ≡ base l v.reference → (s : ℤ) → s ≡ pos r → Begins (window_start l 0 None w) s
 within_begins l w v e h r q s z = rw (e, z, q) (record { is = refl; small = omega (arith, base_small l v.reference h) })
 
 -- a start is read back from its bits

@@ -1,5 +1,5 @@
 -- The starts of a window are those of a span.
-use Rattle.std.specs.Prelude.{if◌then◌else◌}
+use Rattle.std.specs.Prelude.{if◌then◌else◌, Option, Some, None}
 use mathlib.Core.Path.{◌≡◌, refl, sym}
 use mathlib.Core.Bool.{Bool, true, false, ◌&&◌, and-false}
 use Prim.Native.Nat.{ℕ, ◌+◌, ◌-◌, ◌≤◌, ◌<◌, min}
@@ -11,11 +11,9 @@ use borrow.Author.Tests.{ltb-true, leb-true, leb-false, lt-ltb, le-ltb, le-leb, 
 use Rattle.forms.proofs.Bools.{by_cases, both_left, both_right}
 use Rattle.definitions.specs.declared.table.Pattern.{Pattern}
 use Rattle.definitions.specs.declared.table.WithinValue.{WithinValue}
-use Rattle.definitions.specs.declared.table.Within.{Within}
-use Rattle.definitions.specs.declared.table.Within.TheVariants as within
-use Rattle.definitions.specs.declared.packets.LastMatch.{LastMatch}
 use Rattle.definitions.specs.Windows.{window_start, before_end, in_window}
 use Rattle.match_windows.specs.declared.Window.{Window}
+use Rattle.definitions.specs.declared.packets.Match.{Match}
 use Rattle.match_windows.specs.Spans.{Spans}
 use Rattle.match_windows.specs.Ends.{clip, ends_to}
 use Rattle.match_windows.proofs.Clips.{le_clip}
@@ -68,7 +66,7 @@ limited s (pos k) len n at =
     ))
 
 -- the span's end where a reach is given
-module _ (s : ℤ) (w : Within) (v : WithinValue) (len n : ℕ) (e : w ≡ within.Given v) where
+module _ (s : ℤ) (w : Option WithinValue) (v : WithinValue) (len n : ℕ) (e : w ≡ Some v) where
   pub to_none : le_z (pos n) (s +ℤ pos v.number) ≡ false → 0 ≡ ends_to s w len n
   unfolding ends_to
   to_none f = rw (e, f)
@@ -77,22 +75,22 @@ module _ (s : ℤ) (w : Within) (v : WithinValue) (len n : ℕ) (e : w ≡ withi
   unfolding ends_to
   to_some f r q = rw (e, f) q
 
-exactly : (s : ℤ) (w : Within) (len n at : ℕ)
+exactly : (s : ℤ) (w : Option WithinValue) (len n at : ℕ)
     → (le_z s (pos at) && before_end s w len (at + n)) ≡ (leb (min (clip s) (len + 1)) at && ltb at (ends_to s w len n))
 unfolding ends_to
-exactly s within.Unset len n at = rw (le_clip s at) (span (clip s) n len len at (omega arith))
-exactly s (within.Given w) len n at = rw (le_clip s at) (limited (clip s) (s +ℤ pos w.number) len n at)
+exactly s None len n at = rw (le_clip s at) (span (clip s) n len len at (omega arith))
+exactly s (Some w) len n at = rw (le_clip s at) (limited (clip s) (s +ℤ pos w.number) len n at)
 
 -- before the span's end the bytes lie inside the field
-inner : (s : ℤ) (w : Within) (len n at : ℕ) → at < ends_to s w len n → at + n ≤ len
+inner : (s : ℤ) (w : Option WithinValue) (len n at : ℕ) → at < ends_to s w len n → at + n ≤ len
 unfolding ends_to
-inner s within.Unset len n at h = omega arith
-inner s (within.Given w) len n at h =
+inner s None len n at h = omega arith
+inner s (Some w) len n at h =
     by_cases (le_z (pos n) (s +ℤ pos w.number))
     (λ t. let k : at < min (clip (s +ℤ pos w.number)) len + 1 - n = rw t at h in omega arith)
     (λ t. let k : at < 0 = rw t at h in omega arith)
 
-pub spans : (p : Pattern) (l : LastMatch) (len : ℕ) (s : ℤ) (w : Window)
+pub spans : (p : Pattern) (l : Option Match) (len : ℕ) (s : ℤ) (w : Window)
     → s ≡ window_start l len p.distance p.within
     → w.from ≡ min (clip s) (len + 1)
     → w.to ≡ ends_to s p.within len p.len

@@ -6,20 +6,20 @@ ghost use Rattle.match_windows.specs.Spans.{size_bound, start_bound, Measured, S
 ghost use Rattle.match_windows.specs.Ends.{clip, Begins, ends_to};
 
 use crate::Window;
-use definitions::packets::LastMatch;
-use definitions::table::{Distance, DistanceValue, Pattern, Reference, Within};
+use definitions::packets::Match;
+use definitions::table::{DistanceValue, Pattern, Reference, WithinValue};
 
-fn last_end(last: LastMatch) -> usize
+fn last_end(last: Option<Match>) -> usize
     ensures { result ≡ windows.last_end last }
 {
     match last {
-        LastMatch::None => 0,
-        LastMatch::Some(m) => m.end,
+        None => 0,
+        Some(m) => m.end,
     }
 }
 
 // What a range is counted from.
-fn base(last: LastMatch, reference: Reference) -> usize
+fn base(last: Option<Match>, reference: Reference) -> usize
     ensures { result ≡ windows.base last reference }
 {
     match reference {
@@ -50,7 +50,7 @@ fn unshifted(r: usize) -> i64
     r as i64
 }
 
-fn shifted(last: LastMatch, len: usize, d: DistanceValue) -> i64
+fn shifted(last: Option<Match>, len: usize, d: DistanceValue) -> i64
     requires { (windows.last_end last < size_bound) × (len < size_bound) }
     ensures { Begins (windows.shifted last len d) result }
 {
@@ -63,13 +63,13 @@ fn shifted(last: LastMatch, len: usize, d: DistanceValue) -> i64
 }
 
 // The start where no distance is given.
-fn reached(last: LastMatch, within: Within) -> i64
+fn reached(last: Option<Match>, within: Option<WithinValue>) -> i64
     requires { windows.last_end last < size_bound }
-    ensures { Begins (windows.window_start last 0 Distance.Unset within) result }
+    ensures { Begins (windows.window_start last 0 None within) result }
 {
     match within {
-        Within::Unset => 0,
-        Within::Given(w) => {
+        None => 0,
+        Some(w) => {
             let reference = w.reference;
             let r = base(last, reference);
             unshifted(r)
@@ -77,13 +77,13 @@ fn reached(last: LastMatch, within: Within) -> i64
     }
 }
 
-fn window_start(last: LastMatch, len: usize, distance: Distance, within: Within) -> i64
+fn window_start(last: Option<Match>, len: usize, distance: Option<DistanceValue>, within: Option<WithinValue>) -> i64
     requires { (windows.last_end last < size_bound) × (len < size_bound) }
     ensures { Begins (windows.window_start last len distance within) result }
 {
     match distance {
-        Distance::Unset => reached(last, within),
-        Distance::Given(d) => shifted(last, len, d),
+        None => reached(last, within),
+        Some(d) => shifted(last, len, d),
     }
 }
 
@@ -129,11 +129,11 @@ fn room(end: usize, n: usize) -> usize
     if end < n { 0 } else { end - n + 1 }
 }
 
-fn starts_to(s: i64, within: Within, len: usize, n: usize) -> usize
+fn starts_to(s: i64, within: Option<WithinValue>, len: usize, n: usize) -> usize
     requires { (mag s < start_bound) × (len < size_bound) × (n < size_bound) }
     ensures { result ≡ ends_to s within len n }
 {
-    let Within::Given(w) = within else {
+    let Some(w) = within else {
         return room(len, n);
     };
     let e = window_end(s, w.number);
@@ -145,7 +145,7 @@ fn starts_to(s: i64, within: Within, len: usize, n: usize) -> usize
 }
 
 // The starts at which the pattern lies within its window over a field of `len` bytes.
-pub fn window(p: Pattern, last: LastMatch, len: usize) -> Window
+pub fn window(p: Pattern, last: Option<Match>, len: usize) -> Window
     requires { Measured p last len }
     ensures { Spans p last len result }
 {

@@ -1,4 +1,5 @@
 -- From the refusal that is due, or the answer by header fields and payload, to the answer of an entry.
+use Rattle.std.specs.Prelude.{Result, Ok, Err}
 use mathlib.Core.Path.{◌≡◌, refl}
 use mathlib.Core.Bool.{true}
 use mathlib.Core.List.{List, [], ◌∷◌}
@@ -10,10 +11,6 @@ use Rattle.definitions.specs.declared.packets.FieldMap.{FieldMap}
 use Rattle.definitions.specs.declared.packets.Start.{Start}
 use Rattle.definitions.specs.declared.packets.Placement.{Placement}
 use Rattle.definitions.specs.declared.answers.Refusal.{Refusal}
-use Rattle.definitions.specs.declared.answers.Check.{Check}
-use Rattle.definitions.specs.declared.answers.Check.TheVariants.{Pass, Refuse}
-use Rattle.definitions.specs.declared.answers.PacketAnswer.{PacketAnswer}
-use Rattle.definitions.specs.declared.answers.PacketAnswer.TheVariants as packet
 use Rattle.definitions.specs.declared.answers.Verdict.TheVariants as verdict
 use Rattle.definitions.specs.declared.answers.Answer.{Answer}
 use Rattle.definitions.specs.WellFormed.{well_formed}
@@ -27,9 +24,9 @@ use Rattle.match_placements.proofs.CheckedInput.{CheckedInput, refused_check, ch
 
 -- ---- a refusal is due: a is what the checks answered, x the answer given
 
-module _ (t : Table) (p d : List ℕ) (dir : Direction) (m : FieldMap) {a : PacketAnswer} (e : a ≡ input_header (well_formed t) p d) {r : Refusal}
-    (k : a ≡ packet.Refused r) where
-  pub verdict_refused : verdict.Refused r ≡ verdict_answer t p d dir m
+module _ (t : Table) (p d : List ℕ) (dir : Direction) (m : FieldMap) {a : Result PacketHeader Refusal} (e : a ≡ input_header (well_formed t) p d) {r : Refusal}
+    (k : a ≡ Err r) where
+  pub verdict_refused : Err r ≡ verdict_answer t p d dir m
   unfolding verdict_answer
   verdict_refused = rw (refused_check t p d e k dir m)
 
@@ -43,10 +40,10 @@ module _ (t : Table) (p d : List ℕ) (dir : Direction) (m : FieldMap) {a : Pack
 
 -- ---- the packet passed its checks: f and s are its header fields and payload
 
-verdict_head : (w : Check) (l : List (List Start)) → verdict_of (unless w (head_of l)).found ≡ verdict_by w l
-verdict_head Pass [] = refl
-verdict_head Pass (q ∷ l) = refl
-verdict_head (Refuse r) l = refl
+verdict_head : (w : Result Unit Refusal) (l : List (List Start)) → verdict_of (unless w (head_of l)).found ≡ verdict_by w l
+verdict_head (Ok tt) [] = refl
+verdict_head (Ok tt) (q ∷ l) = refl
+verdict_head (Err r) l = refl
 
 module _ {t : Table} {p d : List ℕ} {f : PacketHeader} {s : List ℕ} (c : CheckedInput t p d f s) (dir : Direction) (m : FieldMap) where
   pub verdict_here : verdict_of (first_in_list t f s d dir m).found ≡ verdict_answer t p d dir m

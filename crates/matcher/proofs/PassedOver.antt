@@ -1,5 +1,6 @@
 -- A table that is passed over by protocol and flow is not met (`passed_over`): a packet that is not refused has its protocol in the tenth byte, and a table whose
 -- protocol or flow is another has no placement.
+use Rattle.std.specs.Prelude.{Result, Ok, Err}
 use mathlib.Core.Path.{◌≡◌, refl, ap, ◌∙◌}
 use mathlib.Core.Bool.{Bool, false, not, ◌&&◌, ◌||◌}
 use mathlib.Core.List.{List, []}
@@ -15,8 +16,7 @@ use Rattle.definitions.specs.declared.packets.Direction.{Direction}
 use Rattle.definitions.specs.declared.packets.FieldMap.{FieldMap}
 use Rattle.definitions.specs.declared.packets.Start.{Start}
 use Rattle.definitions.specs.declared.answers.Refusal.TheVariants as refusal
-use Rattle.definitions.specs.declared.answers.Check.{Check}
-use Rattle.definitions.specs.declared.answers.Check.TheVariants.{Pass, Refuse}
+use Rattle.definitions.specs.declared.answers.Refusal.{Refusal}
 use Rattle.definitions.specs.Limits.{max_packet, max_decoded}
 use Rattle.definitions.specs.Refusals.{refuse_if, and_then}
 use Rattle.definitions.specs.WellFormed.{well_formed}
@@ -46,7 +46,7 @@ module _ (protocol : ℕ) (flow : Flow) (p : List ℕ) (dir : Direction) where
 
 -- ---- what it says
 
-module _ (p decoded : List ℕ) (fine : packet_check p decoded ≡ Pass) where
+module _ (p decoded : List ℕ) (fine : packet_check p decoded ≡ Ok tt) where
   -- the datagram has its header, and lies in the packet
   header_there : (10 ≤ length p) × (10 ≤ total_length p)
   unfolding packet_check
@@ -71,20 +71,20 @@ only_none : (b : Bool) (l : List (List Start)) → b ≡ false → only_if b l �
 only_none b l e = rw e
 
 module _ (t : Table) (p decoded : List ℕ) (dir : Direction) (m : FieldMap) where
-  none_listed : packet_check p decoded ≡ Pass → may_meet t.protocol t.flow p dir ≡ false → placements_of t p decoded dir m ≡ []
+  none_listed : packet_check p decoded ≡ Ok tt → may_meet t.protocol t.flow p dir ≡ false → placements_of t p decoded dir m ≡ []
   unfolding placements_of listed may_meet
   none_listed fine f =
       only_none (head_holds t (view_of p decoded m) dir) _
       (ap (λ (n : ℕ). eqb n t.protocol && flow_holds t.flow dir) (protocol_there p decoded fine)
       ∙ (rw (le-leb 10 (length p) (header_there p decoded fine).0) at f))
 
-  unmet_by : (d : Check) (l : List (List Start)) → (d ≡ Pass → l ≡ []) → is_met (verdict_by d l) ≡ false
-  unmet_by Pass l h = rw (h refl)
-  unmet_by (Refuse r) l h = refl
+  unmet_by : (d : Result Unit Refusal) (l : List (List Start)) → (d ≡ Ok tt → l ≡ []) → is_met (verdict_by d l) ≡ false
+  unmet_by (Ok tt) l h = rw (h refl)
+  unmet_by (Err r) l h = refl
 
   pub passed_over : may_meet t.protocol t.flow p dir ≡ false → is_met (verdict_answer t p decoded dir m) ≡ false
   unfolding verdict_answer input_check
   passed_over f =
-      let fields : Check = fields_check (payload_of (datagram_of p)) decoded m in
+      let fields : Result Unit Refusal = fields_check (payload_of (datagram_of p)) decoded m in
       unmet_by (refuse_if (not (well_formed t)) refusal.IllFormed (and_then (packet_check p decoded) fields)) (placements_of t p decoded dir m)
       (λ e. none_listed (else_fine (packet_check p decoded) fields (refuse_fine (not (well_formed t)) refusal.IllFormed _ e).1).0 f)

@@ -1,5 +1,6 @@
 -- OF THE ENTRIES THEMSELVES: `verdict`, `first` and `next` answer 20 exactly if no text reads as the table that they are given, whatever table that is; so for
 -- a table that holds an item of the old kind, ip_id. `good` is what the check knows of the arguments of a call, `post` the contract at its answer r.
+use Rattle.std.specs.Prelude.{Result}
 use mathlib.Core.Path.{◌≡◌, ap, ◌∙◌}
 use mathlib.Core.Bool.{true}
 use mathlib.Core.List.{List}
@@ -15,6 +16,7 @@ use Rattle.definitions.specs.declared.packets.FieldMap.{FieldMap}
 use Rattle.definitions.specs.declared.packets.Placement.{Placement}
 use Rattle.definitions.specs.declared.answers.Verdict.{Verdict}
 use Rattle.definitions.specs.declared.answers.Answer.{Answer}
+use Rattle.definitions.specs.declared.answers.Refusal.{Refusal}
 use Rattle.definitions.specs.Limits.{document_limits}
 use Rattle.definitions.specs.Refusals.{verdict_number, found_number}
 use Rattle.definitions.specs.WellFormed.{Readable}
@@ -34,7 +36,7 @@ abbrev Unreadable : Table → Type 0
 Unreadable t = Readable document_limits.room t → ⊥
 
 module _ (κs : Lfts 1) (t : Table) (p d : Bor (List ℕ)) (dir : Direction) (m : FieldMap) where
-  pub verdict_unreadable : (r : Verdict) (s : AtExit (ended_of 1 verdict-kinds.ps verdict-kinds.r) κs)
+  pub verdict_unreadable : (r : Result Verdict Refusal) (s : AtExit (ended_of 1 verdict-kinds.ps verdict-kinds.r) κs)
       → GoodsP κs verdict-kinds.ps (t, (p, (d, (dir, (m, tt))))) → verdict.Post κs (t, (p, (d, (dir, (m, tt))))) r s
       → (verdict_number r ≡ 20) ↔ Unreadable t
   verdict_unreadable r s good post =
@@ -54,7 +56,7 @@ module _ (κs : Lfts 1) (t : Table) (p d : Bor (List ℕ)) (dir : Direction) (m 
 
   -- a table that holds an item of the old kind, whatever else is given
   module _ (holds : holds_ip_id t ≡ true) where
-    pub verdict_refuses_ip_id : (r : Verdict) (s : AtExit (ended_of 1 verdict-kinds.ps verdict-kinds.r) κs)
+    pub verdict_refuses_ip_id : (r : Result Verdict Refusal) (s : AtExit (ended_of 1 verdict-kinds.ps verdict-kinds.r) κs)
         → verdict.Post κs (t, (p, (d, (dir, (m, tt))))) r s → verdict_number r ≡ 20
     verdict_refuses_ip_id r s post = ap verdict_number post.0 ∙ verdict_ip_id t holds p.now d.now dir m
 

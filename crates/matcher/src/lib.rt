@@ -12,7 +12,7 @@ ghost use Rattle.matcher.specs.PassedOver.{may_meet};
 ghost use Rattle.matcher.specs.Matching.{Matchable};
 ghost use Rattle.definitions.specs.AnswerNumbers.{verdict_numbers, answer_numbers, verdict_in_numbers, first_in_numbers, next_in_numbers};
 
-use definitions::answers::{Answer, PacketAnswer, Verdict};
+use definitions::answers::{Answer, Refusal, Verdict};
 use definitions::limits::ITEMS;
 use definitions::packets::{Direction, FieldMap, Placement};
 use definitions::table::{Flow, Slot, Table};
@@ -25,7 +25,7 @@ use packet::{packet_header, payload_of};
 use table_well_formed::well_formed;
 
 // THE VERDICT: met exactly if some placement meets the table.
-pub fn verdict<'a>(t: Table, p: &'a [u8], decoded: &'a [u8], dir: Direction, m: FieldMap) -> Verdict
+pub fn verdict<'a>(t: Table, p: &'a [u8], decoded: &'a [u8], dir: Direction, m: FieldMap) -> Result<Verdict, Refusal>
     ensures answer { result ≡ verdict_answer t p.now decoded.now dir m }
     ensures numbers { verdict_numbers result ≡ verdict_in_numbers t p.now decoded.now dir m }
 {
@@ -34,8 +34,8 @@ pub fn verdict<'a>(t: Table, p: &'a [u8], decoded: &'a [u8], dir: Direction, m: 
     let formed = well_formed(name, t.len, items, t.count, &t.bytes, t.used);
     let seen = check_input(formed, p, decoded);
     match seen {
-        PacketAnswer::Refused(r) => Verdict::Refused(r), // 20 and 30 to 34 come before 35
-        PacketAnswer::Seen(header) => {
+        Err(r) => Err(r), // 20 and 30 to 34 come before 35
+        Ok(header) => {
             let payload = payload_of(p, header);
             let flow = t.flow;
             let a = first_in(
@@ -57,8 +57,8 @@ pub fn first<'a>(t: Table, p: &'a [u8], decoded: &'a [u8], dir: Direction, m: Fi
     let formed = well_formed(name, t.len, items, t.count, &t.bytes, t.used);
     let seen = check_input(formed, p, decoded);
     match seen {
-        PacketAnswer::Refused(r) => refused(r),
-        PacketAnswer::Seen(header) => {
+        Err(r) => refused(r),
+        Ok(header) => {
             let payload = payload_of(p, header);
             let flow = t.flow;
             first_in(
@@ -85,8 +85,8 @@ pub fn next<'a>(
     let formed = well_formed(name, t.len, items, t.count, &t.bytes, t.used);
     let seen = check_input(formed, p, decoded);
     match seen {
-        PacketAnswer::Refused(r) => refused(r), // 20 and 30 to 34 come before 36
-        PacketAnswer::Seen(header) => {
+        Err(r) => refused(r), // 20 and 30 to 34 come before 36
+        Ok(header) => {
             let payload = payload_of(p, header);
             let flow = t.flow;
             next_in(
@@ -110,13 +110,13 @@ pub fn may_meet(protocol: u8, flow: Flow, p: &[u8], dir: Direction) -> bool
 }
 
 // Whether a verdict is met.
-fn is_met(v: Verdict) -> bool
+fn is_met(v: Result<Verdict, Refusal>) -> bool
     ensures { result ≡ is_met v }
 {
     match v {
-        Verdict::Met => true,
-        Verdict::NotMet => false,
-        Verdict::Refused(_) => false,
+        Ok(Verdict::Met) => true,
+        Ok(Verdict::NotMet) => false,
+        Err(_) => false,
     }
 }
 
@@ -137,8 +137,8 @@ pub fn meets<'a>(
 {
     let seen = packet_header(p, decoded);
     match seen {
-        PacketAnswer::Refused(_) => false,
-        PacketAnswer::Seen(header) => {
+        Err(_) => false,
+        Ok(header) => {
             let payload = payload_of(p, header);
             let a = first_in(
                 protocol, flow, items, count, bytes, header, payload, decoded, dir, m,

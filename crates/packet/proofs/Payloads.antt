@@ -1,5 +1,6 @@
 -- Where no refusal is due, the bytes from the payload's start up to the total length are the datagram's payload: the header lies in the datagram, the
 -- transport header too, so reading in the datagram and in the packet are one, and nothing of the part is padding.
+use Rattle.std.specs.Prelude.{Result, Ok, Err}
 use mathlib.Core.Path.{◌≡◌, refl, sym, ap, ◌∙◌}
 use mathlib.Core.Bool.{Bool, true, false, not, ◌||◌}
 use mathlib.Core.List.{List, [], ◌∷◌}
@@ -13,9 +14,7 @@ use borrow.Author.Tests.{ltb-false, le-ltb}
 use Rattle.forms.proofs.Bools.{by_cases}
 use Rattle.definitions.specs.declared.packets.PacketHeader.{PacketHeader}
 use Rattle.definitions.specs.declared.answers.Refusal.TheVariants as refusal
-use Rattle.definitions.specs.declared.answers.Check.{Check}
-use Rattle.definitions.specs.declared.answers.Check.TheVariants.{Pass, Refuse}
-use Rattle.definitions.specs.declared.answers.PacketAnswer.TheVariants.{Seen}
+use Rattle.definitions.specs.declared.answers.Refusal.{Refusal}
 use Rattle.definitions.specs.Limits.{max_packet, max_decoded}
 use Rattle.definitions.specs.Refusals.{refuse_if}
 use Rattle.definitions.specs.Packet.{version_of, is_fragment, header_words, header_length, total_length, protocol_of, datagram_of, after_header, is_tcp}
@@ -38,7 +37,7 @@ drop_take (suc k) (suc n) (x ∷ xs) = rw (suc-sub-suc n k) (drop_take k n xs)
 -- where nothing is due, neither 32 nor 34 is
 neither_check : (a b c d e : Bool)
     → refuse_if a refusal.BufferLength
-    (refuse_if b refusal.NotIpv4 (refuse_if c refusal.Lengths (refuse_if d refusal.Fragment (refuse_if e refusal.Transport Pass)))) ≡ Pass
+    (refuse_if b refusal.NotIpv4 (refuse_if c refusal.Lengths (refuse_if d refusal.Fragment (refuse_if e refusal.Transport (Ok tt))))) ≡ Ok tt
     → (c ≡ false) × (e ≡ false)
 neither_check true b c d e h = (cc, cc)
 neither_check false true c d e h = (cc, cc)
@@ -97,7 +96,7 @@ module _ (p : List ℕ) (ok : Lengths p) where
 
 module _ (p decoded : List ℕ) where
   -- THE LAW of the payload
-  pub payload_part_lem : packet_check p decoded ≡ Pass → payload_part p (header_of (datagram_of p)) ≡ payload_of (datagram_of p)
+  pub payload_part_lem : packet_check p decoded ≡ Ok tt → payload_part p (header_of (datagram_of p)) ≡ payload_of (datagram_of p)
   unfolding packet_check
   payload_part_lem e =
       let check =
@@ -110,15 +109,15 @@ module _ (p decoded : List ℕ) where
       e in
       passed_payload p (lengths p check.0) check.1
 
-  seen : (check : Check) (d : List ℕ) (f : PacketHeader) → packet_by check d ≡ Seen f → check ≡ Pass
-  seen Pass d f e = refl
-  seen (Refuse r) d f e = cc
+  seen : (check : Result Unit Refusal) (d : List ℕ) (f : PacketHeader) → packet_by check d ≡ Ok f → check ≡ Ok tt
+  seen (Ok tt) d f e = refl
+  seen (Err r) d f e = cc
 
-  seen_header : (check : Check) (d : List ℕ) (f : PacketHeader) → packet_by check d ≡ Seen f → f ≡ header_of d
-  seen_header Pass d f e = cc
-  seen_header (Refuse r) d f e = cc
+  seen_header : (check : Result Unit Refusal) (d : List ℕ) (f : PacketHeader) → packet_by check d ≡ Ok f → f ≡ header_of d
+  seen_header (Ok tt) d f e = cc
+  seen_header (Err r) d f e = cc
 
   -- the same of the header fields that a caller has been given
-  pub seen_payload : (f : PacketHeader) → packet_answer p decoded ≡ Seen f → payload_part p f ≡ payload_of (datagram_of p)
+  pub seen_payload : (f : PacketHeader) → packet_answer p decoded ≡ Ok f → payload_part p f ≡ payload_of (datagram_of p)
   unfolding packet_answer
   seen_payload f e = rw (seen_header (packet_check p decoded) (datagram_of p) f e) (payload_part_lem (seen (packet_check p decoded) (datagram_of p) f e))

@@ -8,13 +8,11 @@ ghost use Rattle.definitions.specs.AnswerNumbers.{packet_numbers, packet_in_numb
 ghost use Rattle.field_parts.specs.Parts.{PartOf};
 ghost use Rattle.packet.specs.Datagram.{datagram_answer, span_between, payload_span, payload_part};
 
-use definitions::answers::{PacketAnswer, Refusal};
-use definitions::packets::{FieldSpan, PacketHeader, Span};
+use definitions::answers::Refusal;
+use definitions::packets::{PacketHeader, Span};
 use field_parts::part_of;
-use packet_header::big_endian::{be8, be16, be32};
-use packet_header::ip::{
-    buffer_too_long, header_length, is_fragment, not_ipv4, total_length, wrong_lengths,
-};
+use packet_header::big_endian::{be16, be32, be8};
+use packet_header::ip::{buffer_too_long, header_length, is_fragment, not_ipv4, total_length, wrong_lengths};
 use packet_transport::{port_at, protocol_of, transport_length, transport_short};
 
 // The header fields of a datagram.
@@ -48,44 +46,44 @@ fn header_of(d: &[u8]) -> PacketHeader
 }
 
 // Refusals 33 and 34, which look at the datagram alone, or its header fields.
-fn datagram_header(d: &[u8]) -> PacketAnswer
+fn datagram_header(d: &[u8]) -> Result<PacketHeader, Refusal>
     ensures { result ≡ datagram_answer d.now }
 {
     if is_fragment(d) {
-        return PacketAnswer::Refused(Refusal::Fragment);
+        return Err(Refusal::Fragment);
     }
     if transport_short(d) {
-        return PacketAnswer::Refused(Refusal::Transport);
+        return Err(Refusal::Transport);
     }
-    PacketAnswer::Seen(header_of(d))
+    Ok(header_of(d))
 }
 
 // THE PACKET: the header fields of the datagram in a lent packet, or the first due of 30 to 34.
-pub fn packet_header(p: &[u8], decoded: &[u8]) -> PacketAnswer
+pub fn packet_header(p: &[u8], decoded: &[u8]) -> Result<PacketHeader, Refusal>
     ensures answer { result ≡ packet_answer p.now decoded.now }
     ensures numbers { packet_numbers result ≡ packet_in_numbers p.now decoded.now }
 {
     if buffer_too_long(p, decoded) {
-        return PacketAnswer::Refused(Refusal::BufferLength);
+        return Err(Refusal::BufferLength);
     }
     if not_ipv4(p) {
-        return PacketAnswer::Refused(Refusal::NotIpv4);
+        return Err(Refusal::NotIpv4);
     }
     if wrong_lengths(p) {
-        return PacketAnswer::Refused(Refusal::Lengths);
+        return Err(Refusal::Lengths);
     }
     let total = total_length(p);
     datagram_header(&p[0..total])
 }
 
 // From a start up to an end; no span where the end comes first.
-fn span_between(start: usize, end: usize) -> FieldSpan
+fn span_between(start: usize, end: usize) -> Option<Span>
     ensures { result ≡ span_between start end }
 {
     if end < start {
-        return FieldSpan::Absent;
+        return None;
     }
-    FieldSpan::At(Span {
+    Some(Span {
         start,
         len: end - start,
     })

@@ -7,7 +7,7 @@ ghost use Rattle.definitions.specs.Options.{printable};
 ghost use Rattle.definitions.specs.Reading.{dashes};
 ghost use Rattle.read_frame.specs.Framing.{is_opened, Fronts, ended_by};
 
-use definitions::answers::Refusal;
+use definitions::answers::{Refusal, TextRefusal};
 use definitions::limits::TEXT_BYTES;
 use scan_bytes::bytes::Class;
 use scan_bytes::runs::run_of;
@@ -15,20 +15,6 @@ use scan_cursors::Cursor;
 
 // The bytes of `F-SBID(`.
 pub const OPENING_BYTES: usize = 7;
-
-// The front of a text: options may follow, or a refusal and its place.
-#[derive(Clone, Copy)]
-pub enum Front {
-    Opened,
-    Refused(Refusal, usize),
-}
-
-// How reading an option after its name ends: on to a place, or a refusal and its place.
-#[derive(Clone, Copy)]
-pub enum Ended {
-    Next(usize),
-    Refused(Refusal, usize),
-}
 
 // How many bytes at the front a text may hold.
 fn printable_run(s: &[u8]) -> usize
@@ -56,24 +42,36 @@ fn is_opened(s: &[u8]) -> bool
 }
 
 // The refusals before the options, in their order: length, bytes, `F-SBID(`.
-pub fn front_of(s: &[u8]) -> Front
+pub fn front_of(s: &[u8]) -> Result<(), TextRefusal>
     ensures { Fronts s.now result }
 {
     let len = s.len();
     if len == 0 {
-        return Front::Refused(Refusal::TextLength, 0);
+        return Err(TextRefusal {
+            refusal: Refusal::TextLength,
+            place: 0,
+        });
     }
     if TEXT_BYTES < len {
-        return Front::Refused(Refusal::TextLength, 0);
+        return Err(TextRefusal {
+            refusal: Refusal::TextLength,
+            place: 0,
+        });
     }
     let run = printable_run(s);
     if run < len {
-        return Front::Refused(Refusal::TextByte, run);
+        return Err(TextRefusal {
+            refusal: Refusal::TextByte,
+            place: run,
+        });
     }
     if !is_opened(s) {
-        return Front::Refused(Refusal::Opening, 0);
+        return Err(TextRefusal {
+            refusal: Refusal::Opening,
+            place: 0,
+        });
     }
-    Front::Opened
+    Ok(())
 }
 
 // Whether `--` stands at the place.
@@ -91,12 +89,18 @@ pub fn dashes_at(s: &[u8], at: usize) -> bool
 }
 
 // A cursor that goes on is the place after the option; a broken limit is 7 at its place, a form that failed 6 where it did.
-pub fn ended_by(c: Cursor) -> Ended
+pub fn ended_by(c: Cursor) -> Result<usize, TextRefusal>
     ensures { result ≡ ended_by c }
 {
     match c {
-        Cursor::Parsed(n) => Ended::Next(n),
-        Cursor::OutOfRange(p, _) => Ended::Refused(Refusal::Limit, p),
-        Cursor::Failed(p) => Ended::Refused(Refusal::Form, p),
+        Cursor::Parsed(n) => Ok(n),
+        Cursor::OutOfRange(place, _) => Err(TextRefusal {
+            refusal: Refusal::Limit,
+            place,
+        }),
+        Cursor::Failed(place) => Err(TextRefusal {
+            refusal: Refusal::Form,
+            place,
+        }),
     }
 }

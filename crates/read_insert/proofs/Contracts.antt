@@ -1,5 +1,5 @@
 -- The contracts of inserting, of what the code does: a value by its kind, at any options that make the state; and the judgement at the end.
-use Rattle.std.specs.Prelude.{if◌then◌else◌}
+use Rattle.std.specs.Prelude.{if◌then◌else◌, None, Ok, Err}
 use mathlib.Core.Path.{◌≡◌, refl, sym, ap, subst, ◌∙◌}
 use mathlib.Core.Bool.{Bool, true, false, not, ◌||◌}
 use mathlib.Core.List.{List, []}
@@ -11,8 +11,6 @@ use lib.Dec.{ltb}
 use borrow.Author.Tests.{ltb-true}
 use Rattle.forms.proofs.Bools.{by_cases}
 use Rattle.definitions.specs.declared.answers.Refusal.TheVariants as refusal
-use Rattle.definitions.specs.declared.answers.ReadOutcome.TheVariants as outcome
-use Rattle.definitions.specs.declared.packets.LastMatch.TheVariants.{None}
 use Rattle.definitions.specs.declared.table.Address.{Address}
 use Rattle.definitions.specs.declared.table.Slot.{Slot}
 use Rattle.definitions.specs.declared.table.Table.{Table}
@@ -90,7 +88,7 @@ inserted_right st last dash v list used = record { check = λ k. (here k).check;
 
 -- the code's two tests are the definition's one
 missing_by : (n : ℕ) (t : Table) (a b : Bool)
-    → reading_by (if a then outcome.Refused refusal.Missing n else if b then outcome.Refused refusal.Missing n else outcome.Accepted) t
+    → reading_by (if a then Err (record { refusal = refusal.Missing; place = n }) else if b then Err (record { refusal = refusal.Missing; place = n }) else (Ok tt)) t
     ≡ (if (a || b) then refused_reading document_limits.room refusal.Missing n else accepted_reading t)
 missing_by n t true b = refl
 missing_by n t false true = refl

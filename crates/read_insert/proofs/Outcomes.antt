@@ -1,6 +1,6 @@
 -- What is due for a value is what the definition says, and the state after it is that of one option more: the code's tests are the
 -- definition's, and its changes are those of the steps.
-use Rattle.std.specs.Prelude.{if◌then◌else◌}
+use Rattle.std.specs.Prelude.{if◌then◌else◌, Result, Ok, Err}
 use mathlib.Core.Path.{◌≡◌, refl, sym, ap, ◌∙◌}
 use mathlib.Core.Bool.{Bool, true, false}
 use mathlib.Core.List.{List, [], ◌∷◌, ◌++◌}
@@ -12,8 +12,6 @@ use lib.Dec.{eqb, ltb, leb}
 use borrow.Author.Tests.{le-ltb, ltb-false, leb-false, not-false}
 use Rattle.definitions.specs.declared.answers.Refusal.{Refusal}
 use Rattle.definitions.specs.declared.answers.Refusal.TheVariants as refusal
-use Rattle.definitions.specs.declared.answers.Check.{Check}
-use Rattle.definitions.specs.declared.answers.Check.TheVariants.{Pass, Refuse}
 use Rattle.definitions.specs.declared.table.Flow as flows
 use Rattle.definitions.specs.declared.table.AddressTest.{AddressTest}
 use Rattle.definitions.specs.declared.table.Item.{Item}
@@ -44,15 +42,15 @@ use Rattle.read_insert.proofs.OneMore.{count_none, dashes_same, dashes_new, dash
 -- r is right for the option e after the options said in the text s, where bytes are stored already and r has its own slot to put
 pub record Outcome (s : List ℕ) (located : List Located) (dash : ℕ) (e : OptionValue) (bytes : List ℕ) (items : List Slot) (r : Inserted) : Type 0 where
   pub check : r.check ≡ occurrence_check (option_values_of located) e
-  pub holds : r.check ≡ Pass → Holds s (located_also located dash e) r.state bytes (set items r.place r.slot)
+  pub holds : r.check ≡ Ok tt → Holds s (located_also located dash e) r.state bytes (set items r.place r.slot)
 
 -- a refusal that is not due
-fine_only : (t : Bool) (x : Refusal) (d : Check) → refuse_if t x d ≡ Pass → (t ≡ false) × (d ≡ Pass)
+fine_only : (t : Bool) (x : Refusal) (d : Result Unit Refusal) → refuse_if t x d ≡ Ok tt → (t ≡ false) × (d ≡ Ok tt)
 fine_only true x d e = let z : ◌≡◌ {A = ℕ} 0 1 = cc in absurd (omega (arith, z))
 fine_only false x d e = (refl, e)
 
 module _ (s : List ℕ) (located : List Located) (dash : ℕ) (e : OptionValue) (bytes : List ℕ) (items : List Slot) where
-  outcome_if : (t : Bool) (x : Refusal) (st : State) (r : Inserted) → (t ≡ true → occurrence_check (option_values_of located) e ≡ Refuse x)
+  outcome_if : (t : Bool) (x : Refusal) (st : State) (r : Inserted) → (t ≡ true → occurrence_check (option_values_of located) e ≡ Err x)
       → (t ≡ false → Outcome s located dash e bytes items r)
       → Outcome s located dash e bytes items (if t then refused_in st x else r)
   outcome_if true x st r h k = record { check = sym (h refl); holds = λ f. let z : ◌≡◌ {A = ℕ} 0 1 = cc in absurd (omega (arith, z)) }
@@ -101,7 +99,7 @@ module _ (s : List ℕ) (located : List Located) (dash from : ℕ) (bytes : List
       record {
         check = refl;
         holds = λ f.
-            let new = (fine_only _ refusal.Repeated Pass f).0 in
+            let new = (fine_only _ refusal.Repeated (Ok tt) f).0 in
             uncounted (Name x) (with_name now at n) _ refl refl refl refl
             (ap (with_name now at) (sym l) ∙ sym (name_step from es (dashes_of located) at x new))
             (record { is = sym (name_first es (Name x ∷ []) new); inside = inside; short = short })
@@ -115,7 +113,7 @@ module _ (s : List ℕ) (located : List Located) (dash from : ℕ) (bytes : List
         check = refl;
         holds = λ f.
             uncounted (Protocol p) (with_protocol now p) _ refl refl refl refl
-            (sym (protocol_step from es (dashes_of located) p (fine_only _ refusal.Repeated Pass f).0))
+            (sym (protocol_step from es (dashes_of located) p (fine_only _ refusal.Repeated (Ok tt) f).0))
             (same_name (Protocol p) refl) (items_same es items h.slots (Protocol p) few (λ p. refl) refl);
       }
 
@@ -126,7 +124,7 @@ module _ (s : List ℕ) (located : List Located) (dash from : ℕ) (bytes : List
         check = refl;
         holds = λ f.
             uncounted (Flow w) (with_flow now w) _ refl refl refl refl
-            (sym (flow_step from es (dashes_of located) w (fine_only _ refusal.Repeated Pass f).0))
+            (sym (flow_step from es (dashes_of located) w (fine_only _ refusal.Repeated (Ok tt) f).0))
             (same_name (Flow w) refl) (items_same es items h.slots (Flow w) few (λ p. refl) refl);
       }
 

@@ -1,7 +1,6 @@
 -- What the code does to the state for each value, step by step. That this is the state of one option more is proved in proofs/.
-use Rattle.std.specs.Prelude.{ℕ, true, List}
+use Rattle.std.specs.Prelude.{ℕ, true, List, Ok}
 use Rattle.definitions.specs.declared.answers.Refusal.TheVariants as refusal
-use Rattle.definitions.specs.declared.answers.Check.TheVariants.{Pass}
 use Rattle.definitions.specs.declared.table.Flow as flows
 use Rattle.definitions.specs.declared.table.Address.{Address}
 use Rattle.definitions.specs.declared.table.Slot.{Slot}
@@ -80,13 +79,13 @@ with_flow st f =
 
 -- the state is made whatever is due
 unfoldable pub name_inserted : State → ℕ → ℕ → Inserted
-name_inserted st from n = without_item (refuse_if st.given.name refusal.Repeated Pass) (with_name st from n)
+name_inserted st from n = without_item (refuse_if st.given.name refusal.Repeated (Ok tt)) (with_name st from n)
 
 unfoldable pub protocol_inserted : State → ℕ → Inserted
-protocol_inserted st p = without_item (refuse_if st.given.protocol refusal.Repeated Pass) (with_protocol st p)
+protocol_inserted st p = without_item (refuse_if st.given.protocol refusal.Repeated (Ok tt)) (with_protocol st p)
 
 unfoldable pub flow_inserted : State → flows.Flow → Inserted
-flow_inserted st f = without_item (refuse_if st.given.flow refusal.Repeated Pass) (with_flow st f)
+flow_inserted st f = without_item (refuse_if st.given.flow refusal.Repeated (Ok tt)) (with_flow st f)
 
 -- ---- any value, where `last` is the slot of the last pattern
 

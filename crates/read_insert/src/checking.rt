@@ -6,8 +6,8 @@ ghost use Rattle.definitions.specs.Reading.{refused_reading};
 ghost use Rattle.read_state.specs.Sound.{Sound};
 ghost use Rattle.read_insert.specs.Checking.{outcome_in};
 
-use definitions::answers::{ReadOutcome, Reading, Refusal};
-use definitions::limits::{ITEMS, NAME_BYTES, PATTERN_BYTES, PATTERNS};
+use definitions::answers::{Reading, Refusal, TextRefusal};
+use definitions::limits::{ITEMS, NAME_BYTES, PATTERNS, PATTERN_BYTES};
 use definitions::table::{Flow, Slot, Table};
 use read_references::usable_count;
 use read_state::{State, no_slot};
@@ -42,7 +42,10 @@ pub fn refused(r: Refusal, place: usize) -> Reading
         count: 0,
     };
     Reading {
-        outcome: ReadOutcome::Refused(r, place),
+        outcome: Err(TextRefusal {
+            refusal: r,
+            place,
+        }),
         table,
     }
 }
@@ -55,7 +58,7 @@ fn dash_of(dashes: [usize; PATTERNS], k: usize) -> usize
 }
 
 // The state after the last option of the text, with the items beside it.
-pub fn judge(len: usize, st: State, items: [Slot; ITEMS]) -> ReadOutcome
+pub fn judge(len: usize, st: State, items: [Slot; ITEMS]) -> Result<(), TextRefusal>
     requires { Sound st }
     ensures { result ≡ outcome_in len st items }
 {
@@ -63,14 +66,23 @@ pub fn judge(len: usize, st: State, items: [Slot; ITEMS]) -> ReadOutcome
     if usable < st.patterns {
         let dashes = st.dashes;
         let place = dash_of(dashes, usable);
-        return ReadOutcome::Refused(Refusal::Unusable, place);
+        return Err(TextRefusal {
+            refusal: Refusal::Unusable,
+            place,
+        });
     }
     let given = st.given;
     if !given.name {
-        return ReadOutcome::Refused(Refusal::Missing, len);
+        return Err(TextRefusal {
+            refusal: Refusal::Missing,
+            place: len,
+        });
     }
     if !given.protocol {
-        return ReadOutcome::Refused(Refusal::Missing, len);
+        return Err(TextRefusal {
+            refusal: Refusal::Missing,
+            place: len,
+        });
     }
-    ReadOutcome::Accepted
+    Ok(())
 }

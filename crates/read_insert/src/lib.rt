@@ -15,7 +15,7 @@ ghost use Rattle.read_insert.specs.Checking.{table_in, reading_by};
 
 use crate::checking::judge;
 use crate::once::{insert_flow, insert_name, insert_protocol};
-use definitions::answers::ReadOutcome;
+use definitions::answers::TextRefusal;
 use definitions::limits::{ADDRESSES, ITEMS};
 use definitions::table::{Address, Slot};
 use read_insert_counted::{insert_addresses, insert_pattern, insert_test};
@@ -66,7 +66,7 @@ pub fn insert(
 }
 
 // The last `)` of the text was met: 10 by pattern, then 12, or it is accepted.
-pub fn finish(len: usize, st: State, items: [Slot; ITEMS]) -> ReadOutcome
+pub fn finish(len: usize, st: State, items: [Slot; ITEMS]) -> Result<(), TextRefusal>
     requires { Sound st }
     ensures { (s bytes : List ℕ) (located : List Located) → length s ≡ len → Holds s located st bytes items → reading_by result (table_in s st bytes items) ≡ checked_table document_limits.room s located }
 {

@@ -5,7 +5,7 @@ ghost use Rattle.std.specs.Prelude.{◌≡◌};
 ghost use Rattle.read_state.specs.Sound.{Sound};
 ghost use Rattle.read_insert_counted.specs.Counting.{test_inserted, addresses_inserted, pattern_inserted};
 
-use definitions::answers::{Check, Refusal};
+use definitions::answers::Refusal;
 use definitions::limits::{ADDRESSES, PATTERNS, TESTS};
 use definitions::table::{Address, AddressTest, Item, Slot};
 use read_state::{Given, Inserted, State, bare_pattern, no_item};
@@ -17,7 +17,7 @@ pub fn insert_test(st: State, item: Item, list: [Address; ADDRESSES]) -> Inserte
 {
     let tests = st.tests;
     if TESTS <= tests {
-        return no_item(Check::Refuse(Refusal::CountExceeded), st);
+        return no_item(Err(Refusal::CountExceeded), st);
     }
     let slot = Slot {
         item,
@@ -28,7 +28,7 @@ pub fn insert_test(st: State, item: Item, list: [Address; ADDRESSES]) -> Inserte
     state.count = place + 1;
     state.tests = tests + 1;
     Inserted {
-        check: Check::Pass,
+        check: Ok(()),
         state,
         place,
         slot,
@@ -41,7 +41,7 @@ pub fn insert_addresses(st: State, a: AddressTest, list: [Address; ADDRESSES]) -
     ensures { result ≡ addresses_inserted st a list }
 {
     if ADDRESSES < a.count {
-        return no_item(Check::Refuse(Refusal::CountExceeded), st);
+        return no_item(Err(Refusal::CountExceeded), st);
     }
     insert_test(st, Item::Address(a), list)
 }
@@ -60,7 +60,7 @@ pub fn insert_pattern(
 {
     let patterns = st.patterns;
     if PATTERNS <= patterns {
-        return no_item(Check::Refuse(Refusal::CountExceeded), st);
+        return no_item(Err(Refusal::CountExceeded), st);
     }
     let pattern = bare_pattern(negated, n);
     let slot = Slot {
@@ -86,7 +86,7 @@ pub fn insert_pattern(
     state.dashes[patterns] = dash;
     state.patterns = patterns + 1;
     Inserted {
-        check: Check::Pass,
+        check: Ok(()),
         state,
         place,
         slot,

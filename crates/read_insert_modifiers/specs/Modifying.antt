@@ -1,7 +1,6 @@
 -- What the code does to the state for a modifier, step by step.
-use Rattle.std.specs.Prelude.{Bool, true, false, eqb}
+use Rattle.std.specs.Prelude.{Bool, true, false, eqb, Ok}
 use Rattle.definitions.specs.declared.answers.Refusal.TheVariants as refusal
-use Rattle.definitions.specs.declared.answers.Check.TheVariants.{Pass}
 use Rattle.definitions.specs.declared.table.Pattern.{Pattern}
 use Rattle.definitions.specs.declared.table.Item.{Item}
 use Rattle.definitions.specs.declared.table.Item.TheVariants as item
@@ -47,7 +46,7 @@ slot_with sl p = record { item = item.Pattern p; addresses = sl.addresses }
 unfoldable pub modifier_by : State → Slot → Bool → Pattern → Given → Inserted
 modifier_by st last again p g =
     record {
-      check = refuse_if (eqb st.patterns 0) refusal.ModifierWithoutPattern (refuse_if again refusal.Repeated Pass);
+      check = refuse_if (eqb st.patterns 0) refusal.ModifierWithoutPattern (refuse_if again refusal.Repeated (Ok tt));
       state = with_given st g;
       place = st.last;
       slot = slot_with last p;

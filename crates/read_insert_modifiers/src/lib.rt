@@ -6,10 +6,8 @@ ghost use Rattle.definitions.specs.OptionValues as modifier;
 ghost use Rattle.definitions.specs.Refusals.{refuse_if};
 ghost use Rattle.read_insert_modifiers.specs.Modifying.{pattern_of, modifier_by, modifier_inserted};
 
-use definitions::answers::{Check, Refusal};
-use definitions::table::{
-    Context, Distance, DistanceValue, Item, Pattern, Slot, Within, WithinValue,
-};
+use definitions::answers::Refusal;
+use definitions::table::{Context, DistanceValue, Item, Pattern, Slot, WithinValue};
 use read_state::{Given, Inserted, State, bare_pattern, check_again};
 
 // The pattern in a slot; in any other slot there is none to look at.
@@ -24,11 +22,11 @@ fn pattern_of(slot: Slot) -> Pattern
 }
 
 // 9 where no pattern stands before, then 8.
-fn check_for(none: bool, again: bool) -> Check
-    ensures { result ≡ refuse_if none Refusal.ModifierWithoutPattern (refuse_if again Refusal.Repeated Check.Pass) }
+fn check_for(none: bool, again: bool) -> Result<(), Refusal>
+    ensures { result ≡ refuse_if none Refusal.ModifierWithoutPattern (refuse_if again Refusal.Repeated (Ok tt)) }
 {
     if none {
-        return Check::Refuse(Refusal::ModifierWithoutPattern);
+        return Err(Refusal::ModifierWithoutPattern);
     }
     check_again(again)
 }
@@ -101,7 +99,7 @@ pub fn insert_distance(st: State, last: Slot, d: DistanceValue) -> Inserted
         len: p.len,
         context,
         nocase: p.nocase,
-        distance: Distance::Given(d),
+        distance: Some(d),
         within,
     };
     let mut given = st.given;
@@ -123,7 +121,7 @@ pub fn insert_within(st: State, last: Slot, w: WithinValue) -> Inserted
         context,
         nocase: p.nocase,
         distance,
-        within: Within::Given(w),
+        within: Some(w),
     };
     let mut given = st.given;
     let again = given.within;

@@ -1,5 +1,5 @@
 -- The options are the rows of the definitions' table, in order; so the option of the first row with a name reads as that row.
-use Rattle.std.specs.Prelude.{if◌then◌else◌}
+use Rattle.std.specs.Prelude.{if◌then◌else◌, Some, None}
 use mathlib.Core.Path.{◌≡◌, refl, sym, ap, ◌∙◌}
 use mathlib.Core.Bool.{true, false}
 use mathlib.Core.List.{List, [], ◌∷◌, map, head-eq_of_cons-eq, tail-eq_of_cons-eq}
@@ -17,7 +17,6 @@ use Rattle.definitions.specs.OptionValues.{OptionValue}
 use Rattle.definitions.specs.Options.{Option, option_table, named_option, listed}
 use Rattle.list_laws.proofs.Every.{all_at}
 use Rattle.read_names.specs.declared.options.OptionName.{OptionName}
-use Rattle.read_names.specs.declared.options.Lookup.TheVariants.{Found, Unlisted}
 use Rattle.read_names.specs.Names.{option_order, form_of, option_names, option_count, no_capitals, option_named, parsed_as}
 
 pub rows_in_order : map form_of option_order ≡ map (λ row. row.form) option_table
@@ -44,17 +43,17 @@ abbrev pub Left : List OptionName → List (List ℕ) → List ℕ → ℕ → T
 Left os ws n k = option_named os ws n ≡ option_named (drop k os) (drop k ws) n
 
 module _ (os : List OptionName) (ws : List (List ℕ)) (n : List ℕ) (k : ℕ) (d : OptionName) (h : k < length os) (g : k < length ws) (u : Left os ws n k) where
-  row : option_named (drop k os) (drop k ws) n ≡ (if same_word n (get_or ws k []) then Found (get_or os k d) else option_named (drop (suc k) os) (drop (suc k) ws) n)
+  row : option_named (drop k os) (drop k ws) n ≡ (if same_word n (get_or ws k []) then Some (get_or os k d) else option_named (drop (suc k) os) (drop (suc k) ws) n)
   unfolding option_named
   row = rw (drop-cons os k d h, drop-cons ws k [] g)
 
-  pub row_found : same_word n (get_or ws k []) ≡ true → Found (get_or os k d) ≡ option_named os ws n
+  pub row_found : same_word n (get_or ws k []) ≡ true → Some (get_or os k d) ≡ option_named os ws n
   row_found t = sym (u ∙ row ∙ rw t)
 
   pub row_passed : same_word n (get_or ws k []) ≡ false → Left os ws n (k + 1)
   row_passed t = rw add-one (u ∙ row ∙ rw t)
 
-pub rows_out : (os : List OptionName) (ws : List (List ℕ)) (n : List ℕ) (k : ℕ) → length os ≤ k → Left os ws n k → Unlisted ≡ option_named os ws n
+pub rows_out : (os : List OptionName) (ws : List (List ℕ)) (n : List ℕ) (k : ℕ) → length os ≤ k → Left os ws n k → None ≡ option_named os ws n
 unfolding option_named
 rows_out os ws n k h u = sym (u ∙ rw (drop_of_length-le os {i = k} h))
 

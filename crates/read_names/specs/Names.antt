@@ -1,5 +1,5 @@
 -- The options of the table by name: their order and forms are those of its rows (`rows_in_order`).
-use Rattle.std.specs.Prelude.{ℕ, Bool, not, List, [], ◌∷◌, map, if◌then◌else◌}
+use Rattle.std.specs.Prelude.{ℕ, Bool, not, List, [], ◌∷◌, map, if◌then◌else◌, Option, Some, None}
 use Rattle.forms.specs.Bytes.{between, same_word}
 use Rattle.forms.specs.Form.{Form}
 use Rattle.forms.specs.Place.{read_at}
@@ -13,8 +13,6 @@ use Rattle.definitions.specs.Forms.{size_form, at_form, byte_form, pattern_form,
 use Rattle.definitions.specs.Options.{option_table, NamedOption, unlisted, listed}
 use Rattle.read_names.specs.declared.options.OptionName.{OptionName}
 use Rattle.read_names.specs.declared.options.OptionName.TheVariants as option
-use Rattle.read_names.specs.declared.options.Lookup.{Lookup}
-use Rattle.read_names.specs.declared.options.Lookup.TheVariants.{Found, Unlisted}
 
 -- the options in the order of the rows
 unfoldable pub option_order : List OptionName
@@ -82,12 +80,12 @@ abbrev pub no_capitals : List ℕ → Bool
 no_capitals w = all? (λ b. not (between 65 90 b)) w
 
 -- the option of the first row whose name is n, its letter case ignored
-unfoldable pub option_named : List OptionName → List (List ℕ) → List ℕ → Lookup
-option_named [] ws n = Unlisted
-option_named (o ∷ os) [] n = Unlisted
-option_named (o ∷ os) (w ∷ ws) n = if same_word n w then Found o else option_named os ws n
+unfoldable pub option_named : List OptionName → List (List ℕ) → List ℕ → Option OptionName
+option_named [] ws n = None
+option_named (o ∷ os) [] n = None
+option_named (o ∷ os) (w ∷ ws) n = if same_word n w then Some o else option_named os ws n
 
 -- what the definition makes of an option that was looked up, after its name
-abbrev pub parsed_as : Lookup → List ℕ → ℕ → NamedOption
-parsed_as (Found o) s at = listed (read_at (form_of o) s at)
-parsed_as Unlisted s at = unlisted
+abbrev pub parsed_as : Option OptionName → List ℕ → ℕ → NamedOption
+parsed_as (Some o) s at = listed (read_at (form_of o) s at)
+parsed_as None s at = unlisted

@@ -6,7 +6,7 @@ ghost use Rattle.forms.specs.Bytes.{same_word, run};
 ghost use Rattle.definitions.specs.Options.{in_name};
 ghost use Rattle.read_names.specs.Names.{option_count, option_names, no_capitals, option_order, option_named};
 
-use crate::options::{Lookup, OptionName};
+use crate::options::OptionName;
 use definitions::limits::OPTIONS;
 use scan_bytes::bytes::{Class, in_case};
 use scan_bytes::runs::run_of;
@@ -95,7 +95,7 @@ fn row_named(x: &[u8], k: usize) -> bool
 }
 
 // The option of the first row of the table whose name stands between two places.
-pub fn option_named(s: &[u8], from: usize, to: usize) -> Lookup
+pub fn option_named(s: &[u8], from: usize, to: usize) -> Option<OptionName>
     requires { (from ≤ to) × (to ≤ length s.now) }
     ensures { result ≡ option_named option_order option_names (take (to - from) (drop from s.now)) }
 {
@@ -103,9 +103,9 @@ pub fn option_named(s: &[u8], from: usize, to: usize) -> Lookup
     let mut k = 0;
     while k < OPTIONS {
         if row_named(x, k) {
-            return Lookup::Found(row_option(k));
+            return Some(row_option(k));
         }
         k += 1;
     }
-    Lookup::Unlisted
+    None
 }

@@ -1,6 +1,6 @@
 // The options of document 01's table and document 02's byte_test, told apart by name and not by number.
 
-// One option of the table. Lookup::Found has it, and what reads after the name goes by it.
+// One option of the table: what reads after its name goes by it.
 #[derive(Clone, Copy)]
 pub enum OptionName {
     Name,
@@ -26,11 +26,4 @@ pub enum OptionName {
     NoCase,
     Distance,
     Within,
-}
-
-// What the table has for a name: its option, or no row.
-#[derive(Clone, Copy)]
-pub enum Lookup {
-    Found(OptionName),
-    Unlisted,
 }

@@ -2,14 +2,13 @@
 #![tactic(auto)]
 
 ghost use Rattle.std.specs.Prelude.{◌≡◌, ◌<◌, ◌≤◌, take};
-ghost use Rattle.definitions.specs.declared.packets.LastMatch.TheVariants.{None};
 ghost use Rattle.definitions.specs.Limits.{max_items};
 ghost use Rattle.definitions.specs.Items.{kind_of, patterns_of};
 ghost use Rattle.definitions.specs.References.{usable_run};
 ghost use Rattle.read_references.specs.Counting.{usable_from, past};
 
 use definitions::limits::ITEMS;
-use definitions::packets::LastMatch;
+use definitions::packets::Match;
 use definitions::table::{Item, Pattern, Slot};
 use table_references::usable::{is_usable, last_after};
 
@@ -17,7 +16,7 @@ use table_references::usable::{is_usable, last_after};
 #[derive(Clone, Copy)]
 pub struct Run {
     pub count: usize,
-    pub last: LastMatch,
+    pub last: Option<Match>,
     pub ended: bool,
 }
 
@@ -63,7 +62,7 @@ pub fn usable_count(items: [Slot; ITEMS], count: usize) -> usize
 {
     let mut run = Run {
         count: 0,
-        last: LastMatch::None,
+        last: None,
         ended: false,
     };
     let mut i = 0;

@@ -1,7 +1,6 @@
 -- The state that options make, with the pattern bytes and items beside it, and what inserting promises of it.
-use Rattle.std.specs.Prelude.{ℕ, suc, ◌+◌, ◌≤◌, ◌≡◌, Bool, List, [], ◌∷◌, ◌++◌, map, length, take, drop, get_or, set, eqb, if◌then◌else◌}
+use Rattle.std.specs.Prelude.{ℕ, suc, ◌+◌, ◌≤◌, ◌≡◌, Bool, List, [], ◌∷◌, ◌++◌, map, length, take, drop, get_or, set, eqb, if◌then◌else◌, Ok}
 use Rattle.std.proofs.lemmas.List.Edits.{sets}
-use Rattle.definitions.specs.declared.answers.Check.TheVariants.{Pass}
 use Rattle.definitions.specs.declared.table.Address.{Address}
 use Rattle.definitions.specs.declared.table.Flow.TheVariants.{Any}
 use Rattle.definitions.specs.declared.table.Item.TheVariants as item
@@ -151,5 +150,5 @@ located_also located dash e = located ++ (record { dash = dash; value = e } ∷ 
 -- stored and the slot put at its place
 pub record InsertedRight (st : State) (last : Slot) (dash : ℕ) (v : Value) (list : List Address) (used : ℕ) (r : Inserted) : Type 0 where
   pub check : (k : After st last v list used) → r.check ≡ occurrence_check (option_values_of k.located) (option_in k)
-  pub holds : (k : After st last v list used) → r.check ≡ Pass
+  pub holds : (k : After st last v list used) → r.check ≡ Ok tt
       → Holds k.text (located_also k.located dash (option_in k)) r.state (sets k.bytes st.used k.b) (set k.items r.place r.slot)

@@ -8,9 +8,9 @@ ghost use Rattle.definitions.specs.Tables.{bare, no_slot as empty_slot};
 ghost use Rattle.read_state.specs.Sound.{without_item};
 ghost use Rattle.read_state.specs.State.{state_of};
 
-use definitions::answers::{Check, Refusal};
+use definitions::answers::Refusal;
 use definitions::limits::{ITEMS, PATTERNS};
-use definitions::table::{Context, Distance, Flow, Item, Pattern, Slot, Within};
+use definitions::table::{Context, Flow, Item, Pattern, Slot};
 use read_value::no_addresses;
 
 // Which options were given that may stand once; of the modifiers, after the last pattern.
@@ -46,7 +46,7 @@ pub struct State {
 // due the others say nothing.
 #[derive(Clone, Copy)]
 pub struct Inserted {
-    pub check: Check,
+    pub check: Result<(), Refusal>,
     pub state: State,
     pub place: usize,
     pub slot: Slot,
@@ -64,7 +64,7 @@ pub fn no_slot() -> Slot
 }
 
 // An option that makes no item and changes none.
-pub fn no_item(check: Check, state: State) -> Inserted
+pub fn no_item(check: Result<(), Refusal>, state: State) -> Inserted
     ensures { result ≡ without_item check state }
 {
     let slot = no_slot();
@@ -105,13 +105,13 @@ pub fn fresh() -> State
 }
 
 // 8, if it was given already.
-pub fn check_again(again: bool) -> Check
-    ensures { result ≡ refuse_if again Refusal.Repeated Check.Pass }
+pub fn check_again(again: bool) -> Result<(), Refusal>
+    ensures { result ≡ refuse_if again Refusal.Repeated (Ok tt) }
 {
     if again {
-        return Check::Refuse(Refusal::Repeated);
+        return Err(Refusal::Repeated);
     }
-    Check::Pass
+    Ok(())
 }
 
 // A pattern of `n` bytes without modifiers.
@@ -123,7 +123,7 @@ pub fn bare_pattern(negated: bool, n: usize) -> Pattern
         len: n,
         context: Context::Packet,
         nocase: false,
-        distance: Distance::Unset,
-        within: Within::Unset,
+        distance: None,
+        within: None,
     }
 }

@@ -1,4 +1,5 @@
 -- What an option's reading and inserting say of the definition's step.
+use Rattle.std.specs.Prelude.{Result, Ok, Err}
 use mathlib.Core.Path.{◌≡◌, refl, sym, ap, ◌∙◌, subst}
 use mathlib.Core.List.{List, [], ◌∷◌, ◌++◌, append-nil}
 use Prim.Native.Nat.{ℕ, ◌+◌, ◌≤◌}
@@ -8,8 +9,6 @@ use Rattle.forms.specs.Form.{Form}
 use Rattle.forms.specs.Place.{Parsed}
 use Rattle.definitions.specs.declared.table.Slot.{Slot}
 use Rattle.definitions.specs.Limits.{document_limits, max_items}
-use Rattle.definitions.specs.declared.answers.Check.{Check}
-use Rattle.definitions.specs.declared.answers.Check.TheVariants.{Pass, Refuse as Not}
 use Rattle.definitions.specs.declared.answers.Refusal.{Refusal}
 use Rattle.definitions.specs.declared.answers.Refusal.TheVariants as refusal
 use Rattle.definitions.specs.declared.table.Address.{Address}
@@ -25,7 +24,6 @@ use Rattle.read_value.specs.Values.{PatternBytes, pattern_bytes_of, option_value
 use Rattle.scan_cursors.specs.declared.Cursor.{Cursor}
 use Rattle.scan_cursors.specs.declared.Cursor.TheVariants as cursor
 use Rattle.scan_cursors.specs.Reads.{read_by, place_of}
-use Rattle.read_frame.specs.declared.Ended.TheVariants as ended
 use Rattle.read_frame.specs.Framing.{ended_by}
 use Rattle.read_state.specs.declared.State.{State}
 use Rattle.read_state.specs.State.{Holds, last_slot, Apart, After, located_also, state_from, state_of}
@@ -39,17 +37,17 @@ module _ (s : List ℕ) (at : ℕ) (es : List OptionValue) (K : OptionValue → 
   pub taken_unlisted : option_at s at ≡ unlisted → option_step at_letter (option_at s at) es at K ≡ refused refusal.NotListed at
   taken_unlisted e = rw e
 
-  pub taken_refused : (v : OptionValue) (d : Cursor) {q : Refusal} {place : ℕ} → option_at s at ≡ listed (read_by v d) → ended_by d ≡ ended.Refused q place
+  pub taken_refused : (v : OptionValue) (d : Cursor) {q : Refusal} {place : ℕ} → option_at s at ≡ listed (read_by v d) → ended_by d ≡ Err (record { refusal = q; place = place })
       → option_step at_letter (option_at s at) es at K ≡ refused q place
   taken_refused v d e f = rw e (go d f)
     where
-      go : (d : Cursor) {q : Refusal} {place : ℕ} → ended_by d ≡ ended.Refused q place → option_step at_letter (listed (read_by v d)) es at K ≡ refused q place
+      go : (d : Cursor) {q : Refusal} {place : ℕ} → ended_by d ≡ Err (record { refusal = q; place = place }) → option_step at_letter (listed (read_by v d)) es at K ≡ refused q place
       go (cursor.Parsed n) g = absurd (let z : ◌≡◌ {A = ℕ} 0 1 = cc in omega arith)
       go (cursor.OutOfRange p n) g = cc
       go (cursor.Failed p) g = cc
 
 -- an option that ends at a place went on to it
-pub ended_parsed : (d : Cursor) {n : ℕ} → ended_by d ≡ ended.Next n → d ≡ cursor.Parsed n
+pub ended_parsed : (d : Cursor) {n : ℕ} → ended_by d ≡ Ok n → d ≡ cursor.Parsed n
 ended_parsed (cursor.Parsed m) e = cc
 ended_parsed (cursor.OutOfRange p m) e = absurd (let z : ◌≡◌ {A = ℕ} 0 1 = cc in omega arith)
 ended_parsed (cursor.Failed p) e = absurd (let z : ◌≡◌ {A = ℕ} 0 1 = cc in omega arith)
@@ -108,13 +106,13 @@ module _ (s : List ℕ) (located : List Located) (st u : State) (bytes after : L
     (al : List Address) (b : List ℕ)
     (apart : Apart s v al b) (held : Holds s located st bytes items)
     (is : option_at s at ≡ listed (Parsed (option_value_of s v al b) n)) (inside : n ≤ length s) (onward : at + 2 ≤ n) (grown : st.used + length b ≤ n) where
-  pub stepped : (check : Check) → check ≡ occurrence_check (option_values_of located) (option_value_of s v al b)
-      → (check ≡ Pass → Holds s (located_also located at (option_value_of s v al b)) u after put)
+  pub stepped : (check : Result Unit Refusal) → check ≡ occurrence_check (option_values_of located) (option_value_of s v al b)
+      → (check ≡ Ok tt → Holds s (located_also located at (option_value_of s v al b)) u after put)
       → StepsTo s located at (step_by check at n) u after put
-  stepped Pass e h =
+  stepped (Ok tt) e h =
       let g = h refl in
       (option_value_of s v al b, (λ K. rw (is, sym e)), g, (let q = used_also at v al b apart held g in omega (arith, q, grown)), onward, inside)
-  stepped (Not r) e h = λ K. rw (is, sym e)
+  stepped (Err r) e h = λ K. rw (is, sym e)
 
 -- the place after a cursor that goes on
 pub parsed_inside : (s : List ℕ) (d : Cursor) (n : ℕ) → place_of d ≤ length s → d ≡ cursor.Parsed n → n ≤ length s

@@ -1,7 +1,5 @@
 -- One option of a text, as the definitions take it.
-use Rattle.std.specs.Prelude.{ℕ, ◌+◌, ◌≤◌, ◌<◌, ◌≡◌, List, length, get_or, drop, set, eqb, if◌then◌else◌}
-use Rattle.definitions.specs.declared.answers.Check.{Check}
-use Rattle.definitions.specs.declared.answers.Check.TheVariants.{Pass, Refuse}
+use Rattle.std.specs.Prelude.{ℕ, ◌+◌, ◌≤◌, ◌<◌, ◌≡◌, List, length, get_or, drop, set, eqb, if◌then◌else◌, Result, Ok, Err}
 use Rattle.definitions.specs.declared.answers.Refusal.TheVariants as refusal
 use Rattle.definitions.specs.declared.table.Slot.{Slot}
 use Rattle.definitions.specs.Limits.{document_limits, max_items}
@@ -16,10 +14,11 @@ use Rattle.read_by_name.specs.declared.parsed.ParsedOption.{ParsedOption}
 use Rattle.read_steps.specs.declared.Step.{Step}
 use Rattle.read_steps.specs.declared.Step.TheVariants.{Next, Done, Refused}
 use Rattle.read_steps.specs.declared.Stepped.{Stepped}
+use Rattle.definitions.specs.declared.answers.Refusal.{Refusal}
 
-abbrev pub step_by : Check → ℕ → ℕ → Step
-step_by Pass at next = Next next
-step_by (Refuse r) at next = Refused r at
+abbrev pub step_by : Result Unit Refusal → ℕ → ℕ → Step
+step_by (Ok tt) at next = Next next
+step_by (Err r) at next = Refused r at
 
 -- a step that inserts nothing
 abbrev pub step_only : Step → State → Stepped

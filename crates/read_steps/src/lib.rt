@@ -5,14 +5,13 @@ ghost use Rattle.std.specs.Prelude.{◌≡◌};
 ghost use Rattle.read_state.specs.State.{After};
 ghost use Rattle.read_steps.specs.Stepping.{Steppable, Steps, step_by, step_only, InsertsOption, closing_step, Placed, Goes};
 
-use definitions::answers::{Check, Refusal};
+use definitions::answers::Refusal;
 use definitions::limits::ITEMS;
 use definitions::table::Slot;
 use read_by_name::by_name::option_by_name;
 use read_by_name::parsed::ParsedOption;
-use read_frame::{Ended, dashes_at, ended_by};
+use read_frame::{dashes_at, ended_by};
 use read_insert::insert;
-use read_names::options::Lookup;
 use read_names::{name_end, option_named};
 use read_state::{State, no_slot};
 
@@ -73,25 +72,25 @@ fn option_step(s: &[u8], bytes: &mut [u8], st: State, last: Slot, at: usize) -> 
     let from = at + 2;
     let to = name_end(s, from);
     let found = option_named(s, from, to);
-    let Lookup::Found(option) = found else {
+    let Some(option) = found else {
         return step_only(Step::Refused(Refusal::NotListed, at), st);
     };
     let p = option_by_name(s, to, option, bytes, st.used);
     let cursor = p.cursor;
     let ended = ended_by(cursor);
     match ended {
-        Ended::Next(next) => insert_option(st, last, at, p, next),
-        Ended::Refused(r, p) => step_only(Step::Refused(r, p), st),
+        Ok(next) => insert_option(st, last, at, p, next),
+        Err(e) => step_only(Step::Refused(e.refusal, e.place), st),
     }
 }
 
 // On, unless something is due.
-fn step_by(check: Check, at: usize, next: usize) -> Step
+fn step_by(check: Result<(), Refusal>, at: usize, next: usize) -> Step
     ensures { result ≡ step_by check at next }
 {
     match check {
-        Check::Pass => Step::Next(next),
-        Check::Refuse(r) => Step::Refused(r, at),
+        Ok(()) => Step::Next(next),
+        Err(r) => Step::Refused(r, at),
     }
 }
 

@@ -6,10 +6,10 @@ ghost use Rattle.definitions.specs.Limits.{document_limits};
 ghost use Rattle.definitions.specs.Reading.{read as readText};
 ghost use Rattle.definitions.specs.AnswerNumbers.{read_numbers, read_in_numbers};
 
-use definitions::answers::{ReadOutcome, Reading, Refusal};
+use definitions::answers::{Reading, Refusal};
 use definitions::limits::{ITEMS, PATTERN_BYTES};
 use definitions::table::Table;
-use read_frame::{Front, OPENING_BYTES, front_of};
+use read_frame::{OPENING_BYTES, front_of};
 use read_insert::checking::{name_of, refused};
 use read_insert::finish;
 use read_state::{fresh, no_slot};
@@ -21,8 +21,8 @@ pub fn read(s: &[u8]) -> Reading
     ensures numbers { read_numbers result.outcome ≡ read_in_numbers document_limits s.now }
 {
     let front = front_of(s);
-    if let Front::Refused(r, p) = front {
-        return refused(r, p);
+    if let Err(e) = front {
+        return refused(e.refusal, e.place);
     }
     let none = no_slot();
     let mut bytes = [0u8; PATTERN_BYTES];
@@ -51,8 +51,8 @@ pub fn read(s: &[u8]) -> Reading
                 }
                 Step::Done => {
                     let outcome = finish(s.len(), st, items);
-                    if let ReadOutcome::Refused(r, p) = outcome {
-                        return refused(r, p);
+                    if let Err(e) = outcome {
+                        return refused(e.refusal, e.place);
                     }
                     let name = name_of(s, st.from, st.len);
                     let flow = st.flow;
@@ -67,7 +67,7 @@ pub fn read(s: &[u8]) -> Reading
                         count: st.count,
                     };
                     return Reading {
-                        outcome: ReadOutcome::Accepted,
+                        outcome: Ok(()),
                         table,
                     };
                 }

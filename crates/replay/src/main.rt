@@ -4,7 +4,7 @@
 
 ghost use Rattle.std.specs.Prelude.{◌≤◌, ◌<◌};
 
-use book_file::{BookFile, ROOM, read_book};
+use book_file::{ROOM, read_book};
 use definitions::books::Rules;
 use line_io::{Step, fill, rest, start, write_fed, write_last};
 use replay_lines::{LINE_BYTES, feed, finish, open};
@@ -106,8 +106,7 @@ fn run_book(rt: &(impl Print + Eprint), input: &mut impl Read, room: &[u8; ROOM]
 fn main(rt: HostRuntime) {
     let mut room = [0u8; ROOM];
     let file = read_book(&rt, &mut room);
-    match file {
-        BookFile::Read(n) => run_book(&rt, &mut rt.stdin(), &room, n),
-        BookFile::Unread => {}
+    if let Some(n) = file {
+        run_book(&rt, &mut rt.stdin(), &room, n);
     }
 }

@@ -1,12 +1,10 @@
 -- A REPLAY: what is written for a rule book and a trace. Document 02, T-05.
-use Rattle.std.specs.Prelude.{ℕ, Bool, true, false, List, [], ◌++◌, map, if◌then◌else◌}
+use Rattle.std.specs.Prelude.{ℕ, Bool, true, false, List, [], ◌++◌, map, if◌then◌else◌, Result, Ok, Err}
 use Rattle.forms.specs.Bytes.{text}
 use Rattle.definitions.specs.declared.answers.Refusal.{Refusal}
 use Rattle.definitions.specs.declared.books.Action.TheVariants as action
-use Rattle.definitions.specs.declared.books.Judgement.{Judgement}
-use Rattle.definitions.specs.declared.books.Judgement.TheVariants as judgement
 use Rattle.definitions.specs.declared.books.Decision.{Decision}
-use Rattle.definitions.specs.declared.books.Decision.TheVariants as decision
+use Rattle.definitions.specs.declared.answers.BookRefusal.{BookRefusal}
 use Rattle.definitions.specs.Limits.{Limits}
 use Rattle.definitions.specs.Lists.{count}
 use Rattle.definitions.specs.Canonical.{decimal}
@@ -24,10 +22,10 @@ pub data Outcome : Type 0 where
   bad : Outcome
 
 -- by what the rules decide, which is never a refusal: the book was judged before
-abbrev pub outcome_by : Decision → Outcome
-outcome_by (decision.Decided action.Pass n) = pass n
-outcome_by (decision.Decided action.Hold n) = hold n
-outcome_by (decision.Refused r line) = bad
+abbrev pub outcome_by : Result Decision BookRefusal → Outcome
+outcome_by (Ok d) = pass d.rule
+outcome_by (Ok d) = hold d.rule
+outcome_by (Err e) = bad
 
 -- word, tab, deciding rule
 abbrev pub outcome_text : Outcome → List ℕ
@@ -83,9 +81,9 @@ module _ (lim : Limits) (rs : List Rule) where
 unfoldable pub refused_output : Refusal → ℕ → List ℕ
 refused_output r line = text "book\t" ++ (refused_line r line ++ text "\n")
 
-abbrev pub output_if : Judgement → Limits → List Rule → List ℕ → List ℕ
-output_if (judgement.Accepted n) lim rs input = trace_output lim rs input
-output_if (judgement.Refused r line) lim rs input = refused_output r line
+abbrev pub output_if : Result ℕ BookRefusal → Limits → List Rule → List ℕ → List ℕ
+output_if (Ok n) lim rs input = trace_output lim rs input
+output_if (Err e) lim rs input = refused_output e.refusal e.line
 
 -- ALL THAT IS WRITTEN: the book is judged before the trace is looked at
 unfoldable pub replay_output : Limits → List ℕ → List ℕ → List ℕ

@@ -1,5 +1,6 @@
 -- An answer with its number has at most 47 bytes, and what comes after the last byte of a trace at most 116: so a feed into so much room always takes some
 -- of its input, and the end of a run always has room. Rules' numbers have two bytes.
+use Rattle.std.specs.Prelude.{Ok}
 use mathlib.Core.Path.{◌≡◌}
 use mathlib.Core.Bool.{true}
 use mathlib.Core.List.{List, [], ◌∷◌, ◌++◌, map}
@@ -12,7 +13,6 @@ use Rattle.forms.specs.Bytes.{text}
 use Rattle.forms.proofs.Bools.{by_cases, both_left, both_right}
 use Rattle.definitions.specs.declared.books.Action.{Action}
 use Rattle.definitions.specs.declared.books.Action.TheVariants as action
-use Rattle.definitions.specs.declared.books.Decision.TheVariants.{Decided}
 use Rattle.definitions.specs.Limits.{Limits}
 use Rattle.definitions.specs.Lists.{all?}
 use Rattle.definitions.specs.Canonical.{decimal}
@@ -32,7 +32,7 @@ use Rattle.replay_totals.specs.Totals.{counted, counted_all, total_text}
 use Rattle.replay_totals.proofs.Outcomes.{is_narrow}
 use Rattle.replay_lines.specs.Feeding.{last_output}
 
-decision_most : (a : Action) (n : ℕ) → n < 65536 → length (outcome_text (outcome_by (Decided a n))) ≤ 25
+decision_most : (a : Action) (n : ℕ) → n < 65536 → length (outcome_text (outcome_by (Ok (record { action = a; rule = n })))) ≤ 25
 decision_most action.Pass n h = omega (arith, length-append (text "pass\t") (decimal n), decimal_most n (omega (arith, h)))
 decision_most action.Hold n h = omega (arith, length-append (text "hold\t") (decimal n), decimal_most n (omega (arith, h)))
 

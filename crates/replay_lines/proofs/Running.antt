@@ -1,5 +1,6 @@
 -- A RUN WRITES WHAT A REPLAY OF ITS BOOK AND TRACE IS, in whatever parts the trace comes, as long as 64 bits hold the numbers of its lines. From any turn
 -- on, what is written is what every program that answers lines writes from there on, and the totals of all lines.
+use Rattle.std.specs.Prelude.{Result, Ok, Err, ℕ}
 use mathlib.Core.Path.{◌≡◌, refl, sym, ap, subst, ◌∙◌}
 use mathlib.Core.Bool.{true, false, true≢false}
 use mathlib.Core.List.{List, [], ◌∷◌, ◌++◌, map, map-append, append_assoc}
@@ -7,8 +8,6 @@ use Prim.Native.Nat.{ℕ, zero, suc, ◌+◌, ◌≤◌, ◌<◌, ◌^◌}
 use native.Mathlib.Omega.{arith}
 use lib.ListN.{length, take, drop, take-append-drop, length-append, length-map}
 use lib.Seq.{take-nil}
-use Rattle.definitions.specs.declared.books.Judgement.{Judgement}
-use Rattle.definitions.specs.declared.books.Judgement.TheVariants.{Accepted, Refused}
 use Rattle.definitions.specs.Limits.{document_limits}
 use Rattle.definitions.specs.Lines.{line_texts, output_over}
 use Rattle.definitions.specs.Books.{Rule, rules_of, judge}
@@ -34,6 +33,7 @@ use Rattle.replay_totals.specs.declared.Totals.{Totals}
 use Rattle.replay_totals.specs.Totals.{no_totals, counted_all, total_text}
 use Rattle.replay_totals.proofs.Counting.{counted_append, totals_are}
 use Rattle.replay_lines.specs.declared.Replayed.{Replayed}
+use Rattle.definitions.specs.declared.answers.BookRefusal.{BookRefusal}
 use Rattle.replay_lines.specs.Feeding.{is_accepted, opened_text, Counts, last_output}
 use Rattle.replay_lines.specs.Runs.{Replays, last, part, Run, refused, accepted}
 use Rattle.replay_lines.proofs.Kept.{kept_outcome, kept_answer}
@@ -145,18 +145,18 @@ module _ (rs : List Rule) where
 
 -- ---- by the book's judgement
 
-refused_is : (j : Judgement) (rs : List Rule) (input : List ℕ) → is_accepted j ≡ false → opened_text j ≡ output_if j document_limits rs input
-refused_is (Accepted n) rs input e = absurd (true≢false e)
-refused_is (Refused r line) rs input e = refl
+refused_is : (j : Result ℕ BookRefusal) (rs : List Rule) (input : List ℕ) → is_accepted j ≡ false → opened_text j ≡ output_if j document_limits rs input
+refused_is (Ok n) rs input e = absurd (true≢false e)
+refused_is (Err e') rs input e = refl
 
-accepted_is : (j : Judgement) (rs : List Rule) (input : List ℕ) → is_accepted j ≡ true → trace_output document_limits rs input ≡ output_if j document_limits rs input
-accepted_is (Accepted n) rs input e = refl
-accepted_is (Refused r line) rs input e = absurd (true≢false (sym e))
+accepted_is : (j : Result ℕ BookRefusal) (rs : List Rule) (input : List ℕ) → is_accepted j ≡ true → trace_output document_limits rs input ≡ output_if j document_limits rs input
+accepted_is (Ok n) rs input e = refl
+accepted_is (Err e') rs input e = absurd (true≢false (sym e))
 
-accepted_rules : (book : List ℕ) (j : Judgement) → judge document_limits book ≡ j → is_accepted j ≡ true
+accepted_rules : (book : List ℕ) (j : Result ℕ BookRefusal) → judge document_limits book ≡ j → is_accepted j ≡ true
     → rules_in book (loaded document_limits book).rules ≡ rules_of book
-accepted_rules book (Accepted n) e t = loaded_rules document_limits book n e
-accepted_rules book (Refused r line) e t = absurd (true≢false (sym t))
+accepted_rules book (Ok n) e t = loaded_rules document_limits book n e
+accepted_rules book (Err e') e t = absurd (true≢false (sym t))
 
 -- ALL THAT A RUN WRITES
 pub run_writes : (book : List ℕ) {input w : List ℕ} → length (line_texts [] input) + 1 < 2 ^ 64 → Run book input w → w ≡ replay_output document_limits book input

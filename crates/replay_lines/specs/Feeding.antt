@@ -1,7 +1,5 @@
 -- What the steps of a replay promise beside what those of every program that answers lines do: the numbers that are decided ahead, and the totals.
-use Rattle.std.specs.Prelude.{ℕ, ◌-◌, ◌≤◌, ◌≡◌, Bool, true, false, List, [], ◌++◌, map, length, take, drop}
-use Rattle.definitions.specs.declared.books.Judgement.{Judgement}
-use Rattle.definitions.specs.declared.books.Judgement.TheVariants.{Accepted, Refused}
+use Rattle.std.specs.Prelude.{ℕ, ◌-◌, ◌≤◌, ◌≡◌, Bool, true, false, List, [], ◌++◌, map, length, take, drop, Result, Ok, Err}
 use Rattle.definitions.specs.Limits.{Limits}
 use Rattle.definitions.specs.Books.{Rule}
 use Rattle.write_bytes.specs.Puts.{Puts}
@@ -13,18 +11,19 @@ use Rattle.replay_laws.specs.Replays.{outcome, replay_answer, refused_output}
 use Rattle.replay_totals.specs.OutcomeNumbers.{line_number}
 use Rattle.replay_lines.specs.declared.Ahead.{Ahead}
 use Rattle.replay_totals.specs.declared.Totals.{Totals}
+use Rattle.definitions.specs.declared.answers.BookRefusal.{BookRefusal}
 use Rattle.replay_totals.specs.Totals.{counted_all, total_text}
 
 -- ---- a book is opened
 
-abbrev pub is_accepted : Judgement → Bool
-is_accepted (Accepted n) = true
-is_accepted (Refused r line) = false
+abbrev pub is_accepted : Result ℕ BookRefusal → Bool
+is_accepted (Ok n) = true
+is_accepted (Err e) = false
 
 -- what is put then
-abbrev pub opened_text : Judgement → List ℕ
-opened_text (Accepted n) = []
-opened_text (Refused r line) = refused_output r line
+abbrev pub opened_text : Result ℕ BookRefusal → List ℕ
+opened_text (Ok n) = []
+opened_text (Err e) = refused_output e.refusal e.line
 
 module _ (lim : Limits) (rs : List Rule) where
   -- the numbers from one place to another are those of the next lines

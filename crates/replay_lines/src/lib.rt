@@ -15,7 +15,7 @@ ghost use Rattle.replay_totals.specs.Totals.{counted};
 ghost use Rattle.replay_lines.specs.Feeding.{is_accepted, opened_text, Ready, Counts, last_output, LastWhole};
 
 use definitions::answers::Refusal;
-use definitions::books::{Judgement, Rules};
+use definitions::books::Rules;
 use line_stream::{Begun, Fed, end_line, first_line, kept, last_line, next_line};
 use replay_batches::{LINES, RECORDS, decide_lines};
 use replay_records::TRACE_BYTES;
@@ -64,15 +64,15 @@ pub fn open(book: &[u8], out: &mut [u8]) -> Opened
     let judgement = b.judgement;
     let rules = b.rules;
     match judgement {
-        Judgement::Refused(r, line) => {
-            let put = put_refused_book(out, r, line);
+        Err(e) => {
+            let put = put_refused_book(out, e.refusal, e.line);
             Opened {
                 rules,
                 accepted: false,
                 put,
             }
         }
-        Judgement::Accepted(_) => Opened {
+        Ok(_) => Opened {
             rules,
             accepted: true,
             put: 0,

@@ -1,4 +1,5 @@
 -- The numbers of a map of its form are at most 65535: each field that is entered has a span of its form, and the other fields stay.
+use Rattle.std.specs.Prelude.{Option, Some, None}
 use mathlib.Core.Path.{◌≡◌}
 use mathlib.Core.Bool.{true, not, ◌&&◌}
 use mathlib.Core.List.{List, [], ◌∷◌}
@@ -8,9 +9,8 @@ use Rattle.forms.specs.Bytes.{text}
 use Rattle.forms.proofs.Bools.{by_cases, both_left, both_right}
 use Rattle.definitions.specs.declared.table.Context.{Context}
 use Rattle.definitions.specs.declared.table.Context.TheVariants as context
-use Rattle.definitions.specs.declared.packets.FieldSpan.{FieldSpan}
-use Rattle.definitions.specs.declared.packets.FieldSpan.TheVariants.{Absent, At}
 use Rattle.definitions.specs.declared.packets.FieldMap.{FieldMap}
+use Rattle.definitions.specs.declared.packets.Span.{Span}
 use Rattle.definitions.specs.Lists.{same_bytes}
 use Rattle.definitions.specs.Numbers.{is_number}
 use Rattle.definitions.specs.Fields.{present}
@@ -20,15 +20,15 @@ use Rattle.line_fields.specs.FieldMaps.{max_span, field_named, no_fields, with_f
 use Rattle.line_fields.specs.FieldMaps.{is_field, insert_field, are_fields, map_from, is_map, map_of}
 
 -- start and length of a field; zeros where it is absent
-abbrev pub start_of : FieldSpan → ℕ
-start_of Absent = 0
-start_of (At s) = s.start
+abbrev pub start_of : Option Span → ℕ
+start_of None = 0
+start_of (Some s) = s.start
 
-abbrev pub length_of : FieldSpan → ℕ
-length_of Absent = 0
-length_of (At s) = s.len
+abbrev pub length_of : Option Span → ℕ
+length_of None = 0
+length_of (Some s) = s.len
 
-pub record SpanSmall (f : FieldSpan) : Type 0 where
+pub record SpanSmall (f : Option Span) : Type 0 where
   pub start : start_of f ≤ max_span
   pub len : length_of f ≤ max_span
 
@@ -42,10 +42,10 @@ pub record MapSmall (m : FieldMap) : Type 0 where
 
 -- ---- a span
 
-absent_small : SpanSmall Absent
+absent_small : SpanSmall None
 absent_small = record { start = omega arith; len = omega arith }
 
-span_small : (s : List ℕ) → is_span s ≡ true → SpanSmall (At (line_span s))
+span_small : (s : List ℕ) → is_span s ≡ true → SpanSmall (Some (line_span s))
 unfolding is_span line_span
 span_small s t =
     let first = is_number max_span (start_in s) in
@@ -55,7 +55,7 @@ span_small s t =
 
 -- ---- a field more
 
-with_small : (m : FieldMap) (c : Context) (f : FieldSpan) → MapSmall m → SpanSmall f → MapSmall (with_field m c f)
+with_small : (m : FieldMap) (c : Context) (f : Option Span) → MapSmall m → SpanSmall f → MapSmall (with_field m c f)
 with_small m context.Packet f w s = w
 with_small m context.Uri f w s = record { uri = s; header = w.header; body = w.body; banner = w.banner; host = w.host; file = w.file }
 with_small m context.Header f w s = record { uri = w.uri; header = s; body = w.body; banner = w.banner; host = w.host; file = w.file }
@@ -69,7 +69,7 @@ unfolding is_field insert_field
 insert_small m e t w =
     let new = not (present m (field_named (field_name_in e))) in
     let span = is_span (span_in e) in
-    with_small m (field_named (field_name_in e)) (At (line_span (span_in e))) w
+    with_small m (field_named (field_name_in e)) (Some (line_span (span_in e))) w
     (span_small (span_in e) (both_right new span (both_right (contains 58 e) (new && span) t)))
 
 -- ---- all of them

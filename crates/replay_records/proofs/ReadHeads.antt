@@ -1,4 +1,5 @@
 -- THE HEAD OF A RECORD read back: its bits tell which fields are present, and two bytes, big end first, give back a number below 65536.
+use Rattle.std.specs.Prelude.{Option, Some, None}
 use mathlib.Core.Path.{◌≡◌, refl}
 use mathlib.Core.List.{List, ◌∷◌, ◌++◌}
 use Prim.Native.Nat.{ℕ, ◌+◌, ◌*◌, ◌/◌, ◌%◌, ◌≤◌}
@@ -6,9 +7,8 @@ use native.Mathlib.Omega.{arith}
 use lib.ListN.{get_or}
 use Rattle.definitions.specs.declared.packets.Direction.{Direction}
 use Rattle.definitions.specs.declared.packets.Direction.TheVariants.{Client, Server}
-use Rattle.definitions.specs.declared.packets.FieldSpan.{FieldSpan}
-use Rattle.definitions.specs.declared.packets.FieldSpan.TheVariants.{Absent, At}
 use Rattle.definitions.specs.declared.packets.FieldMap.{FieldMap}
+use Rattle.definitions.specs.declared.packets.Span.{Span}
 use Rattle.definitions.specs.Packet.{big_endian}
 use Rattle.definitions.specs.Blocks.{record_direction, record_field, record_fields, packet_length, decoded_length}
 use Rattle.guard_packets.proofs.Pairs.{pair_is}
@@ -18,17 +18,17 @@ use Rattle.replay_records.proofs.MapNumbers.{start_of, length_of, SpanSmall, Map
 
 -- ---- the bits
 
-abbrev bit : FieldSpan → ℕ
-bit Absent = 0
-bit (At s) = 1
+abbrev bit : Option Span → ℕ
+bit None = 0
+bit (Some s) = 1
 
-pub record OneBit (f : FieldSpan) (weight : ℕ) : Type 0 where
+pub record OneBit (f : Option Span) (weight : ℕ) : Type 0 where
   pub weighs : field_bit f weight ≡ weight * bit f
   pub small : bit f ≤ 1
 
-one_bit : (f : FieldSpan) (weight : ℕ) → OneBit f weight
-one_bit Absent weight = omega arith
-one_bit (At s) weight = omega arith
+one_bit : (f : Option Span) (weight : ℕ) → OneBit f weight
+one_bit None weight = omega arith
+one_bit (Some s) weight = omega arith
 
 pub record SixBits (m : FieldMap) : Type 0 where
   pub body : OneBit m.body 1
@@ -86,16 +86,16 @@ number_back l at n h high low = omega (arith, pair_is l at, h, high, low)
 -- ---- a field
 
 module _ (l : List ℕ) (weight at : ℕ) where
-  field_back : (f : FieldSpan) → SpanSmall f → get_or l 1 0 / weight % 2 ≡ bit f
+  field_back : (f : Option Span) → SpanSmall f → get_or l 1 0 / weight % 2 ≡ bit f
       → get_or l at 0 ≡ start_of f / 256 % 256 → get_or l (at + 1) 0 ≡ start_of f % 256
       → get_or l (at + 2) 0 ≡ length_of f / 256 % 256 → get_or l (at + 2 + 1) 0 ≡ length_of f % 256 → record_field l weight at ≡ f
   unfolding record_field
-  field_back Absent s b p q u v = rw b
-  field_back (At x) s b p q u v = rw (b, number_back l at x.start s.start p q, number_back l (at + 2) x.len s.len u v)
+  field_back None s b p q u v = rw b
+  field_back (Some x) s b p q u v = rw (b, number_back l at x.start s.start p q, number_back l (at + 2) x.len s.len u v)
 
 -- ---- the whole head, byte by byte
 
-abbrev pub span_onto : FieldSpan → List ℕ → List ℕ
+abbrev pub span_onto : Option Span → List ℕ → List ℕ
 span_onto f l = start_of f / 256 % 256 ∷ start_of f % 256 ∷ length_of f / 256 % 256 ∷ length_of f % 256 ∷ l
 
 abbrev pub fields_onto : FieldMap → List ℕ → List ℕ
@@ -106,9 +106,9 @@ abbrev pub head_onto : Direction → FieldMap → ℕ → ℕ → List ℕ → L
 head_onto dir m packet decoded l =
     direction_byte dir ∷ field_bits m ∷ packet / 256 % 256 ∷ packet % 256 ∷ decoded / 256 % 256 ∷ decoded % 256 ∷ fields_onto m l
 
-span_onto_lem : (f : FieldSpan) (l : List ℕ) → span_bytes f ++ l ≡ span_onto f l
-span_onto_lem Absent l = refl
-span_onto_lem (At s) l = refl
+span_onto_lem : (f : Option Span) (l : List ℕ) → span_bytes f ++ l ≡ span_onto f l
+span_onto_lem None l = refl
+span_onto_lem (Some s) l = refl
 
 pub head_onto_lem : (dir : Direction) (m : FieldMap) (packet decoded : ℕ) (l : List ℕ) → head_bytes dir m packet decoded ++ l ≡ head_onto dir m packet decoded l
 unfolding head_bytes fields_bytes

@@ -1,10 +1,9 @@
 -- THE RECORD OF A PACKET, as a block has it (Blocks.antt of the definitions): 30 bytes, then the packet, then its decoded buffer.
-use Rattle.std.specs.Prelude.{ℕ, ◌+◌, ◌/◌, ◌%◌, List, [], ◌∷◌, ◌++◌, length, if◌then◌else◌}
+use Rattle.std.specs.Prelude.{ℕ, ◌+◌, ◌/◌, ◌%◌, List, [], ◌∷◌, ◌++◌, length, if◌then◌else◌, Option, Some, None}
 use Rattle.definitions.specs.declared.packets.Direction.{Direction}
 use Rattle.definitions.specs.declared.packets.Direction.TheVariants.{Client, Server}
-use Rattle.definitions.specs.declared.packets.FieldSpan.{FieldSpan}
-use Rattle.definitions.specs.declared.packets.FieldSpan.TheVariants.{Absent, At}
 use Rattle.definitions.specs.declared.packets.FieldMap.{FieldMap}
+use Rattle.definitions.specs.declared.packets.Span.{Span}
 use Rattle.definitions.specs.Blocks.{PacketRecord}
 use Rattle.replay_laws.specs.Traces.{is_trace_line, trace_record}
 
@@ -17,18 +16,18 @@ direction_byte Client = 0
 direction_byte Server = 1
 
 -- the weight of a field's bit, if it is present
-abbrev pub field_bit : FieldSpan → ℕ → ℕ
-field_bit Absent weight = 0
-field_bit (At s) weight = weight
+abbrev pub field_bit : Option Span → ℕ → ℕ
+field_bit None weight = 0
+field_bit (Some s) weight = weight
 
 unfoldable pub field_bits : FieldMap → ℕ
 field_bits m =
     field_bit m.body 1 + field_bit m.banner 2 + field_bit m.file 4 + field_bit m.uri 8 + field_bit m.header 16 + field_bit m.host 32
 
 -- start and length; zeros where it is absent
-abbrev pub span_bytes : FieldSpan → List ℕ
-span_bytes Absent = 0 ∷ 0 ∷ 0 ∷ 0 ∷ []
-span_bytes (At s) = number_bytes s.start ++ number_bytes s.len
+abbrev pub span_bytes : Option Span → List ℕ
+span_bytes None = 0 ∷ 0 ∷ 0 ∷ 0 ∷ []
+span_bytes (Some s) = number_bytes s.start ++ number_bytes s.len
 
 unfoldable pub fields_bytes : FieldMap → List ℕ
 fields_bytes m =

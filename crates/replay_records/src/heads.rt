@@ -3,7 +3,7 @@ ghost use Rattle.std.specs.Prelude.{◌≡◌};
 ghost use Rattle.write_bytes.specs.Puts.{Puts};
 ghost use Rattle.replay_records.specs.RecordBytes.{number_bytes, direction_byte, field_bit, field_bits, span_bytes, fields_bytes, head_bytes};
 
-use definitions::packets::{Direction, FieldMap, FieldSpan};
+use definitions::packets::{Direction, FieldMap, Span};
 use write_bytes::{put, put_word};
 
 // Two bytes, big end first.
@@ -24,12 +24,12 @@ fn direction_byte(d: Direction) -> u8
 }
 
 // The weight of a field's bit, if it is present.
-fn field_bit(f: FieldSpan, weight: u8) -> u8
+fn field_bit(f: Option<Span>, weight: u8) -> u8
     ensures { result ≡ field_bit f weight }
 {
     match f {
-        FieldSpan::Absent => 0,
-        FieldSpan::At(_) => weight,
+        None => 0,
+        Some(_) => weight,
     }
 }
 
@@ -51,12 +51,12 @@ fn field_bits(m: FieldMap) -> u8
 }
 
 // Start and length; zeros where the field is absent.
-fn put_span(out: &mut [u8], at: usize, f: FieldSpan) -> usize
+fn put_span(out: &mut [u8], at: usize, f: Option<Span>) -> usize
     ensures { Puts out.old at (span_bytes f) out.new result }
 {
     match f {
-        FieldSpan::Absent => put_word(out, at, &[0, 0, 0, 0]),
-        FieldSpan::At(s) => {
+        None => put_word(out, at, &[0, 0, 0, 0]),
+        Some(s) => {
             let next = put_number(out, at, s.start);
             put_number(out, next, s.len)
         }

@@ -12,7 +12,7 @@ ghost use Rattle.replay_records.specs.RecordBytes.{record_bytes, line_bytes};
 
 use crate::heads::put_head;
 use line_numbers::hex_pairs::put_pairs;
-use line_packets::packets::{PacketColumns, PacketResult, parse_packet};
+use line_packets::packets::{PacketColumns, parse_packet};
 use line_parts::{contains, part_after, part_before};
 
 // Bytes of a line before its LF.
@@ -68,7 +68,7 @@ pub fn put_line(out: &mut [u8], at: usize, line: &[u8]) -> Recorded
     }
     let decoded = part_after(r2, b'\t');
     let packet = part_before(r1, b'\t');
-    let PacketResult::Parsed(located) = parse_packet(
+    let Some(located) = parse_packet(
         part_before(line, b'\t'),
         packet,
         part_before(r2, b'\t'),

@@ -1,4 +1,5 @@
 -- WHAT A NUMBER SAYS, by the two tests; and the number of a line says what is said of the line, where rules' numbers are below 65536.
+use Rattle.std.specs.Prelude.{Ok}
 use mathlib.Core.Path.{◌≡◌, refl, ap, ◌∙◌}
 use mathlib.Core.Bool.{Bool, true}
 use mathlib.Core.List.{List, [], ◌∷◌}
@@ -9,7 +10,6 @@ use borrow.Author.Tests.{eq-eqb, ne_eqb, le-leb, lt-leb, ltb-true}
 use Rattle.forms.proofs.Bools.{by_cases, both_left, both_right}
 use Rattle.definitions.specs.declared.books.Action.{Action}
 use Rattle.definitions.specs.declared.books.Action.TheVariants as action
-use Rattle.definitions.specs.declared.books.Decision.TheVariants.{Decided}
 use Rattle.definitions.specs.Limits.{Limits}
 use Rattle.definitions.specs.Lists.{all?}
 use Rattle.definitions.specs.Books.{Rule}
@@ -40,7 +40,7 @@ module _ (n : ℕ) (other : n ≡ bad_number → ⊥) where
 abbrev pub is_narrow : Rule → Bool
 is_narrow r = ltb r.number 65536
 
-says_decision : (a : Action) (n : ℕ) → n < 65536 → outcome_of (decision_number (Decided a n)) ≡ outcome_by (Decided a n)
+says_decision : (a : Action) (n : ℕ) → n < 65536 → outcome_of (decision_number (Ok (record { action = a; rule = n }))) ≡ outcome_by (Ok (record { action = a; rule = n }))
 says_decision action.Pass n h =
     let e : 65536 + n - 65536 ≡ n = omega arith in
     says_pass (65536 + n) (λ z. omega (arith, h, z)) (omega arith) ∙ ap pass e

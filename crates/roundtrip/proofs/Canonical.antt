@@ -1,6 +1,7 @@
 -- THE CANONICAL TEXT of a well-formed table is a text of that table, so that it reads as it; two tables have two canonical texts; and the tables that have
 -- a text
 -- are the well-formed ones. The options of the table are written option by option, stand, and make the table again.
+use Rattle.std.specs.Prelude.{None}
 use mathlib.Core.Path.{◌≡◌, refl, sym, ap, subst, ◌∙◌}
 use mathlib.Core.Bool.{true, false, ◌&&◌, false≢true}
 use mathlib.Core.List.{List, [], ◌∷◌, ◌++◌, append_assoc}
@@ -12,7 +13,6 @@ use lib.Dec.{eqb-suc-zero}
 use Rattle.forms.specs.Bytes.{text}
 use Rattle.forms.proofs.Bools.{by_cases, both_left}
 use Rattle.definitions.specs.declared.table.Table.{Table}
-use Rattle.definitions.specs.declared.packets.LastMatch.TheVariants.{None}
 use Rattle.definitions.specs.Lists.{all?, keep, count}
 use Rattle.definitions.specs.OptionValues.{OptionValue}
 use Rattle.definitions.specs.Items.{slots_of, patterns_of}

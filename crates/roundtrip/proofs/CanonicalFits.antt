@@ -1,5 +1,6 @@
 -- The options of a well-formed table's canonical text fit, and their texts say them: what the test of the table asks of each slot, name and protocol is what
 -- each option needs, and a usable pattern has no reverse without a reference.
+use Rattle.std.specs.Prelude.{Option, Some, None}
 use mathlib.Core.Path.{◌≡◌, refl, sym, ap, subst, ◌∙◌}
 use mathlib.Core.Bool.{Bool, true, false, not, ◌&&◌, ◌||◌}
 use mathlib.Core.List.{List, [], ◌∷◌, ◌++◌}
@@ -16,8 +17,6 @@ use Rattle.definitions.specs.declared.table.Flow as flows
 use Rattle.definitions.specs.declared.table.Flow.TheVariants as flow
 use Rattle.definitions.specs.declared.table.Context as contexts
 use Rattle.definitions.specs.declared.table.AddressTest.{AddressTest}
-use Rattle.definitions.specs.declared.table.Distance as distances
-use Rattle.definitions.specs.declared.table.Distance.TheVariants as distance
 use Rattle.definitions.specs.declared.table.Reference.TheVariants as reference
 use Rattle.definitions.specs.declared.table.Pattern as patterns
 use Rattle.definitions.specs.declared.table.Item.{Item}
@@ -25,8 +24,8 @@ use Rattle.definitions.specs.declared.table.Item.TheVariants as item
 use Rattle.definitions.specs.declared.table.Address.{Address}
 use Rattle.definitions.specs.declared.table.Slot.{Slot}
 use Rattle.definitions.specs.declared.table.Table.{Table}
-use Rattle.definitions.specs.declared.packets.LastMatch.{LastMatch}
-use Rattle.definitions.specs.declared.packets.LastMatch.TheVariants.{None}
+use Rattle.definitions.specs.declared.packets.Match.{Match}
+use Rattle.definitions.specs.declared.table.DistanceValue.{DistanceValue}
 use Rattle.definitions.specs.Limits.{max_name, max_byte, max_addresses}
 use Rattle.definitions.specs.Lists.{all?}
 use Rattle.definitions.specs.OptionValues.{Context, Distance, OptionValue, Name, Protocol, Flow, Test, Pattern}
@@ -51,9 +50,9 @@ good e = option_fits e && (few_addresses e && option_writable e)
 
 -- ---- usable patterns
 
-abbrev distance_writable : distances.Distance → Bool
-distance_writable distance.Unset = true
-distance_writable (distance.Given d) = offset_writable d
+abbrev distance_writable : Option DistanceValue → Bool
+distance_writable None = true
+distance_writable (Some d) = offset_writable d
 
 abbrev pattern_writable : patterns.Pattern → Bool
 pattern_writable p = distance_writable p.distance
@@ -62,19 +61,19 @@ first_of_two : (a b c : Bool) → (a || (b && c)) ≡ true → (a || b) ≡ true
 first_of_two true b c t = refl
 first_of_two false b c t = both_left b c t
 
-distance_writable_lem : (last : LastMatch) (c : contexts.Context) (d : distances.Distance) → distance_usable last c d ≡ true → distance_writable d ≡ true
-distance_writable_lem last c distance.Unset t = refl
-distance_writable_lem last c (distance.Given d) t =
+distance_writable_lem : (last : Option Match) (c : contexts.Context) (d : Option DistanceValue) → distance_usable last c d ≡ true → distance_writable d ≡ true
+distance_writable_lem last c None t = refl
+distance_writable_lem last c (Some d) t =
     first_of_two (not d.reverse) (not (same_reference d.reference reference.Match)) (le_z (pos 0) d.offset)
     (both_right (reference_usable last c d.reference) (reverse_usable d) t)
 
-usable_one : (last : LastMatch) (p : patterns.Pattern) → usable last p ≡ true → pattern_writable p ≡ true
+usable_one : (last : Option Match) (p : patterns.Pattern) → usable last p ≡ true → pattern_writable p ≡ true
 unfolding usable
 usable_one last p t =
     distance_writable_lem last p.context p.distance
     (both_left (distance_usable last p.context p.distance) (within_usable last p.context p.within && references_alike p.distance p.within) t)
 
-usable_writable : (last : LastMatch) (ps : List patterns.Pattern) → usable_run last ps ≡ length ps → all? pattern_writable ps ≡ true
+usable_writable : (last : Option Match) (ps : List patterns.Pattern) → usable_run last ps ≡ length ps → all? pattern_writable ps ≡ true
 unfolding usable_run
 usable_writable last [] e = all_none pattern_writable
 usable_writable last (p ∷ ps) e =

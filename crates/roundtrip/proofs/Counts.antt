@@ -1,5 +1,6 @@
 -- Options that may stand one after the other are few: at most 16 tests and 8 patterns, and at most 8 addresses each. By induction on the options, each
 -- of which was not refused after those before it.
+use Rattle.std.specs.Prelude.{Result, Ok}
 use mathlib.Core.Path.{◌≡◌, refl, ap, ◌∙◌}
 use mathlib.Core.Bool.{Bool, true, false, ◌||◌}
 use mathlib.Core.List.{List, [], ◌∷◌, ◌++◌}
@@ -12,8 +13,6 @@ use Rattle.forms.proofs.Bools.{by_cases}
 use Rattle.forms.proofs.Sound.{never}
 use Rattle.definitions.specs.declared.answers.Refusal.{Refusal}
 use Rattle.definitions.specs.declared.answers.Refusal.TheVariants as refusal
-use Rattle.definitions.specs.declared.answers.Check.{Check}
-use Rattle.definitions.specs.declared.answers.Check.TheVariants.{Pass}
 use Rattle.definitions.specs.Limits.{max_patterns, max_tests, max_addresses}
 use Rattle.definitions.specs.Lists.{all?, keep, count}
 use Rattle.definitions.specs.OptionValues.{OptionValue, Name, Protocol, Flow, Test, Pattern, Modified}
@@ -36,7 +35,7 @@ module _ {A : Type 0} (f : A → Bool) where
 
 -- ---- what is not due
 
-pub not_refused : (b : Bool) (r : Refusal) (d : Check) → refuse_if b r d ≡ Pass → b ≡ false
+pub not_refused : (b : Bool) (r : Refusal) (d : Result Unit Refusal) → refuse_if b r d ≡ Ok tt → b ≡ false
 not_refused true r d e = never (cc)
 not_refused false r d e = refl
 
@@ -80,7 +79,7 @@ few (Occurrences.more {before} {es} {e = Protocol p} d s) = one_more before es (
 few (Occurrences.more {before} {es} {e = Flow f} d s) = one_more before es (Flow f) (λ h. omega arith) (λ h. omega arith) refl (few s)
 few (Occurrences.more {before} {es} {e = Test it al} d s) =
     let n = neither (ltb max_addresses (length al)) (leb max_tests (count is_test before))
-    (not_refused (ltb max_addresses (length al) || leb max_tests (count is_test before)) refusal.CountExceeded Pass d) in
+    (not_refused (ltb max_addresses (length al) || leb max_tests (count is_test before)) refusal.CountExceeded (Ok tt) d) in
     one_more before es (Test it al) (λ h. omega (arith, leb-false max_tests (count is_test before) n.1)) (λ h. omega arith)
     (le-leb (length al) max_addresses (ltb-false max_addresses (length al) n.0)) (few s)
 few (Occurrences.more {before} {es} {e = Pattern n b} d s) =
@@ -88,7 +87,7 @@ few (Occurrences.more {before} {es} {e = Pattern n b} d s) =
     (λ h. omega (
       arith,
       leb-false max_patterns (count is_pattern before)
-          (not_refused (leb max_patterns (count is_pattern before)) refusal.CountExceeded Pass d),
+          (not_refused (leb max_patterns (count is_pattern before)) refusal.CountExceeded (Ok tt) d),
     )) refl (few s)
 few (Occurrences.more {before} {es} {e = Modified m} d s) = one_more before es (Modified m) (λ h. omega arith) (λ h. omega arith) refl (few s)
 

@@ -1,5 +1,6 @@
 -- The table of a text's options is well formed if its room holds their pattern bytes: the options fit, are few, and name and protocol are among them.
 -- A text has no more pattern bytes than bytes.
+use Rattle.std.specs.Prelude.{None}
 use mathlib.Core.Path.{◌≡◌, refl, sym, ◌∙◌}
 use mathlib.Core.Bool.{Bool, true, false, ◌&&◌}
 use mathlib.Core.List.{List, [], ◌∷◌, ◌++◌}
@@ -13,7 +14,6 @@ use Rattle.forms.specs.Bytes.{between}
 use Rattle.forms.specs.Form.{has}
 use Rattle.forms.proofs.Bools.{both_left, both_right}
 use Rattle.forms.proofs.Sound.{never}
-use Rattle.definitions.specs.declared.packets.LastMatch.TheVariants.{None}
 use Rattle.definitions.specs.Limits.{max_name, max_items, max_byte, max_tests, max_patterns}
 use Rattle.definitions.specs.Lists.{all?, keep, count, padded}
 use Rattle.definitions.specs.OptionValues.{OptionValue, Name, Protocol, Flow, Test, Pattern, Modified}

@@ -1,5 +1,6 @@
 -- Each option of a table's canonical text may stand after those before it: tests and patterns by their counts, and a pattern's modifiers since they stand in
 -- one order, so that none was met after the pattern.
+use Rattle.std.specs.Prelude.{Some, None, Ok, Option}
 use mathlib.Core.Path.{◌≡◌, refl, sym, subst, ◌∙◌}
 use mathlib.Core.Bool.{Bool, true, false}
 use mathlib.Core.List.{List, [], ◌∷◌, ◌++◌}
@@ -12,16 +13,13 @@ use Rattle.definitions.specs.declared.table.Flow as flows
 use Rattle.definitions.specs.declared.table.Flow.TheVariants as flow
 use Rattle.definitions.specs.declared.table.Context as contexts
 use Rattle.definitions.specs.declared.table.Context.TheVariants as context
-use Rattle.definitions.specs.declared.table.Distance as distances
-use Rattle.definitions.specs.declared.table.Distance.TheVariants as distance
-use Rattle.definitions.specs.declared.table.Within as withins
-use Rattle.definitions.specs.declared.table.Within.TheVariants as within
 use Rattle.definitions.specs.declared.table.Pattern as patterns
 use Rattle.definitions.specs.declared.table.Item.{Item}
 use Rattle.definitions.specs.declared.table.Address.{Address}
 use Rattle.definitions.specs.declared.table.Slot.{Slot}
 use Rattle.definitions.specs.declared.table.Table.{Table}
-use Rattle.definitions.specs.declared.answers.Check.TheVariants.{Pass}
+use Rattle.definitions.specs.declared.table.DistanceValue.{DistanceValue}
+use Rattle.definitions.specs.declared.table.WithinValue.{WithinValue}
 use Rattle.definitions.specs.Limits.{max_patterns, max_tests, max_addresses}
 use Rattle.definitions.specs.Lists.{all?, any?, keep, count}
 use Rattle.definitions.specs.OptionValues.{Modifier, Context, NoCase, Distance, Within, OptionValue, Name, Protocol, Flow, Test, Pattern, Modified}
@@ -97,7 +95,7 @@ module _ (tests patterns : ℕ) (rest : List OptionValue) where
       let e = i.pattern_count_lem in
       let l = latest_modifier before [] m in
       let j = passed (modifier_number m) before i in
-      let f : occurrence_check before (Modified m) ≡ Pass =
+      let f : occurrence_check before (Modified m) ≡ (Ok tt) =
       rw (ne_eqb (count is_pattern before) 0 (λ z. omega (arith, z, e, i.some)), none_again m (latest [] before) i.low) in
       Occurrences.more f
       (k (before ++ (Modified m ∷ []))
@@ -124,13 +122,13 @@ module _ (tests patterns : ℕ) (rest before : List OptionValue) where
   no_case_stands true i k = modifier_stands tests patterns rest NoCase before i k
   no_case_stands false i k = k before (passed tests patterns rest 1 before i)
 
-  distance_stands : (d : distances.Distance) → After tests patterns 2 before → Goes tests patterns rest 3 → Occurrences before (distance_option d ++ rest)
-  distance_stands distance.Unset i k = k before (passed tests patterns rest 2 before i)
-  distance_stands (distance.Given d) i k = modifier_stands tests patterns rest (Distance d) before i k
+  distance_stands : (d : Option DistanceValue) → After tests patterns 2 before → Goes tests patterns rest 3 → Occurrences before (distance_option d ++ rest)
+  distance_stands None i k = k before (passed tests patterns rest 2 before i)
+  distance_stands (Some d) i k = modifier_stands tests patterns rest (Distance d) before i k
 
-  within_stands : (w : withins.Within) → After tests patterns 3 before → Goes tests patterns rest 4 → Occurrences before (within_option w ++ rest)
-  within_stands within.Unset i k = k before (passed tests patterns rest 3 before i)
-  within_stands (within.Given w) i k = modifier_stands tests patterns rest (Within w) before i k
+  within_stands : (w : Option WithinValue) → After tests patterns 3 before → Goes tests patterns rest 4 → Occurrences before (within_option w ++ rest)
+  within_stands None i k = k before (passed tests patterns rest 3 before i)
+  within_stands (Some w) i k = modifier_stands tests patterns rest (Within w) before i k
 
 modifiers_stand : (t n : ℕ) (rest : List OptionValue) (p : patterns.Pattern) (before : List OptionValue) → After t n 0 before → Goes t n rest 4
     → Occurrences before (modifier_options p ++ rest)
@@ -156,7 +154,7 @@ module _ (rest : List OptionValue) (k : (before : List OptionValue) → PatternB
   unfolding occurrence_check keep
   test_stands it al r =
       let a = leb-true (length al) max_addresses (all_head few_addresses (Test it al) rest r.addresses) in
-      let f : occurrence_check before (Test it al) ≡ Pass =
+      let f : occurrence_check before (Test it al) ≡ (Ok tt) =
       rw (le-ltb max_addresses (length al) a, lt-leb max_tests (count is_test before) (omega (arith, r.tests))) in
       Occurrences.more f
       (k (before ++ (Test it al ∷ []))
@@ -176,7 +174,7 @@ module _ (rest : List OptionValue) (k : (before : List OptionValue) → PatternB
       let cp = count_append is_pattern before (e ∷ []) in
       let dt = count_append is_test ms rest in
       let dp = count_append is_pattern ms rest in
-      let f : occurrence_check before e ≡ Pass = rw (lt-leb max_patterns (count is_pattern before) (omega (arith, r.patterns))) in
+      let f : occurrence_check before e ≡ (Ok tt) = rw (lt-leb max_patterns (count is_pattern before) (omega (arith, r.patterns))) in
       let i : After (count is_test before) (count is_pattern before + 1) 0 (before ++ (e ∷ [])) = record {
         test_count = omega (arith, ct);
         pattern_count_lem = omega (arith, cp);

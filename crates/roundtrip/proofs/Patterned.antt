@@ -1,4 +1,5 @@
 -- A pattern's options make the pattern again: each modifier that is not the default is set by its option, and those of the next pattern are not reached.
+use Rattle.std.specs.Prelude.{Some, None, Option}
 use mathlib.Core.Path.{◌≡◌, refl, ap, ◌∙◌}
 use mathlib.Core.Bool.{Bool, true, false}
 use mathlib.Core.List.{List, [], ◌∷◌, ◌++◌, append_assoc}
@@ -7,10 +8,6 @@ use Rattle.definitions.specs.declared.table.Context as contexts
 use Rattle.definitions.specs.declared.table.Context.TheVariants as context
 use Rattle.definitions.specs.declared.table.DistanceValue.{DistanceValue}
 use Rattle.definitions.specs.declared.table.WithinValue.{WithinValue}
-use Rattle.definitions.specs.declared.table.Distance as distances
-use Rattle.definitions.specs.declared.table.Distance.TheVariants as distance
-use Rattle.definitions.specs.declared.table.Within as withins
-use Rattle.definitions.specs.declared.table.Within.TheVariants as within
 use Rattle.definitions.specs.declared.table.Pattern as patterns
 use Rattle.definitions.specs.OptionValues.{Context, NoCase, Distance, Within, OptionValue, Name, Protocol, Flow, Test, Pattern, Modified}
 use Rattle.definitions.specs.Tables.{flow_in, bare, modified, slots_in, bytes_in}
@@ -23,12 +20,12 @@ use Rattle.roundtrip.proofs.AllTests.{all_none, all_more, all_head, all_tail, al
 abbrev pub modifier_options : patterns.Pattern → List OptionValue
 modifier_options p = context_option p.context ++ (no_case_option p.nocase ++ (distance_option p.distance ++ within_option p.within))
 
-abbrev pat : Bool → ℕ → contexts.Context → Bool → distances.Distance → withins.Within → patterns.Pattern
+abbrev pat : Bool → ℕ → contexts.Context → Bool → Option DistanceValue → Option WithinValue → patterns.Pattern
 pat g n c k d w = record { negated = g; len = n; context = c; nocase = k; distance = d; within = w }
 
 module _ (es : List OptionValue) (g : Bool) (n : ℕ) where
   context_set : (c : contexts.Context)
-      → modified (context_option c ++ es) (pat g n context.Packet false distance.Unset within.Unset) ≡ modified es (pat g n c false distance.Unset within.Unset)
+      → modified (context_option c ++ es) (pat g n context.Packet false None None) ≡ modified es (pat g n c false None None)
   unfolding modified
   context_set context.Packet = refl
   context_set context.Uri = refl
@@ -40,22 +37,22 @@ module _ (es : List OptionValue) (g : Bool) (n : ℕ) where
 
   module _ (c : contexts.Context) where
     no_case_set : (k : Bool)
-        → modified (no_case_option k ++ es) (pat g n c false distance.Unset within.Unset) ≡ modified es (pat g n c k distance.Unset within.Unset)
+        → modified (no_case_option k ++ es) (pat g n c false None None) ≡ modified es (pat g n c k None None)
     unfolding modified
     no_case_set true = refl
     no_case_set false = refl
 
-    distance_set : (k : Bool) (d : distances.Distance)
-        → modified (distance_option d ++ es) (pat g n c k distance.Unset within.Unset) ≡ modified es (pat g n c k d within.Unset)
+    distance_set : (k : Bool) (d : Option DistanceValue)
+        → modified (distance_option d ++ es) (pat g n c k None None) ≡ modified es (pat g n c k d None)
     unfolding modified
-    distance_set k distance.Unset = refl
-    distance_set k (distance.Given d) = refl
+    distance_set k None = refl
+    distance_set k (Some d) = refl
 
-    within_set : (k : Bool) (d : distances.Distance) (w : withins.Within)
-        → modified (within_option w ++ es) (pat g n c k d within.Unset) ≡ modified es (pat g n c k d w)
+    within_set : (k : Bool) (d : Option DistanceValue) (w : Option WithinValue)
+        → modified (within_option w ++ es) (pat g n c k d None) ≡ modified es (pat g n c k d w)
     unfolding modified
-    within_set k d within.Unset = refl
-    within_set k d (within.Given w) = refl
+    within_set k d None = refl
+    within_set k d (Some w) = refl
 
 pub modifiers_joined : (p : patterns.Pattern) (es : List OptionValue)
     → modifier_options p ++ es ≡ context_option p.context ++ (no_case_option p.nocase ++ (distance_option p.distance ++ (within_option p.within ++ es)))
@@ -97,17 +94,17 @@ module _ (f : OptionValue → Bool) where
   no_case_all true t = all_more f (Modified NoCase) [] t (all_none f)
   no_case_all false t = all_none f
 
-  distance_all : (d : distances.Distance) → ((s : DistanceValue) → d ≡ distance.Given s → f (Modified (Distance s)) ≡ true) → all? f (distance_option d) ≡ true
-  distance_all distance.Unset t = all_none f
-  distance_all (distance.Given s) t = all_more f (Modified (Distance s)) [] (t s refl) (all_none f)
+  distance_all : (d : Option DistanceValue) → ((s : DistanceValue) → d ≡ Some s → f (Modified (Distance s)) ≡ true) → all? f (distance_option d) ≡ true
+  distance_all None t = all_none f
+  distance_all (Some s) t = all_more f (Modified (Distance s)) [] (t s refl) (all_none f)
 
-  within_all : (w : withins.Within) → ((r : WithinValue) → w ≡ within.Given r → f (Modified (Within r)) ≡ true) → all? f (within_option w) ≡ true
-  within_all within.Unset t = all_none f
-  within_all (within.Given r) t = all_more f (Modified (Within r)) [] (t r refl) (all_none f)
+  within_all : (w : Option WithinValue) → ((r : WithinValue) → w ≡ Some r → f (Modified (Within r)) ≡ true) → all? f (within_option w) ≡ true
+  within_all None t = all_none f
+  within_all (Some r) t = all_more f (Modified (Within r)) [] (t r refl) (all_none f)
 
   pub modifiers_all : (p : patterns.Pattern) → f (Modified (Context p.context)) ≡ true → f (Modified NoCase) ≡ true
-      → ((s : DistanceValue) → p.distance ≡ distance.Given s → f (Modified (Distance s)) ≡ true)
-      → ((r : WithinValue) → p.within ≡ within.Given r → f (Modified (Within r)) ≡ true) → all? f (modifier_options p) ≡ true
+      → ((s : DistanceValue) → p.distance ≡ Some s → f (Modified (Distance s)) ≡ true)
+      → ((r : WithinValue) → p.within ≡ Some r → f (Modified (Within r)) ≡ true) → all? f (modifier_options p) ≡ true
   modifiers_all p c k d w =
       all_append f (context_option p.context) (no_case_option p.nocase ++ (distance_option p.distance ++ within_option p.within))
       (context_all p.context c)

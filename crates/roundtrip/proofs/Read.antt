@@ -1,5 +1,6 @@
 -- WHAT IS READ is well formed, and within the room it has the shape of a table: an accepted text is one of the grammar, whose options make such a table.
 -- A refused one has the empty table.
+use Rattle.std.specs.Prelude.{Result, Ok, Err}
 use mathlib.Core.Path.{◌≡◌, refl, sym, ap, subst, ◌∙◌}
 use mathlib.Core.Bool.{true}
 use mathlib.Core.List.{List, []}
@@ -8,10 +9,9 @@ use Prim.Native.Nat.{ℕ, ◌≤◌}
 use native.Mathlib.Omega.{arith}
 use lib.ListN.{length, length-append}
 use Rattle.forms.proofs.Sound.{never}
-use Rattle.definitions.specs.declared.answers.ReadOutcome.{ReadOutcome}
-use Rattle.definitions.specs.declared.answers.ReadOutcome.TheVariants as outcome
 use Rattle.definitions.specs.declared.answers.Reading.{Reading}
 use Rattle.definitions.specs.declared.table.Table.{Table}
+use Rattle.definitions.specs.declared.answers.TextRefusal.{TextRefusal}
 use Rattle.definitions.specs.Limits.{Limits}
 use Rattle.definitions.specs.Lists.{all?}
 use Rattle.definitions.specs.Tables.{name_in, slots_in, bytes_in, table_of}
@@ -70,9 +70,9 @@ Either room r = (r ≡ accepted_reading r.table) ⊎ (r.table ≡ table_of room 
 pub told_either : (room : ℕ) (r : Reading) → EmptyOrAccepted room r → Either room r
 told_either room r h = go r.outcome refl
   where
-    go : (o : ReadOutcome) → r.outcome ≡ o → Either room r
-    go outcome.Accepted e = inl (ap (λ (o : ReadOutcome). record { outcome = o; table = r.table }) e)
-    go (outcome.Refused c p) e = inr (h (λ a. never (cc)))
+    go : (o : Result Unit TextRefusal) → r.outcome ≡ o → Either room r
+    go (Ok tt) e = inl (ap (λ (o : Result Unit TextRefusal). record { outcome = o; table = r.table }) e)
+    go (Err e') e = inr (h (λ a. never (cc)))
 
 pub shaped_read : (room : ℕ) (s : List ℕ) → length s ≤ room → Shaped room (read_unbounded room s).table
 shaped_read room s h =

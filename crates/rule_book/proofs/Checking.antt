@@ -1,5 +1,5 @@
 -- A line's check, refusal by refusal in their order: each test that the code makes decides the definition's.
-use Rattle.std.specs.Prelude.{if◌then◌else◌}
+use Rattle.std.specs.Prelude.{if◌then◌else◌, Option, Some, None, Ok, Err}
 use mathlib.Core.Path.{◌≡◌, refl, sym, ap, ◌∙◌}
 use mathlib.Core.Bool.{Bool, true, false, not, false≢true}
 use mathlib.Core.List.{List}
@@ -10,8 +10,6 @@ use lib.Dec.{ltb, leb}
 use borrow.Author.Tests.{lt-ltb, le-ltb, le-leb, lt-leb}
 use Rattle.definitions.specs.declared.answers.Refusal.{Refusal}
 use Rattle.definitions.specs.declared.answers.Refusal.TheVariants as refusal
-use Rattle.definitions.specs.declared.answers.ReadOutcome.{ReadOutcome}
-use Rattle.definitions.specs.declared.answers.ReadOutcome.TheVariants as outcome
 use Rattle.definitions.specs.declared.answers.Reading.{Reading}
 use Rattle.definitions.specs.declared.books.LoadedRule.{LoadedRule}
 use Rattle.definitions.specs.Limits.{document_limits, max_rules}
@@ -19,18 +17,15 @@ use Rattle.definitions.specs.Reading.{read}
 use Rattle.definitions.specs.Books.{is_rule, rule_number, rule_source, rule_of, line_check}
 use Rattle.definitions.specs.LoadedBooks.{source_start, loaded_at}
 use Rattle.line_parts.proofs.Results.{failed_test, parsed_test, parsed_value}
-use Rattle.book_rules.specs.declared.RuleResult.{RuleResult}
-use Rattle.book_rules.specs.declared.RuleResult.TheVariants.{Parsed, Failed}
 use Rattle.book_rules.specs.RuleLines.{parsed_rule}
 use Rattle.book_laws.proofs.Sources.{source_within, source_at}
-use Rattle.rule_book.specs.declared.LineResult.TheVariants.{Passed, Refused}
 use Rattle.rule_book.specs.Lines.{checked_line}
 
 -- the two answers for a line's form are apart
-apart : (v : LoadedRule) → Parsed v ≡ Failed → ⊥
+apart : (v : LoadedRule) → Some v ≡ None → ⊥
 apart v e = false≢true cc
 
-same : (v w : LoadedRule) → Parsed v ≡ Parsed w → v ≡ w
+same : (v w : LoadedRule) → Some v ≡ Some w → v ≡ w
 same v w e = cc
 
 -- from a place up to so many bytes further, as a slice has it
@@ -38,19 +33,19 @@ pub part_long : (start len : ℕ) (l : List ℕ) → take (start + len - start) 
 part_long start len l = let z : start + len - start ≡ len = omega arith in ap (λ (n : ℕ). take n (drop start l)) z
 
 module _ (n last : ℕ) (l : List ℕ) where
-  pub line_over : max_rules ≤ n → Refused refusal.RuleCount ≡ checked_line document_limits n last l
+  pub line_over : max_rules ≤ n → Err refusal.RuleCount ≡ checked_line document_limits n last l
   unfolding checked_line line_check
   line_over h = rw (lt-ltb max_rules (suc n) (omega (arith, h)))
 
-  module _ (few : n < max_rules) (x : RuleResult) (e : x ≡ parsed_rule l) where
-    pub other_form : x ≡ Failed → Refused refusal.RuleForm ≡ checked_line document_limits n last l
+  module _ (few : n < max_rules) (x : Option LoadedRule) (e : x ≡ parsed_rule l) where
+    pub other_form : x ≡ None → Err refusal.RuleForm ≡ checked_line document_limits n last l
     unfolding checked_line line_check parsed_rule
-    other_form k = rw (le-ltb max_rules (suc n) (omega (arith, few)), failed_test Parsed Failed apart (is_rule l) (loaded_at 0 l) (sym e ∙ k))
+    other_form k = rw (le-ltb max_rules (suc n) (omega (arith, few)), failed_test Some None apart (is_rule l) (loaded_at 0 l) (sym e ∙ k))
 
-    module _ (r : LoadedRule) (k : x ≡ Parsed r) where
+    module _ (r : LoadedRule) (k : x ≡ Some r) where
       is-rule : (is_rule l ≡ true) × (r ≡ loaded_at 0 l)
       unfolding parsed_rule
-      is-rule = (parsed_test Parsed Failed apart (is_rule l) (loaded_at 0 l) r (sym e ∙ k), sym (parsed_value Parsed Failed apart same (is_rule l) (loaded_at 0 l) r (sym e ∙ k)))
+      is-rule = (parsed_test Some None apart (is_rule l) (loaded_at 0 l) r (sym e ∙ k), sym (parsed_value Some None apart same (is_rule l) (loaded_at 0 l) r (sym e ∙ k)))
 
       -- its text lies in the line
       pub text-within : r.start + r.len ≤ length l
@@ -65,7 +60,7 @@ module _ (n last : ℕ) (l : List ℕ) where
       unfolding loaded_at rule_of
       number_is = rw is-rule.1
 
-      pub not-rising : r.number ≤ last → Refused refusal.RuleOrder ≡ checked_line document_limits n last l
+      pub not-rising : r.number ≤ last → Err refusal.RuleOrder ≡ checked_line document_limits n last l
       unfolding checked_line line_check
       not-rising h = rw (le-ltb max_rules (suc n) (omega (arith, few)), is-rule.0, le-leb (rule_number l) last (omega (arith, h, number_is)))
 
@@ -73,13 +68,13 @@ module _ (n last : ℕ) (l : List ℕ) where
         outcome-is : y.outcome ≡ (read document_limits (rule_source l)).outcome
         outcome-is = ap (λ (z : Reading). z.outcome) (f ∙ ap (read document_limits) (g ∙ text-is))
 
-        pub text-refused : (c : Refusal) (place : ℕ) → y.outcome ≡ outcome.Refused c place → Refused c ≡ checked_line document_limits n last l
+        pub text-refused : (c : Refusal) (place : ℕ) → y.outcome ≡ Err (record { refusal = c; place = place }) → Err c ≡ checked_line document_limits n last l
         unfolding checked_line line_check
         text-refused c place q =
             rw (le-ltb max_rules (suc n) (omega (arith, few)), is-rule.0, lt-leb (rule_number l) last (omega (arith, rises, number_is)), sym outcome-is ∙ q)
 
-        pub line-passed : y.outcome ≡ outcome.Accepted → Passed r ≡ checked_line document_limits n last l
+        pub line-passed : y.outcome ≡ Ok tt → Ok r ≡ checked_line document_limits n last l
         unfolding checked_line line_check
         line-passed q =
             rw (le-ltb max_rules (suc n) (omega (arith, few)), is-rule.0, lt-leb (rule_number l) last (omega (arith, rises, number_is)), sym outcome-is ∙ q)
-            (ap Passed is-rule.1)
+            (ap Ok is-rule.1)

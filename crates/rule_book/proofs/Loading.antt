@@ -1,6 +1,7 @@
 -- The loop of loading (`Loading`): the book's lines up to a place are judged good and their rules stand in the list, and the loaded book is what these come to with
 -- the lines that are left. It begins with no line (`loading_in`); a line that passes goes over to the list (`loading-on`); one that is refused (`loading-not`), or
 -- the book's end (`loading_out`), decides.
+use Rattle.std.specs.Prelude.{Result, Ok, Err}
 use mathlib.Core.Path.{◌≡◌, refl, sym, ap, ◌∙◌}
 use mathlib.Core.Bool.{Bool, true, false, not, false≢true}
 use mathlib.Core.List.{List, [], ◌∷◌, ◌++◌, append-nil}
@@ -12,9 +13,6 @@ use lib.Dec.{ltb}
 use borrow.Author.Tests.{lt-ltb, le-ltb, ltb-false}
 use Rattle.definitions.specs.declared.answers.Refusal.{Refusal}
 use Rattle.definitions.specs.declared.answers.Refusal.TheVariants as refusal
-use Rattle.definitions.specs.declared.answers.Check.{Check}
-use Rattle.definitions.specs.declared.answers.Check.TheVariants.{Pass, Refuse}
-use Rattle.definitions.specs.declared.books.Judgement.TheVariants as judgement
 use Rattle.definitions.specs.declared.books.LoadedRule.{LoadedRule}
 use Rattle.definitions.specs.declared.books.LoadedBook.{LoadedBook}
 use Rattle.definitions.specs.Limits.{document_limits, max_book, max_rules}
@@ -26,8 +24,6 @@ use Rattle.list_laws.proofs.Padded.{padded_one, padded_full}
 use Rattle.laws.proofs.Checks.{refuse_fine}
 use Rattle.book_laws.proofs.Lines.{lines_first}
 use Rattle.book_laws.proofs.Sources.{start_within}
-use Rattle.rule_book.specs.declared.LineResult.{LineResult}
-use Rattle.rule_book.specs.declared.LineResult.TheVariants.{Passed, Refused}
 use Rattle.rule_book.specs.Lines.{first_line, result_by, checked_line, moved_to, refused_book}
 
 -- ---- the first line of what is left
@@ -64,13 +60,13 @@ line_le s = omega (arith, length-take (suc (find 10 s)) s)
 
 -- ---- what a line's answer tells
 
-result_refused : (d : Check) (l : List ℕ) (r : Refusal) → result_by d l ≡ Refused r → d ≡ Refuse r
-result_refused Pass l r e = let z : false ≡ true = cc in absurd (false≢true z)
-result_refused (Refuse c) l r e = cc
+result_refused : (d : Result Unit Refusal) (l : List ℕ) (r : Refusal) → result_by d l ≡ Err r → d ≡ Err r
+result_refused (Ok tt) l r e = let z : false ≡ true = cc in absurd (false≢true z)
+result_refused (Err c) l r e = cc
 
-result_passed : (d : Check) (l : List ℕ) (r : LoadedRule) → result_by d l ≡ Passed r → (d ≡ Pass) × (r ≡ loaded_at 0 l)
-result_passed Pass l r e = (refl, cc)
-result_passed (Refuse c) l r e = let z : false ≡ true = cc in absurd (false≢true z)
+result_passed : (d : Result Unit Refusal) (l : List ℕ) (r : LoadedRule) → result_by d l ≡ Ok r → (d ≡ Ok tt) × (r ≡ loaded_at 0 l)
+result_passed (Ok tt) l r e = (refl, cc)
+result_passed (Err c) l r e = let z : false ≡ true = cc in absurd (false≢true z)
 
 moved : (at : ℕ) (l : List ℕ) → moved_to at (loaded_at 0 l) ≡ loaded_at at l
 unfolding loaded_at
@@ -112,7 +108,7 @@ module _ {book : List ℕ} {list : List LoadedRule} {n last at : ℕ} (w : Loadi
   in_use = omega (arith, length-take n list, full, w.few)
 
   pub loading_out : length book ≤ at → {x : List LoadedRule} → x ≡ list
-      → record { judgement = judgement.Accepted n; rules = record { count = n; list = x } } ≡ loaded document_limits book
+      → record { judgement = Ok n; rules = record { count = n; list = x } } ≡ loaded document_limits book
   unfolding loaded_on judge_lines book_lines loaded_from
   loading_out h e =
       sym
@@ -134,16 +130,16 @@ module _ {book : List ℕ} {list : List LoadedRule} {n last at : ℕ} (w : Loadi
         ∙ ap (λ (k : List ℕ). k ∷ book_lines (drop (length k) (drop at book))) (sym e)
         ∙ ap (λ (s : List ℕ). l ∷ book_lines s) (drop-drop (length l) at book)
 
-    module _ {x : LineResult} (f : x ≡ checked_line document_limits n last l) where
-      pub loading-not : (r : Refusal) → x ≡ Refused r → {y : LoadedBook} → y ≡ refused_book r (n + 1) → y ≡ loaded document_limits book
+    module _ {x : Result LoadedRule Refusal} (f : x ≡ checked_line document_limits n last l) where
+      pub loading-not : (r : Refusal) → x ≡ Err r → {y : LoadedBook} → y ≡ refused_book r (n + 1) → y ≡ loaded document_limits book
       unfolding loaded_on judge_lines checked_line
       loading-not r k g =
           let d = result_refused (line_check document_limits (suc n) last l) l r (sym f ∙ k) in
           let z : n + 1 ≡ suc n = omega arith in
           g ∙ sym (w.answer ∙ rw (lines_are, d, z))
 
-      module _ (r : LoadedRule) (k : x ≡ Passed r) where
-        passed : (line_check document_limits (suc n) last l ≡ Pass) × (r ≡ loaded_at 0 l)
+      module _ (r : LoadedRule) (k : x ≡ Ok r) where
+        passed : (line_check document_limits (suc n) last l ≡ Ok tt) × (r ≡ loaded_at 0 l)
         unfolding checked_line
         passed = result_passed (line_check document_limits (suc n) last l) l r (sym f ∙ k)
 

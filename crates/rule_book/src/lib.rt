@@ -8,18 +8,11 @@ ghost use Rattle.definitions.specs.LoadedBooks.{unused_rule, loaded};
 ghost use Rattle.definitions.specs.AnswerNumbers.{judgement_numbers, judgement_in_numbers};
 ghost use Rattle.rule_book.specs.Lines.{first_line, checked_line, refused_book, moved_to};
 
-use book_rules::{RuleResult, parse_rule};
-use definitions::answers::{ReadOutcome, Refusal};
-use definitions::books::{Action, Judgement, LoadedBook, LoadedRule, Rules, State};
+use book_rules::parse_rule;
+use definitions::answers::{BookRefusal, Refusal};
+use definitions::books::{Action, LoadedBook, LoadedRule, Rules, State};
 use definitions::limits::{BOOK_BYTES, RULES};
 use line_parts::part_before;
-
-// A line that passes, with its rule; or its refusal.
-#[derive(Clone, Copy)]
-pub enum LineResult {
-    Passed(LoadedRule),
-    Refused(Refusal),
-}
 
 // The first line of what is left of a book, with its LF if it has one.
 fn first_line<'a>(s: &'a [u8]) -> &'a [u8]
@@ -33,25 +26,23 @@ fn first_line<'a>(s: &'a [u8]) -> &'a [u8]
 }
 
 // A line after n others, of which the last has the number `last`: 53, 51, 52, the text's own refusal, or its rule.
-fn check_line(l: &[u8], n: usize, last: u16) -> LineResult
+fn check_line(l: &[u8], n: usize, last: u16) -> Result<LoadedRule, Refusal>
     ensures { result ≡ checked_line document_limits n last l.now }
 {
     if RULES <= n {
-        return LineResult::Refused(Refusal::RuleCount);
+        return Err(Refusal::RuleCount);
     }
-    let RuleResult::Parsed(rule) = parse_rule(l) else {
-        return LineResult::Refused(Refusal::RuleForm);
-    };
+    let rule = parse_rule(l).ok_or(Refusal::RuleForm)?;
     if rule.number <= last {
-        return LineResult::Refused(Refusal::RuleOrder);
+        return Err(Refusal::RuleOrder);
     }
     let start = rule.start;
     let end = start + rule.len;
     let reading = reader::read(&l[start..end]);
     let outcome = reading.outcome;
     match outcome {
-        ReadOutcome::Accepted => LineResult::Passed(rule),
-        ReadOutcome::Refused(r, _) => LineResult::Refused(r),
+        Ok(()) => Ok(rule),
+        Err(e) => Err(e.refusal),
     }
 }
 
@@ -90,7 +81,7 @@ fn refused_book(r: Refusal, line: usize) -> LoadedBook
 {
     let list = no_rules();
     LoadedBook {
-        judgement: Judgement::Refused(r, line),
+        judgement: Err(BookRefusal { refusal: r, line }),
         rules: Rules { count: 0, list },
     }
 }
@@ -110,10 +101,10 @@ pub fn load(book: &[u8]) -> LoadedBook
         let l = first_line(&book[at..]);
         let checked = check_line(l, n, last);
         match checked {
-            LineResult::Refused(r) => {
+            Err(r) => {
                 return refused_book(r, n + 1);
             }
-            LineResult::Passed(rule) => {
+            Ok(rule) => {
                 list[n] = moved_to(at, rule);
                 last = rule.number;
                 n += 1;
@@ -122,13 +113,13 @@ pub fn load(book: &[u8]) -> LoadedBook
         }
     }
     LoadedBook {
-        judgement: Judgement::Accepted(n),
+        judgement: Ok(n),
         rules: Rules { count: n, list },
     }
 }
 
 // JUDGING: how many rules the book has, or the first refusal and its line.
-pub fn judge(book: &[u8]) -> Judgement
+pub fn judge(book: &[u8]) -> Result<usize, BookRefusal>
     ensures answer { result ≡ judgement document_limits book.now }
     ensures numbers { judgement_numbers result ≡ judgement_in_numbers document_limits book.now }
 {

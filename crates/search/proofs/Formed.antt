@@ -1,5 +1,6 @@
 -- What a well-formed table gives the search: no more items than there is room for, each pattern's bytes among the table's, a start for each positive
 -- pattern; and each placement listed has as many starts.
+use Rattle.std.specs.Prelude.{None}
 use mathlib.Core.Path.{◌≡◌, sym, ◌∙◌}
 use mathlib.Core.Bool.{Bool, true, false}
 use mathlib.Core.List.{List, [], ◌∷◌, Memᴰ as Mem}
@@ -15,7 +16,6 @@ use Rattle.definitions.specs.declared.table.Address.{Address}
 use Rattle.definitions.specs.declared.table.Slot.{Slot}
 use Rattle.definitions.specs.declared.table.Table.{Table}
 use Rattle.definitions.specs.declared.packets.Direction.{Direction}
-use Rattle.definitions.specs.declared.packets.LastMatch.TheVariants.{None}
 use Rattle.definitions.specs.declared.packets.Start.{Start}
 use Rattle.definitions.specs.Limits.{max_items, max_patterns, max_byte}
 use Rattle.definitions.specs.Lists.{keep, all?}

@@ -10,7 +10,7 @@ ghost use Rattle.search_state.specs.Choosing.{after_if};
 ghost use Rattle.search.specs.Searching.{searched_table, Searchable};
 
 use definitions::limits::{ITEMS, PATTERNS};
-use definitions::packets::{Direction, FieldMap, LastMatch, PacketHeader, Start};
+use definitions::packets::{Direction, FieldMap, PacketHeader, Start};
 use definitions::table::{Flow, Slot};
 use match_items::heads::head_holds;
 use search_items::from_item;
@@ -51,7 +51,7 @@ pub fn find<'a>(
         bytes,
         payload,
         decoded,
-        LastMatch::None,
+        None,
         empty(),
         on_bound,
     )

@@ -1,4 +1,5 @@
 -- The items that the search has gone over: tests and negated patterns that hold leave the answer to the items after them.
+use Rattle.std.specs.Prelude.{Option}
 use mathlib.Core.Path.{◌≡◌, refl, sym, ap, ◌∙◌}
 use mathlib.Core.Bool.{Bool, true, false}
 use mathlib.Core.List.{List, [], ◌∷◌}
@@ -9,7 +10,6 @@ use lib.Seq.{take_all, drop-drop}
 use Rattle.definitions.specs.declared.table.Pattern.{Pattern}
 use Rattle.definitions.specs.declared.table.Item.TheVariants as item
 use Rattle.definitions.specs.declared.table.Slot.{Slot}
-use Rattle.definitions.specs.declared.packets.LastMatch.{LastMatch}
 use Rattle.definitions.specs.declared.packets.Start.{Start}
 use Rattle.definitions.specs.declared.packets.Placement.{Placement}
 use Rattle.definitions.specs.Limits.{max_items}
@@ -22,6 +22,7 @@ use Rattle.search_state.specs.declared.outcomes.Outcome.{Outcome}
 use Rattle.search_state.specs.Outcomes.{nothing}
 use Rattle.search_state.specs.Choosing.{answer}
 use Rattle.search_state.specs.declared.input.SearchInput.{SearchInput}
+use Rattle.definitions.specs.declared.packets.Match.{Match}
 use Rattle.search_state.specs.Inputs.{items_left, slot0}
 use Rattle.search_items.specs.Items.{ReadyItems, Trying}
 use Rattle.search_items.proofs.Stepping as stepping
@@ -42,12 +43,12 @@ module _ (b : List ℕ) (from n : ℕ) where
   rest_is = take_all (length b - (from + n)) (drop (from + n) b) (omega (arith, length-drop (from + n) b)) ∙ sym (drop-drop n from b)
 
 -- what the search answers for some items wanted
-abbrev pub found : SearchInput → List ℕ → List ℕ → LastMatch → Placement → Bool → List Constraint → Outcome
+abbrev pub found : SearchInput → List ℕ → List ℕ → Option Match → Placement → Bool → List Constraint → Outcome
 found q s d l chosen on-bound ws = answer chosen on-bound (drop chosen.count q.bound) (placements (seen q.header s d q.map) ws l)
 
 -- what is known at each turn: the items from the k-th up to the i-th are gone over, and of the pattern bytes b those up to `from`; the items from the i-th on
 -- decide
-pub record Gone (q : SearchInput) (k : ℕ) (b s d : List ℕ) (l : LastMatch) (chosen : Placement) (on-bound : Bool) (i from : ℕ) : Type 0 where
+pub record Gone (q : SearchInput) (k : ℕ) (b s d : List ℕ) (l : Option Match) (chosen : Placement) (on-bound : Bool) (i from : ℕ) : Type 0 where
   pub few : q.count ≤ max_items
   pub held : q.count ≤ length q.items
   pub on : k ≤ i
@@ -55,11 +56,11 @@ pub record Gone (q : SearchInput) (k : ℕ) (b s d : List ℕ) (l : LastMatch) (
   pub ready : ReadyItems (items_left q i) (drop from b) s d l chosen
   pub same : found q s d l chosen on-bound (constraints (items_left q k) b) ≡ found q s d l chosen on-bound (constraints (items_left q i) (drop from b))
 
-pub gone_none : {q : SearchInput} {k : ℕ} {b s d : List ℕ} {l : LastMatch} {chosen : Placement} {on-bound : Bool} → q.count ≤ max_items
+pub gone_none : {q : SearchInput} {k : ℕ} {b s d : List ℕ} {l : Option Match} {chosen : Placement} {on-bound : Bool} → q.count ≤ max_items
     → q.count ≤ length q.items → ReadyItems (items_left q k) b s d l chosen → Gone q k b s d l chosen on-bound k 0
 gone_none few h rd = record { few = few; held = h; on = omega arith; inside = omega arith; ready = rd; same = refl }
 
-module _ {q : SearchInput} {k : ℕ} {b s d : List ℕ} {l : LastMatch} {chosen : Placement} {on-bound : Bool} {i from : ℕ}
+module _ {q : SearchInput} {k : ℕ} {b s d : List ℕ} {l : Option Match} {chosen : Placement} {on-bound : Bool} {i from : ℕ}
     (g : Gone q k b s d l chosen on-bound i from) where
   abbrev view : View
   view = seen q.header s d q.map

@@ -1,4 +1,5 @@
 -- One item more: what is wanted of the items left, what the search rests on after it, and what it answers.
+use Rattle.std.specs.Prelude.{Option}
 use mathlib.Core.Path.{◌≡◌, refl, ap, ◌∙◌}
 use mathlib.Core.Bool.{Bool, true, false}
 use mathlib.Core.List.{List, [], ◌∷◌}
@@ -11,7 +12,6 @@ use Rattle.definitions.specs.declared.table.Item.{Item}
 use Rattle.definitions.specs.declared.table.Item.TheVariants as item
 use Rattle.definitions.specs.declared.table.Address.{Address}
 use Rattle.definitions.specs.declared.table.Slot.{Slot}
-use Rattle.definitions.specs.declared.packets.LastMatch.{LastMatch}
 use Rattle.definitions.specs.declared.packets.Start.{Start}
 use Rattle.definitions.specs.declared.packets.Placement.{Placement}
 use Rattle.definitions.specs.References.{last_after}
@@ -30,6 +30,7 @@ use Rattle.search_state.specs.Outcomes.{nothing}
 use Rattle.search_state.specs.Choosing.{push, answer}
 use Rattle.search_state.proofs.Answering.{answer_nothing}
 use Rattle.search_state.specs.declared.input.SearchInput.{SearchInput}
+use Rattle.definitions.specs.declared.packets.Match.{Match}
 use Rattle.search_state.specs.Inputs.{items_left, slot0}
 use Rattle.search_items.specs.Items.{Small, ReadyItems, Trying}
 
@@ -87,7 +88,7 @@ positives_placed : (p : Pattern) (b : List ℕ) (ws : List Constraint) → posit
 unfolding positives
 positives_placed p b ws = refl
 
-module _ (all : List Slot) (sl : Slot) (sls : List Slot) (u : all ≡ sl ∷ sls) (b s d : List ℕ) (l : LastMatch) (chosen : Placement)
+module _ (all : List Slot) (sl : Slot) (sls : List Slot) (u : all ≡ sl ∷ sls) (b s d : List ℕ) (l : Option Match) (chosen : Placement)
     (rd : ReadyItems all b s d l chosen) where
   pub ready_test : NoPattern sl.item → ReadyItems sls b s d l chosen
   ready_test k =
@@ -139,14 +140,14 @@ module _ (all : List Slot) (sl : Slot) (sls : List Slot) (u : all ≡ sl ∷ sls
         }
 
 -- a pattern that is to be placed, and the items after it with its start chosen
-module _ (sls : List Slot) (b : List ℕ) (p : Pattern) (own s d : List ℕ) (l : LastMatch) (chosen : Placement) (tr : Trying sls b p own s d l chosen) where
+module _ (sls : List Slot) (b : List ℕ) (p : Pattern) (own s d : List ℕ) (l : Option Match) (chosen : Placement) (tr : Trying sls b p own s d l chosen) where
   pub trying_bounded : Bounded s d p own l
   trying_bounded = record { payload = tr.small.payload; decoded = tr.small.decoded; last = tr.small.last; pattern = tr.len; own = tr.own }
 
   last_small : (at : Start) → at.at + p.len < size_bound → last_end (last_after l p at) < size_bound
   last_small at h = by_cases p.negated (λ t. rw t tr.small.last) (λ t. rw t h)
 
-  pub ready_next : (at : Start) (next : LastMatch) (ws : Placement) → at.at + p.len < size_bound → next ≡ last_after l p at → ws ≡ push chosen at
+  pub ready_next : (at : Start) (next : Option Match) (ws : Placement) → at.at + p.len < size_bound → next ≡ last_after l p at → ws ≡ push chosen at
       → ReadyItems sls b s d next ws
   ready_next at next ws h en ew =
       record {
@@ -157,7 +158,7 @@ module _ (sls : List Slot) (b : List ℕ) (p : Pattern) (own s d : List ℕ) (l 
 
 -- ---- what it answers: an item that holds leaves the answer to those after it
 
-module _ (v : View) (l : LastMatch) (chosen : Placement) (on-bound : Bool) (q : List Start) (ws : List Constraint) where
+module _ (v : View) (l : Option Match) (chosen : Placement) (on-bound : Bool) (q : List Start) (ws : List Constraint) where
   module _ (it : Item) (al : List Address) where
     pub test_yes : test_holds v it al l ≡ true → answer chosen on-bound q (placements v (tested it al ∷ ws) l) ≡ answer chosen on-bound q (placements v ws l)
     unfolding placements
@@ -177,7 +178,7 @@ module _ (v : View) (l : LastMatch) (chosen : Placement) (on-bound : Bool) (q : 
     unfolding placements
     nowhere_no h = rw h (answer_nothing chosen on-bound q)
 
-pub after_last : (v : View) (l : LastMatch) (chosen : Placement) (on-bound : Bool) (q : List Start) (b : List ℕ)
+pub after_last : (v : View) (l : Option Match) (chosen : Placement) (on-bound : Bool) (q : List Start) (b : List ℕ)
     → answer chosen on-bound q (placements v (constraints [] b) l) ≡ answer chosen on-bound q ([] ∷ [])
 unfolding placements constraints
 after_last v l chosen on-bound q b = refl

@@ -1,4 +1,5 @@
 -- The trial of a pattern's starts: from its window's first start worth a try on, each with the items left.
+use Rattle.std.specs.Prelude.{Option}
 use mathlib.Core.Path.{◌≡◌, sym, ap, ◌∙◌}
 use mathlib.Core.Bool.{Bool, true, false, ◌&&◌}
 use mathlib.Core.List.{List, [], ◌∷◌, map}
@@ -8,7 +9,6 @@ use lib.ListN.{length, drop, get_or}
 use Rattle.definitions.specs.declared.table.Pattern.{Pattern}
 use Rattle.definitions.specs.declared.packets.PacketHeader.{PacketHeader}
 use Rattle.definitions.specs.declared.packets.FieldMap.{FieldMap}
-use Rattle.definitions.specs.declared.packets.LastMatch.{LastMatch}
 use Rattle.definitions.specs.declared.packets.Start.{Start}
 use Rattle.definitions.specs.declared.packets.Placement.{Placement}
 use Rattle.definitions.specs.Starts.{start_at, same_start}
@@ -30,6 +30,7 @@ use Rattle.search_state.specs.declared.outcomes.Outcome.{Outcome}
 use Rattle.search_state.specs.Outcomes.{nothing}
 use Rattle.search_state.specs.Choosing.{push, answer, found_or, start_from}
 use Rattle.search_state.specs.declared.input.SearchInput.{SearchInput}
+use Rattle.definitions.specs.declared.packets.Match.{Match}
 use Rattle.search_state.proofs.Answering.{starts_from, starts_met, starts_past, starts_out, answer_cons, answer_from, answer_nothing}
 use Rattle.search_state.specs.Inputs.{items_left}
 use Rattle.search_items.specs.Items.{ReadyItems, Trying}
@@ -38,7 +39,7 @@ use Rattle.search_items.proofs.PassedItems.{found}
 
 -- ---- before the loop
 
-module _ (header : PacketHeader) (s d : List ℕ) (m : FieldMap) (p : Pattern) (own : List ℕ) (l : LastMatch) (ws : List Constraint) (chosen : Placement)
+module _ (header : PacketHeader) (s d : List ℕ) (m : FieldMap) (p : Pattern) (own : List ℕ) (l : Option Match) (ws : List Constraint) (chosen : Placement)
     (on-bound : Bool) where
   starts_absent : present m p.context ≡ false → starts (seen header s d m) p own l ≡ []
   unfolding starts lies_in
@@ -91,8 +92,8 @@ module _ (chosen : Placement) (on-bound : Bool) (ss : List Start) (f : Start →
       (answer_cons f b (drop (chosen.count + 1) ss) chosen on-bound (start_at at) (starts_from h (at + 1) to) (λ y. number_not_before at b (a y)))
 
 -- a start that lies was tried with the items left, whose placements after a last positive pattern are those of g
-tried : (chosen : Placement) (on-bound : Bool) (ss : List Start) (g : LastMatch → List (List Start)) (la : Start → LastMatch) (h : ℕ → Bool) (at to : ℕ)
-    (s : Start) (next : LastMatch) (ws : Placement) (st : Bool) (x : Outcome)
+tried : (chosen : Placement) (on-bound : Bool) (ss : List Start) (g : Option Match → List (List Start)) (la : Start → Option Match) (h : ℕ → Bool) (at to : ℕ)
+    (s : Start) (next : Option Match) (ws : Placement) (st : Bool) (x : Outcome)
     → at < to → h at ≡ true → chosen.count < length ss → (on-bound ≡ true → (get_or ss chosen.count (start_at 0)).at ≤ at) → s ≡ start_at at
     → next ≡ la s → ws ≡ push chosen s → st ≡ (on-bound && same_start (get_or ss chosen.count (start_at 0)) s) → x ≡ answer ws st (drop ws.count ss) (g next)
     → answer chosen on-bound (drop chosen.count ss) (spread (λ (y : Start). g (la y)) (starts_from h at to))
@@ -114,7 +115,7 @@ or_missing x y z e t = e ∙ rw t
 -- ---- the starts that are tried
 
 -- what the search answers over the starts from `at` on that pass a test, each with the items left, which want ws
-abbrev over : SearchInput → List ℕ → List ℕ → LastMatch → Placement → Bool → List Constraint → Pattern → (ℕ → Bool) → ℕ → ℕ → Outcome
+abbrev over : SearchInput → List ℕ → List ℕ → Option Match → Placement → Bool → List Constraint → Pattern → (ℕ → Bool) → ℕ → ℕ → Outcome
 over q s d l chosen on-bound ws p h to at =
     answer chosen on-bound (drop chosen.count q.bound)
     (spread (λ (x : Start). placements (seen q.header s d q.map) ws (last_after l p x)) (starts_from h at to))
@@ -125,7 +126,7 @@ later q k rest = constraints (items_left q (k + 1)) rest
 
 -- what is known once the starts before `at` are done: none of them leads to a placement, and those from `at` up to `to` decide, in the field f, for the
 -- k-th item, the pattern p with the bytes own
-pub record Tried (q : SearchInput) (k : ℕ) (rest s d : List ℕ) (l : LastMatch) (chosen : Placement) (on-bound : Bool) (p : Pattern)
+pub record Tried (q : SearchInput) (k : ℕ) (rest s d : List ℕ) (l : Option Match) (chosen : Placement) (on-bound : Bool) (p : Pattern)
     (own f : List ℕ) (to at : ℕ) : Type 0 where
   pub few : (k < q.count) × (q.count ≤ max_items)
   pub trying : Trying (items_left q (k + 1)) rest p own s d l chosen
@@ -135,7 +136,7 @@ pub record Tried (q : SearchInput) (k : ℕ) (rest s d : List ℕ) (l : LastMatc
   pub ahead : on-bound ≡ true → (get_or q.bound chosen.count (start_at 0)).at ≤ at
   pub same : found q s d l chosen on-bound (matched p own ∷ later q k rest) ≡ over q s d l chosen on-bound (later q k rest) p (standing p.nocase own f) to at
 
-pub tried_none : {q : SearchInput} {k : ℕ} {rest s d : List ℕ} {l : LastMatch} {chosen : Placement} {on-bound : Bool} {p : Pattern} {own f : List ℕ}
+pub tried_none : {q : SearchInput} {k : ℕ} {rest s d : List ℕ} {l : Option Match} {chosen : Placement} {on-bound : Bool} {p : Pattern} {own f : List ℕ}
     {w : Window}
     {t : Bool} {at : ℕ}
     → (k < q.count) × (q.count ≤ max_items) → Trying (items_left q (k + 1)) rest p own s d l chosen → length f < size_bound → chosen.count < length q.bound
@@ -152,7 +153,7 @@ tried_none {q} {k} {rest} {s} {d} {l} {chosen} {on-bound} {p} {own} {f} {w} {t} 
       same = try_begin q.header s d q.map p own l (later q k rest) chosen on-bound f w sp e t g n q.bound at room a;
     }
 
-module _ {q : SearchInput} {k : ℕ} {rest s d : List ℕ} {l : LastMatch} {chosen : Placement} {on-bound : Bool} {p : Pattern} {own f : List ℕ} {to at : ℕ}
+module _ {q : SearchInput} {k : ℕ} {rest s d : List ℕ} {l : Option Match} {chosen : Placement} {on-bound : Bool} {p : Pattern} {own f : List ℕ} {to at : ℕ}
     (o : Tried q k rest s d l chosen on-bound p own f to at) where
   abbrev ws : List Constraint
   ws = later q k rest
@@ -160,7 +161,7 @@ module _ {q : SearchInput} {k : ℕ} {rest s d : List ℕ} {l : LastMatch} {chos
   abbrev stands : ℕ → Bool
   stands = standing p.nocase own f
 
-  abbrev left_after : LastMatch → List (List Start)
+  abbrev left_after : Option Match → List (List Start)
   left_after = placements (seen q.header s d q.map) ws
 
   abbrev passed_by : List Start
@@ -198,7 +199,7 @@ module _ {q : SearchInput} {k : ℕ} {rest s d : List ℕ} {l : LastMatch} {chos
     pub chosen_small : x.at + p.len < size_bound
     chosen_small = rw is (end_small more)
 
-    module _ {next : LastMatch} {ac : Placement} (en : next ≡ last_after l p x) (ea : ac ≡ push chosen x) where
+    module _ {next : Option Match} {ac : Placement} (en : next ≡ last_after l p x) (ea : ac ≡ push chosen x) where
       pub chosen-ready : ReadyItems (items_left q (k + 1)) rest s d next ac
       chosen-ready = ready_next (items_left q (k + 1)) rest p own s d l chosen o.trying x next ac chosen_small en ea
 
@@ -217,13 +218,13 @@ module _ {q : SearchInput} {k : ℕ} {rest s d : List ℕ} {l : LastMatch} {chos
         tried-vain e = one_further (or_missing r _ _ this-or e)
 
 -- what is known at each turn: besides, where a start is left to try, the bytes stand at `at`
-pub record Reached (q : SearchInput) (k : ℕ) (rest s d : List ℕ) (l : LastMatch) (chosen : Placement) (on-bound : Bool) (p : Pattern)
+pub record Reached (q : SearchInput) (k : ℕ) (rest s d : List ℕ) (l : Option Match) (chosen : Placement) (on-bound : Bool) (p : Pattern)
     (own f : List ℕ) (to at : ℕ) : Type 0 where
   pub tried : Tried q k rest s d l chosen on-bound p own f to at
   pub lies : at < to → standing p.nocase own f at ≡ true
 
 -- starts at which the bytes do not stand are passed, up to the first at which they do
-pub reached : {q : SearchInput} {k : ℕ} {rest s d : List ℕ} {l : LastMatch} {chosen : Placement} {on-bound : Bool} {p : Pattern} {own f : List ℕ} {to at r : ℕ}
+pub reached : {q : SearchInput} {k : ℕ} {rest s d : List ℕ} {l : Option Match} {chosen : Placement} {on-bound : Bool} {p : Pattern} {own f : List ℕ} {to at r : ℕ}
     → Tried q k rest s d l chosen on-bound p own f to at → r ≡ first_start (standing p.nocase own f) at (to - at)
     → Reached q k rest s d l chosen on-bound p own f to r
 reached {q} {k} {rest} {s} {d} {l} {chosen} {on-bound} {p} {own} {f} {to} {at} o e =

@@ -9,7 +9,7 @@ ghost use Rattle.search_state.specs.Choosing.{answer};
 ghost use Rattle.search_state.specs.Inputs.{items_left};
 ghost use Rattle.search_items.specs.Items.{ReadyItems, Trying};
 
-use definitions::packets::{LastMatch, Placement};
+use definitions::packets::{Match, Placement};
 use definitions::table::{Item, Pattern};
 use fields::{field_of, is_present};
 use match_items::negated::negated_holds;
@@ -30,7 +30,7 @@ pub fn from_item<'a>(
     bytes: &[u8],
     payload: &'a [u8],
     decoded: &'a [u8],
-    last: LastMatch,
+    last: Option<Match>,
     chosen: Placement,
     on_bound: bool,
 ) -> Outcome
@@ -83,7 +83,7 @@ fn try_starts<'a>(
     rest: &[u8],
     payload: &'a [u8],
     decoded: &'a [u8],
-    last: LastMatch,
+    last: Option<Match>,
     chosen: Placement,
     on_bound: bool,
 ) -> Outcome

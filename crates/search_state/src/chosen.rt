@@ -8,7 +8,7 @@ ghost use Rattle.match_windows.specs.Spans.{size_bound};
 ghost use Rattle.search_state.specs.Choosing.{push, answer, start_from};
 
 use crate::outcomes::{Outcome, no_match};
-use definitions::packets::{LastMatch, Placement, Start};
+use definitions::packets::{Match, Placement, Start};
 use definitions::table::Pattern;
 use match_starts::{same_start, start_at, start_before};
 use table_references::usable::last_ending;
@@ -63,7 +63,7 @@ pub fn still_on_bound(on_bound: bool, s: Start, b: Start) -> bool
 }
 
 // The last positive pattern, after `p` that lies at the start `s`.
-pub fn last_after(last: LastMatch, p: Pattern, s: Start) -> LastMatch
+pub fn last_after(last: Option<Match>, p: Pattern, s: Start) -> Option<Match>
     requires { s.at + p.len < size_bound }
     ensures { result ≡ last_after last p s }
 {

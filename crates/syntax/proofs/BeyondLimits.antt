@@ -1,5 +1,6 @@
 -- 7 STANDS AT THE FIRST LIMIT THAT IS BROKEN (`beyond_limit`): the option is of its form, limits ignored; of its limits from left to right those before one
 -- are kept and this one is not; and the place is the first digit of its number, after any `0x`, or its name's first quote.
+use Rattle.std.specs.Prelude.{Err}
 use mathlib.Core.Path.{◌≡◌, refl, sym, ap, subst, ◌∙◌}
 use mathlib.Core.Bool.{Bool, false}
 use mathlib.Core.List.{List, [], ◌∷◌, ◌++◌, append_assoc}
@@ -15,7 +16,6 @@ use Rattle.forms.proofs.Sound.{never, Scanned, scanned}
 use Rattle.forms.proofs.Bounds.{FirstBroken, first_broken}
 use Rattle.forms.proofs.Parts.{AllOf, Told, each_part, all_one}
 use Rattle.definitions.specs.declared.answers.Refusal.TheVariants as refusal
-use Rattle.definitions.specs.declared.answers.ReadOutcome.TheVariants as outcome
 use Rattle.definitions.specs.Limits.{Limits}
 use Rattle.definitions.specs.OptionValues.{OptionValue}
 use Rattle.definitions.specs.Options.{listed}
@@ -123,8 +123,8 @@ limit_breaks s dash p next a =
     beyond s dash p next i w.0 b.3 b.2 w.1 w.2 b.0 f b.6
 
 -- THE PLACE OF 7, of an option whose first dash is the place that document 01 gives
-pub beyond_limit : (lim : Limits) (s : List ℕ) (p : ℕ) → (read lim s).outcome ≡ outcome.Refused refusal.Limit p
-    → (dash : ℕ) × ((read_placing at_dash lim s).outcome ≡ outcome.Refused refusal.Limit dash) × BeyondLimit s dash p
+pub beyond_limit : (lim : Limits) (s : List ℕ) (p : ℕ) → (read lim s).outcome ≡ Err (record { refusal = refusal.Limit; place = p })
+    → (dash : ℕ) × ((read_placing at_dash lim s).outcome ≡ Err (record { refusal = refusal.Limit; place = dash })) × BeyondLimit s dash p
 beyond_limit lim s p e =
     let c = limit_cause s at_letter at_dash lim p e in
     (c.0, c.5, subst (BeyondLimit s c.0) (sym c.4) (limit_breaks s c.0 c.1 c.2 c.3))

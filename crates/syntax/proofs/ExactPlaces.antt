@@ -1,5 +1,6 @@
 -- THE PLACES OF 6 AND 7 EXACTLY: what is said of them (`WrongByte`, `BeyondLimit`) holds of one place only, so that a reading refuses with 6 or 7 at a place
 -- exactly if document 01's refuses so at an option's first dash, and the place is that of the option's wrong byte, or of its first number beyond a limit.
+use Rattle.std.specs.Prelude.{Err}
 use mathlib.Core.Path.{◌≡◌, refl, sym, ap, subst, ◌∙◌}
 use mathlib.Core.Bool.{Bool, false}
 use mathlib.Core.List.{List, [], ◌∷◌, ◌++◌, append_assoc}
@@ -17,7 +18,6 @@ use Rattle.forms.proofs.Bools.{by_cases}
 use Rattle.forms.proofs.Bounds.{left_at, left_append, none_left}
 use Rattle.forms.proofs.Complete.{reads, some_byte}
 use Rattle.definitions.specs.declared.answers.Refusal.TheVariants as refusal
-use Rattle.definitions.specs.declared.answers.ReadOutcome.TheVariants as outcome
 use Rattle.definitions.specs.Limits.{Limits}
 use Rattle.definitions.specs.Lists.{none?}
 use Rattle.definitions.specs.Options.{Option, in_name, name_length}
@@ -62,8 +62,8 @@ one_wrong_byte s dash p q w u =
     (λ k. let a = ltb-false p q t in let b = ltb-false q p k in omega (arith, a, b)))
 
 -- THE PLACE OF 6 EXACTLY
-pub wrong_byte_exactly : (lim : Limits) (s : List ℕ) (p : ℕ) → ((read lim s).outcome ≡ outcome.Refused refusal.Form p)
-    ↔ ((dash : ℕ) × ((read_placing at_dash lim s).outcome ≡ outcome.Refused refusal.Form dash) × WrongByte s dash p)
+pub wrong_byte_exactly : (lim : Limits) (s : List ℕ) (p : ℕ) → ((read lim s).outcome ≡ Err (record { refusal = refusal.Form; place = p }))
+    ↔ ((dash : ℕ) × ((read_placing at_dash lim s).outcome ≡ Err (record { refusal = refusal.Form; place = dash })) × WrongByte s dash p)
 wrong_byte_exactly lim s p = (
   λ e. wrong_byte lim s p e,
   λ w.
@@ -123,8 +123,8 @@ one_beyond_limit s dash p q b c =
     i.3 ∙ ap (λ x. length s - length x) y ∙ sym j.3
 
 -- THE PLACE OF 7 EXACTLY
-pub beyond_limit_exactly : (lim : Limits) (s : List ℕ) (p : ℕ) → ((read lim s).outcome ≡ outcome.Refused refusal.Limit p)
-    ↔ ((dash : ℕ) × ((read_placing at_dash lim s).outcome ≡ outcome.Refused refusal.Limit dash) × BeyondLimit s dash p)
+pub beyond_limit_exactly : (lim : Limits) (s : List ℕ) (p : ℕ) → ((read lim s).outcome ≡ Err (record { refusal = refusal.Limit; place = p }))
+    ↔ ((dash : ℕ) × ((read_placing at_dash lim s).outcome ≡ Err (record { refusal = refusal.Limit; place = dash })) × BeyondLimit s dash p)
 beyond_limit_exactly lim s p = (
   λ e. beyond_limit lim s p e,
   λ b.

@@ -1,6 +1,6 @@
 -- The options of a text: the reader's loop ends after some options exactly if the bytes are the text of these options, each of which may stand
 -- after those before it. Complete by induction on the text, sound by induction on the bytes.
-use Rattle.std.specs.Prelude.{if◌then◌else◌}
+use Rattle.std.specs.Prelude.{if◌then◌else◌, Result, Ok, Err}
 use mathlib.Core.Path.{◌≡◌, refl, sym, ap, subst, ◌∙◌}
 use mathlib.Core.Bool.{true}
 use mathlib.Core.List.{List, [], ◌∷◌, ◌++◌, append_assoc, append-nil}
@@ -15,8 +15,7 @@ use Rattle.forms.specs.Bytes.{text}
 use Rattle.forms.specs.Place.{Parsed, OutOfRange, Failed}
 use Rattle.forms.proofs.Sound.{never}
 use Rattle.definitions.specs.declared.answers.Refusal.TheVariants as refusal
-use Rattle.definitions.specs.declared.answers.Check.{Check}
-use Rattle.definitions.specs.declared.answers.Check.TheVariants as check
+use Rattle.definitions.specs.declared.answers.Refusal.{Refusal}
 use Rattle.definitions.specs.Lists.{none?, same_bytes}
 use Rattle.definitions.specs.OptionValues.{OptionValue}
 use Rattle.definitions.specs.Options.{NamedOption, unlisted, listed, option_at}
@@ -48,7 +47,7 @@ passed_over s (b ∷ x) l at located =
 
 -- an option's text is read, and the loop goes on after it
 pub option_taken : {x : List ℕ} {e : OptionValue} → OptionText x e → (s : List ℕ) (at : ℕ) (l : List ℕ) (located : List Located) → drop at s ≡ x ++ l
-    → occurrence_check (option_values_of located) e ≡ check.Pass
+    → occurrence_check (option_values_of located) e ≡ Ok tt
     → options at_letter s (x ++ l) 0 at located ≡ options at_letter s l 0 (at + length x) (joined located at e)
 unfolding options same_bytes
 option_taken (option o n y {e} m q w) s at l located d f =
@@ -63,7 +62,7 @@ abbrev pub Ends : List ℕ → List ℕ → ℕ → List Located → List Option
 Ends s l at located es = (final : List Located) × (options at_letter s l 0 at located ≡ ended final) × (option_values_of final ≡ option_values_of located ++ es)
 
 standing_parts : {before es : List OptionValue} {e : OptionValue} → Occurrences before (e ∷ es)
-    → (occurrence_check before e ≡ check.Pass) × Occurrences (before ++ (e ∷ [])) es
+    → (occurrence_check before e ≡ Ok tt) × Occurrences (before ++ (e ∷ [])) es
 standing_parts (Occurrences.more f st) = (f, st)
 
 pub options_read_lem : {l : List ℕ} {es : List OptionValue} → OptionsText l es → (s : List ℕ) (at : ℕ) (located : List Located)
@@ -83,13 +82,13 @@ options_read_lem (OptionsBy.more {x} {l} {e} {es} t o) s at located st d =
 
 -- ---- sound
 
-check_split : (u : Check) (at : ℕ) (k : Options) (final : List Located) → unless_refused u at k ≡ ended final → (u ≡ check.Pass) × (k ≡ ended final)
-check_split check.Pass at k final q = (refl, q)
-check_split (check.Refuse r) at k final q = never (cc)
+check_split : (u : Result Unit Refusal) (at : ℕ) (k : Options) (final : List Located) → unless_refused u at k ≡ ended final → (u ≡ Ok tt) × (k ≡ ended final)
+check_split (Ok tt) at k final q = (refl, q)
+check_split (Err r) at k final q = never (cc)
 
 taken_split : (p : NamedOption) (es : List OptionValue) (at : ℕ) (k : OptionValue → ℕ → Options) (final : List Located)
     → option_step at_letter p es at k ≡ ended final
-    → (e : OptionValue) × (next : ℕ) × (p ≡ listed (Parsed e next)) × (occurrence_check es e ≡ check.Pass) × (k e next ≡ ended final)
+    → (e : OptionValue) × (next : ℕ) × (p ≡ listed (Parsed e next)) × (occurrence_check es e ≡ Ok tt) × (k e next ≡ ended final)
 taken_split unlisted es at k final q = never (cc)
 taken_split (listed (Parsed e next)) es at k final q = let i = check_split (occurrence_check es e) at (k e next) final q in (e, next, refl, i.0, i.1)
 taken_split (listed (OutOfRange p next)) es at k final q = never (cc)
@@ -119,7 +118,7 @@ module _ (s : List ℕ) (b : ℕ) (l : List ℕ) (at : ℕ) (located final : Lis
       (λ u. let z : refused refusal.NeitherOptionNorEnd (at + 1) ≡ ended final = rw u at q in impossible (cc))
 
   option_extends : drop at s ≡ b ∷ l → dashes (b ∷ l) ≡ true → (e : OptionValue) (next : ℕ) → option_at s at ≡ listed (Parsed e next)
-      → occurrence_check (option_values_of located) e ≡ check.Pass → Extends (drop (next - (at + 1)) l) (joined located at e) final → Extends (b ∷ l) located final
+      → occurrence_check (option_values_of located) e ≡ Ok tt → Extends (drop (next - (at + 1)) l) (joined located at e) final → Extends (b ∷ l) located final
   option_extends d t e next p f i =
       let w : b ∷ l ≡ 45 ∷ 45 ∷ drop 2 (b ∷ l) = (front_exactly (text "--") (b ∷ l)).0 t in
       let o = read_option s at next e (drop 2 (b ∷ l)) (d ∙ w) p in

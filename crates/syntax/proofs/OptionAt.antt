@@ -10,7 +10,6 @@ use Rattle.forms.specs.Bytes.{text, same_word}
 use Rattle.forms.specs.Place.{Read, read_at}
 use Rattle.forms.proofs.Words.{word_length}
 use Rattle.definitions.specs.declared.answers.Refusal.TheVariants as refusal
-use Rattle.definitions.specs.declared.answers.ReadOutcome.TheVariants as outcome
 use Rattle.definitions.specs.OptionValues.{OptionValue}
 use Rattle.definitions.specs.Options.{Option, option_table, in_name, name_length, listed, option_at}
 use Rattle.definitions.specs.Reading.{dashes}

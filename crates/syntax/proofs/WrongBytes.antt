@@ -1,5 +1,6 @@
 -- 6 STANDS AT THE WRONG BYTE (`wrong_byte`): what stands from the option's first dash to the place begins a text of the option, limits ignored, and with
 -- the byte at the place it begins none, or the text ends there. The option's name is settled, and its form's scanner stops at such a byte (`stops_at`).
+use Rattle.std.specs.Prelude.{Err}
 use mathlib.Core.Path.{◌≡◌, refl, sym, ap, subst, ◌∙◌}
 use mathlib.Core.Bool.{false}
 use mathlib.Core.List.{List, [], ◌∷◌, ◌++◌, append_assoc}
@@ -14,7 +15,6 @@ use Rattle.forms.proofs.Words.{word_length}
 use Rattle.forms.proofs.Complete.{reads}
 use Rattle.forms.proofs.Places.{StopsAt, stops_at}
 use Rattle.definitions.specs.declared.answers.Refusal.TheVariants as refusal
-use Rattle.definitions.specs.declared.answers.ReadOutcome.TheVariants as outcome
 use Rattle.definitions.specs.Limits.{Limits}
 use Rattle.definitions.specs.Options.{listed}
 use Rattle.definitions.specs.Reading.{at_dash, at_letter, read_placing, read}
@@ -120,8 +120,8 @@ form_fails s dash p a =
     wrong s dash p i f.0 f.1 (stops_at i.option.form (form_alone_lem i.named.listed).is_LL1 l f.0 f.1) f.2
 
 -- THE PLACE OF 6, of an option whose first dash is the place that document 01 gives
-pub wrong_byte : (lim : Limits) (s : List ℕ) (p : ℕ) → (read lim s).outcome ≡ outcome.Refused refusal.Form p
-    → (dash : ℕ) × ((read_placing at_dash lim s).outcome ≡ outcome.Refused refusal.Form dash) × WrongByte s dash p
+pub wrong_byte : (lim : Limits) (s : List ℕ) (p : ℕ) → (read lim s).outcome ≡ Err (record { refusal = refusal.Form; place = p })
+    → (dash : ℕ) × ((read_placing at_dash lim s).outcome ≡ Err (record { refusal = refusal.Form; place = dash })) × WrongByte s dash p
 wrong_byte lim s p e =
     let c = form_cause s at_letter at_dash lim p e in
     (c.0, c.4, subst (WrongByte s c.0) (sym c.3) (form_fails s c.0 c.1 c.2))

@@ -1,6 +1,5 @@
 -- What the slots of a table that are passed so far come to, and one slot more. Section "Numbers of refusal", 20.
-use Rattle.std.specs.Prelude.{◌≡◌, ℕ, ◌+◌, ◌-◌, ◌<◌, Bool, true, ◌&&◌, eqb, leb}
-use Rattle.definitions.specs.declared.packets.LastMatch.TheVariants.{None}
+use Rattle.std.specs.Prelude.{◌≡◌, ℕ, ◌+◌, ◌-◌, ◌<◌, Bool, true, ◌&&◌, eqb, leb, None}
 use Rattle.definitions.specs.declared.table.Pattern.{Pattern}
 use Rattle.definitions.specs.declared.table.Slot.{Slot}
 use Rattle.definitions.specs.Limits.{max_patterns, max_tests, max_items}

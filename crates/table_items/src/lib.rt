@@ -5,7 +5,7 @@ ghost use Rattle.std.specs.Prelude.{◌≡◌, ◌≤◌};
 ghost use Rattle.table_items.specs.Passing.{none_passed, may_follow, may_pass, Passable, past_item, ends_well};
 
 use definitions::limits::{PATTERNS, TESTS};
-use definitions::packets::LastMatch;
+use definitions::packets::Match;
 use definitions::table::{Item, Pattern, Slot};
 use table_references::usable::{is_usable, last_after};
 use table_slots::slot_fits;
@@ -15,7 +15,7 @@ use table_slots::slot_fits;
 pub struct Passed {
     pub patterns: usize,
     pub left: usize,
-    pub last: LastMatch,
+    pub last: Option<Match>,
 }
 
 // No slot passed yet.
@@ -25,7 +25,7 @@ pub fn none_passed(used: usize) -> Passed
     Passed {
         patterns: 0,
         left: used,
-        last: LastMatch::None,
+        last: None,
     }
 }
 

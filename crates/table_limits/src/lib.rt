@@ -9,9 +9,7 @@ ghost use Rattle.definitions.specs.Forms.{max_field};
 ghost use Rattle.definitions.specs.WellFormed.{address_fits, address_unused, distance_fits, item_fits};
 
 use definitions::limits::{ADDRESSES, MAX_BYTE, MAX_OFFSET, MAX_PREFIX, MAX_WORD};
-use definitions::table::{
-    Address, Distance, FieldTest, HeaderField, Item, NumberField, NumberTest, Pattern, Width,
-};
+use definitions::table::{Address, DistanceValue, FieldTest, HeaderField, Item, NumberField, NumberTest, Pattern, Width};
 
 // An address test has 1 to 8 addresses.
 pub fn count_fits(count: usize) -> bool
@@ -86,12 +84,12 @@ fn offset_fits(offset: i32) -> bool
     }
 }
 
-fn distance_fits(distance: Distance) -> bool
+fn distance_fits(distance: Option<DistanceValue>) -> bool
     ensures { result ≡ distance_fits distance }
 {
     match distance {
-        Distance::Unset => true,
-        Distance::Given(d) => offset_fits(d.offset),
+        None => true,
+        Some(d) => offset_fits(d.offset),
     }
 }
 

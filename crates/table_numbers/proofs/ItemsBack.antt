@@ -1,5 +1,6 @@
 -- An item can be told from its numbers and its offset (`item_back`): the first number says which of the ten cases it is, and the others what stands in it, an
 -- enum by the place of its case among all.
+use Rattle.std.specs.Prelude.{Option, Some, None}
 use mathlib.Core.Path.{◌≡◌, refl}
 use mathlib.Core.Bool.{Bool, true, false}
 use mathlib.Core.List.{List, [], ◌∷◌}
@@ -28,12 +29,10 @@ use Rattle.definitions.specs.declared.table.Context.{Context}
 use Rattle.definitions.specs.declared.table.Context.TheVariants as context
 use Rattle.definitions.specs.declared.table.Reference.{Reference}
 use Rattle.definitions.specs.declared.table.Reference.TheVariants as reference
-use Rattle.definitions.specs.declared.table.Distance.{Distance}
-use Rattle.definitions.specs.declared.table.Distance.TheVariants as distance
-use Rattle.definitions.specs.declared.table.Within.{Within}
-use Rattle.definitions.specs.declared.table.Within.TheVariants as within
 use Rattle.definitions.specs.declared.table.Item.{Item}
 use Rattle.definitions.specs.declared.table.Item.TheVariants as item
+use Rattle.definitions.specs.declared.table.DistanceValue.{DistanceValue}
+use Rattle.definitions.specs.declared.table.WithinValue.{WithinValue}
 use Rattle.definitions.specs.ByteCounts.{byte_count, width_of}
 use Rattle.definitions.specs.References.{context_number, reference_number}
 use Rattle.table_numbers.specs.ItemNumbers as of
@@ -146,21 +145,21 @@ reference_back reference.Context = refl
 
 -- ---- distance and within
 
-abbrev distance_of : ℕ → ℕ → ℤ → Distance
-distance_of zero reverse z = distance.Unset
-distance_of (suc r) reverse z = distance.Given (record { offset = z; reference = reference_of r; reverse = flag_of reverse })
+abbrev distance_of : ℕ → ℕ → ℤ → Option DistanceValue
+distance_of zero reverse z = None
+distance_of (suc r) reverse z = Some (record { offset = z; reference = reference_of r; reverse = flag_of reverse })
 
-distance_back : (d : Distance) → distance_of (of.distance_reference d) (of.distance_reverse d) (of.distance_offset d) ≡ d
-distance_back distance.Unset = refl
-distance_back (distance.Given d) = rw (reference_back d.reference, flag_back d.reverse)
+distance_back : (d : Option DistanceValue) → distance_of (of.distance_reference d) (of.distance_reverse d) (of.distance_offset d) ≡ d
+distance_back None = refl
+distance_back (Some d) = rw (reference_back d.reference, flag_back d.reverse)
 
-abbrev within_of : ℕ → ℕ → Within
-within_of zero n = within.Unset
-within_of (suc r) n = within.Given (record { number = n; reference = reference_of r })
+abbrev within_of : ℕ → ℕ → Option WithinValue
+within_of zero n = None
+within_of (suc r) n = Some (record { number = n; reference = reference_of r })
 
-within_back : (w : Within) → within_of (of.within_reference w) (of.within_number w) ≡ w
-within_back within.Unset = refl
-within_back (within.Given w) = rw (reference_back w.reference)
+within_back : (w : Option WithinValue) → within_of (of.within_reference w) (of.within_number w) ≡ w
+within_back None = refl
+within_back (Some w) = rw (reference_back w.reference)
 
 -- ---- the item
 

@@ -1,6 +1,6 @@
 -- AN ITEM IN NUMBERS: its case, all that stands in it, and zeros up to nine; the offset of a distance, which has a sign, stands beside them. Two items are one
 -- if both are (proofs/ItemsBack.antt: an item can be told from them).
-use Rattle.std.specs.Prelude.{ℕ, suc, Bool, true, false, List, [], ◌∷◌, ℤ, pos}
+use Rattle.std.specs.Prelude.{ℕ, suc, Bool, true, false, List, [], ◌∷◌, ℤ, pos, Option, Some, None}
 use Rattle.definitions.specs.declared.table.Flow.{Flow}
 use Rattle.definitions.specs.declared.table.Flow.TheVariants as flow
 use Rattle.definitions.specs.declared.table.Side.{Side}
@@ -17,12 +17,10 @@ use Rattle.definitions.specs.declared.table.SizeField.{SizeField}
 use Rattle.definitions.specs.declared.table.SizeField.TheVariants as size_field
 use Rattle.definitions.specs.declared.table.ByteOperator.{ByteOperator}
 use Rattle.definitions.specs.declared.table.ByteOperator.TheVariants as byte_operator
-use Rattle.definitions.specs.declared.table.Distance.{Distance}
-use Rattle.definitions.specs.declared.table.Distance.TheVariants as distance
-use Rattle.definitions.specs.declared.table.Within.{Within}
-use Rattle.definitions.specs.declared.table.Within.TheVariants as within
 use Rattle.definitions.specs.declared.table.Item.{Item}
 use Rattle.definitions.specs.declared.table.Item.TheVariants as item
+use Rattle.definitions.specs.declared.table.DistanceValue.{DistanceValue}
+use Rattle.definitions.specs.declared.table.WithinValue.{WithinValue}
 use Rattle.definitions.specs.ByteCounts.{byte_count}
 use Rattle.definitions.specs.References.{context_number, reference_number}
 
@@ -80,25 +78,25 @@ byte_operator_number byte_operator.Unequal = 3
 
 -- ---- distance and within: 0 for the reference where they are not given
 
-abbrev pub distance_reference : Distance → ℕ
-distance_reference distance.Unset = 0
-distance_reference (distance.Given d) = suc (reference_number d.reference)
+abbrev pub distance_reference : Option DistanceValue → ℕ
+distance_reference None = 0
+distance_reference (Some d) = suc (reference_number d.reference)
 
-abbrev pub distance_reverse : Distance → ℕ
-distance_reverse distance.Unset = 0
-distance_reverse (distance.Given d) = flag_number d.reverse
+abbrev pub distance_reverse : Option DistanceValue → ℕ
+distance_reverse None = 0
+distance_reverse (Some d) = flag_number d.reverse
 
-abbrev pub distance_offset : Distance → ℤ
-distance_offset distance.Unset = pos 0
-distance_offset (distance.Given d) = d.offset
+abbrev pub distance_offset : Option DistanceValue → ℤ
+distance_offset None = pos 0
+distance_offset (Some d) = d.offset
 
-abbrev pub within_reference : Within → ℕ
-within_reference within.Unset = 0
-within_reference (within.Given w) = suc (reference_number w.reference)
+abbrev pub within_reference : Option WithinValue → ℕ
+within_reference None = 0
+within_reference (Some w) = suc (reference_number w.reference)
 
-abbrev pub within_number : Within → ℕ
-within_number within.Unset = 0
-within_number (within.Given w) = w.number
+abbrev pub within_number : Option WithinValue → ℕ
+within_number None = 0
+within_number (Some w) = w.number
 
 -- ---- the item
 

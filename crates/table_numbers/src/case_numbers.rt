@@ -2,10 +2,7 @@
 ghost use Rattle.std.specs.Prelude.{◌≡◌};
 ghost use Rattle.table_numbers.specs.ItemNumbers as of;
 
-use definitions::table::{
-    ByteOperator, Distance, Flow, HeaderField, NumberField, Operator, Order, Side, SizeField,
-    Within,
-};
+use definitions::table::{ByteOperator, DistanceValue, Flow, HeaderField, NumberField, Operator, Order, Side, SizeField, WithinValue};
 use table_references::usable::reference_number;
 
 // A flag: 0 or 1.
@@ -110,12 +107,12 @@ pub fn byte_operator_number(o: ByteOperator) -> u64
 }
 
 // Which reference a distance has, counted from 1; 0 where it is not given.
-pub fn distance_reference(d: Distance) -> u64
+pub fn distance_reference(d: Option<DistanceValue>) -> u64
     ensures { result ≡ of.distance_reference d }
 {
     match d {
-        Distance::Unset => 0,
-        Distance::Given(v) => {
+        None => 0,
+        Some(v) => {
             let reference = v.reference;
             1 + reference_number(reference) as u64
         }
@@ -123,32 +120,32 @@ pub fn distance_reference(d: Distance) -> u64
 }
 
 // Whether a distance is in reverse; 0 where it is not given.
-pub fn distance_reverse(d: Distance) -> u64
+pub fn distance_reverse(d: Option<DistanceValue>) -> u64
     ensures { result ≡ of.distance_reverse d }
 {
     match d {
-        Distance::Unset => 0,
-        Distance::Given(v) => flag_number(v.reverse),
+        None => 0,
+        Some(v) => flag_number(v.reverse),
     }
 }
 
 // The offset of a distance; 0 where it is not given.
-pub fn distance_offset(d: Distance) -> i32
+pub fn distance_offset(d: Option<DistanceValue>) -> i32
     ensures { result ≡ of.distance_offset d }
 {
     match d {
-        Distance::Unset => 0,
-        Distance::Given(v) => v.offset,
+        None => 0,
+        Some(v) => v.offset,
     }
 }
 
 // Which reference a within has, counted from 1; 0 where it is not given.
-pub fn within_reference(w: Within) -> u64
+pub fn within_reference(w: Option<WithinValue>) -> u64
     ensures { result ≡ of.within_reference w }
 {
     match w {
-        Within::Unset => 0,
-        Within::Given(v) => {
+        None => 0,
+        Some(v) => {
             let reference = v.reference;
             1 + reference_number(reference) as u64
         }
@@ -156,11 +153,11 @@ pub fn within_reference(w: Within) -> u64
 }
 
 // The number of a within; 0 where it is not given.
-pub fn within_number(w: Within) -> u64
+pub fn within_number(w: Option<WithinValue>) -> u64
     ensures { result ≡ of.within_number w }
 {
     match w {
-        Within::Unset => 0,
-        Within::Given(v) => v.number as u64,
+        None => 0,
+        Some(v) => v.number as u64,
     }
 }

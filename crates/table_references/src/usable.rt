@@ -5,8 +5,8 @@ ghost use Rattle.definitions.specs.declared.packets.Start.{Start};
 ghost use Rattle.definitions.specs.Starts.{start_at};
 ghost use Rattle.definitions.specs.References.{context_number, reference_number, last_after, last_in, reference_usable, reverse_usable, distance_usable, within_usable, references_alike, usable};
 
-use definitions::packets::{LastMatch, Match};
-use definitions::table::{Context, Distance, DistanceValue, Pattern, Reference, Within};
+use definitions::packets::Match;
+use definitions::table::{Context, DistanceValue, Pattern, Reference, WithinValue};
 
 // Which case it is, so that two can be compared.
 pub fn context_number(c: Context) -> u8
@@ -35,30 +35,30 @@ pub fn reference_number(r: Reference) -> u8
 }
 
 // The last positive pattern, after `p` that ends at a place: a negated one moves no reference.
-pub fn last_ending(last: LastMatch, p: Pattern, end: usize) -> LastMatch
+pub fn last_ending(last: Option<Match>, p: Pattern, end: usize) -> Option<Match>
     ensures { (s : Start) → end ≡ s.at + p.len → result ≡ last_after last p s }
 {
     if p.negated {
         return last;
     }
     let context = p.context;
-    LastMatch::Some(Match { context, end })
+    Some(Match { context, end })
 }
 
 // The same where it plays no part at which start `p` lies.
-pub fn last_after(last: LastMatch, p: Pattern) -> LastMatch
+pub fn last_after(last: Option<Match>, p: Pattern) -> Option<Match>
     ensures { result ≡ last_after last p (start_at 0) }
 {
     last_ending(last, p, p.len)
 }
 
 // The last positive pattern, if there is one, stands in the context.
-fn last_in(last: LastMatch, c: Context) -> bool
+fn last_in(last: Option<Match>, c: Context) -> bool
     ensures { result ≡ last_in last c }
 {
     match last {
-        LastMatch::None => true,
-        LastMatch::Some(m) => {
+        None => true,
+        Some(m) => {
             let context = m.context;
             let a = context_number(context);
             let b = context_number(c);
@@ -67,7 +67,7 @@ fn last_in(last: LastMatch, c: Context) -> bool
     }
 }
 
-fn reference_usable(last: LastMatch, c: Context, r: Reference) -> bool
+fn reference_usable(last: Option<Match>, c: Context, r: Reference) -> bool
     ensures { result ≡ reference_usable last c r }
 {
     match r {
@@ -96,12 +96,12 @@ fn reverse_usable(d: DistanceValue) -> bool
     not_negative(d.offset)
 }
 
-fn distance_usable(last: LastMatch, c: Context, distance: Distance) -> bool
+fn distance_usable(last: Option<Match>, c: Context, distance: Option<DistanceValue>) -> bool
     ensures { result ≡ distance_usable last c distance }
 {
     match distance {
-        Distance::Unset => true,
-        Distance::Given(d) => {
+        None => true,
+        Some(d) => {
             let reference = d.reference;
             if reference_usable(last, c, reference) {
                 reverse_usable(d)
@@ -112,24 +112,24 @@ fn distance_usable(last: LastMatch, c: Context, distance: Distance) -> bool
     }
 }
 
-fn within_usable(last: LastMatch, c: Context, within: Within) -> bool
+fn within_usable(last: Option<Match>, c: Context, within: Option<WithinValue>) -> bool
     ensures { result ≡ within_usable last c within }
 {
     match within {
-        Within::Unset => true,
-        Within::Given(w) => {
+        None => true,
+        Some(w) => {
             let reference = w.reference;
             reference_usable(last, c, reference)
         }
     }
 }
 
-fn same_reference(d: DistanceValue, within: Within) -> bool
-    ensures { result ≡ references_alike (Distance.Given d) within }
+fn same_reference(d: DistanceValue, within: Option<WithinValue>) -> bool
+    ensures { result ≡ references_alike (Some d) within }
 {
     match within {
-        Within::Unset => true,
-        Within::Given(w) => {
+        None => true,
+        Some(w) => {
             let first = d.reference;
             let second = w.reference;
             let a = reference_number(first);
@@ -139,17 +139,17 @@ fn same_reference(d: DistanceValue, within: Within) -> bool
     }
 }
 
-fn references_alike(distance: Distance, within: Within) -> bool
+fn references_alike(distance: Option<DistanceValue>, within: Option<WithinValue>) -> bool
     ensures { result ≡ references_alike distance within }
 {
     match distance {
-        Distance::Unset => true,
-        Distance::Given(d) => same_reference(d, within),
+        None => true,
+        Some(d) => same_reference(d, within),
     }
 }
 
 // The references of `p` after the last positive pattern.
-pub fn is_usable(last: LastMatch, p: Pattern) -> bool
+pub fn is_usable(last: Option<Match>, p: Pattern) -> bool
     ensures { result ≡ usable last p }
 {
     let c = p.context;

@@ -1,5 +1,6 @@
 -- The test of a table, as the code parts it: the definitions' tests stand in another order, and each decides alone. Items that fit are no more
 -- than there is room for.
+use Rattle.std.specs.Prelude.{None}
 use mathlib.Core.Path.{◌≡◌, refl, ap}
 use mathlib.Core.Bool.{Bool, true, false, ◌&&◌, and-true, and-false, and_comm}
 use mathlib.Core.List.{List}
@@ -8,7 +9,6 @@ use lib.ListN.{length, take, drop}
 use lib.Dec.{eqb, leb}
 use borrow.Author.Tests.{leb-true}
 use Rattle.forms.proofs.Bools.{both_left}
-use Rattle.definitions.specs.declared.packets.LastMatch.TheVariants.{None}
 use Rattle.definitions.specs.declared.table.Table.{Table}
 use Rattle.definitions.specs.Limits.{max_byte, max_patterns, max_tests, max_items}
 use Rattle.definitions.specs.Lists.{all?}

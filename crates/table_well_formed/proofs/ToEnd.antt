@@ -1,5 +1,6 @@
 -- The walk over the slots in use: with each slot that may be passed, what is counted and what is still to come make the same answer; a slot that
 -- may not be passed makes it false.
+use Rattle.std.specs.Prelude.{Option}
 use mathlib.Core.Path.{◌≡◌, refl, ap, sym, ◌∙◌}
 use mathlib.Core.Bool.{Bool, true, false, ◌&&◌, and-true, and-false}
 use mathlib.Core.List.{List, [], ◌∷◌}
@@ -10,7 +11,6 @@ use lib.ListN.{length, get_or, take, drop}
 use lib.Dec.{eqb, leb, eqb-zero-suc, eqb-suc-suc}
 use borrow.Author.Tests.{leb-true, leb-false, eqb-true, eqb-false, eq-eqb, ne_eqb}
 use Rattle.forms.proofs.Bools.{by_cases, both_left, both_right}
-use Rattle.definitions.specs.declared.packets.LastMatch.{LastMatch}
 use Rattle.definitions.specs.declared.table.Pattern.{Pattern}
 use Rattle.definitions.specs.declared.table.Slot.{Slot}
 use Rattle.definitions.specs.Limits.{max_patterns, max_tests}
@@ -21,6 +21,7 @@ use Rattle.definitions.specs.References.{last_after, usable, usable_run}
 use Rattle.definitions.specs.WellFormed.{slot_fits, bytes_of}
 use Rattle.list_laws.proofs.Firsts.{first_here, first_out}
 use Rattle.table_items.specs.declared.Passed.{Passed}
+use Rattle.definitions.specs.declared.packets.Match.{Match}
 use Rattle.table_items.specs.Passing.{none_passed, may_follow, kind_passes, may_pass, past_kind, past_item, ends_well}
 use Rattle.table_well_formed.specs.ItemsTest.{slots_fit}
 
@@ -35,7 +36,7 @@ sum_less left n m h =
     (λ f. rw f (ne_eqb left (n + m) (λ e. eqb-false (left - n) m f (omega (arith, e)))))
 
 -- one pattern more: the patterns from it on are usable where it is and those after it are
-module _ (last : LastMatch) (p : Pattern) (ps : List Pattern) where
+module _ (last : Option Match) (p : Pattern) (ps : List Pattern) where
   run_on : usable last p ≡ true → eqb (usable_run last (p ∷ ps)) (length (p ∷ ps)) ≡ eqb (usable_run (last_after last p (start_at 0)) ps) (length ps)
   unfolding usable_run
   run_on t =

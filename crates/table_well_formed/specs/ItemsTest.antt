@@ -1,6 +1,5 @@
 -- The test of a table's items. Section "Numbers of refusal", 20.
-use Rattle.std.specs.Prelude.{ℕ, ◌-◌, Bool, ◌&&◌, List, length, take, drop, eqb, leb}
-use Rattle.definitions.specs.declared.packets.LastMatch.TheVariants.{None}
+use Rattle.std.specs.Prelude.{ℕ, ◌-◌, Bool, ◌&&◌, List, length, take, drop, eqb, leb, None}
 use Rattle.definitions.specs.declared.table.Pattern.{Pattern}
 use Rattle.definitions.specs.declared.table.Slot.{Slot}
 use Rattle.definitions.specs.Limits.{max_patterns, max_tests, max_items}

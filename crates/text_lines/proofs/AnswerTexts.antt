@@ -1,4 +1,5 @@
 -- The answer to a text, by what reader and writer answer.
+use Rattle.std.specs.Prelude.{Result, Ok, Err, ℕ}
 use mathlib.Core.Path.{◌≡◌, sym, ap, ◌∙◌}
 use mathlib.Core.Bool.{Bool, true, false, true≢false, false≢true}
 use mathlib.Core.List.{List, ◌++◌}
@@ -10,13 +11,8 @@ use Rattle.forms.specs.Bytes.{text}
 use Rattle.definitions.specs.declared.table.Table.{Table}
 use Rattle.definitions.specs.declared.answers.Refusal.{Refusal}
 use Rattle.definitions.specs.declared.answers.Refusal.TheVariants as refusal
-use Rattle.definitions.specs.declared.answers.ReadOutcome.{ReadOutcome}
-use Rattle.definitions.specs.declared.answers.ReadOutcome.TheVariants.{Accepted, Refused}
 use Rattle.definitions.specs.declared.answers.Reading.{Reading}
-use Rattle.definitions.specs.declared.answers.Check.{Check}
-use Rattle.definitions.specs.declared.answers.Check.TheVariants.{Pass, Refuse}
-use Rattle.definitions.specs.declared.answers.Writing.{Writing}
-use Rattle.definitions.specs.declared.answers.Writing.TheVariants as writing
+use Rattle.definitions.specs.declared.answers.TextRefusal.{TextRefusal}
 use Rattle.definitions.specs.Limits.{document_limits}
 use Rattle.definitions.specs.Reading.{read_placing, read}
 use Rattle.definitions.specs.WellFormed.{well_formed}
@@ -30,31 +26,31 @@ use Rattle.writer.proofs.Measured.{taken_back}
 
 -- ---- the writer's answer
 
-abbrev is_written : Writing → Bool
-is_written (writing.Written n) = true
-is_written (writing.Refused r) = false
+abbrev is_written : Result ℕ Refusal → Bool
+is_written (Ok n) = true
+is_written (Err r) = false
 
-abbrev refusal_of : Writing → Refusal
-refusal_of (writing.Written n) = refusal.IllFormed
-refusal_of (writing.Refused r) = r
+abbrev refusal_of : Result ℕ Refusal → Refusal
+refusal_of (Ok n) = refusal.IllFormed
+refusal_of (Err r) = r
 
 module _ (t : Table) where
-  wrote : (d : Check) {n : ℕ} {back : List ℕ} → writing.Written n ≡ written_if d (length (canonical_text t)) → canonical_text t ≡ back
+  wrote : (d : Result Unit Refusal) {n : ℕ} {back : List ℕ} → Ok n ≡ written_if d (length (canonical_text t)) → canonical_text t ≡ back
       → canonical_line d t ≡ text "ok\t" ++ back
-  wrote Pass e b = ap (λ (l : List ℕ). text "ok\t" ++ l) b
-  wrote (Refuse r) e b = absurd (true≢false (ap is_written e))
+  wrote (Ok tt) e b = ap (λ (l : List ℕ). text "ok\t" ++ l) b
+  wrote (Err r) e b = absurd (true≢false (ap is_written e))
 
-  declined : (d : Check) (r : Refusal) → writing.Refused r ≡ written_if d (length (canonical_text t)) → canonical_line d t ≡ refused_line r 0
-  declined Pass r e = absurd (false≢true (ap is_written e))
-  declined (Refuse r) s e = ap (λ (x : Refusal). refused_line x 0) (sym (ap refusal_of e))
+  declined : (d : Result Unit Refusal) (r : Refusal) → Err r ≡ written_if d (length (canonical_text t)) → canonical_line d t ≡ refused_line r 0
+  declined (Ok tt) r e = absurd (false≢true (ap is_written e))
+  declined (Err r) s e = ap (λ (x : Refusal). refused_line x 0) (sym (ap refusal_of e))
 
   module _ (out : List ℕ) (h : length out ≡ document_limits.canonical) where
-    abbrev check : ℕ → Check
+    abbrev check : ℕ → Result Unit Refusal
     check n = writing_check document_limits t n
 
     -- of a table that was written into room of the limit's length, what can be taken from there
     pub wrote_line : well_formed t ≡ true → {after : List ℕ} → Puts out 0 (canonical_text t) after (at_most (length (canonical_text t)) max_counted) → (n : ℕ)
-        → writing.Written n ≡ writes document_limits t out
+        → Ok n ≡ writes document_limits t out
         → canonical_line (check document_limits.canonical) t ≡ text "ok\t" ++ take n after
     unfolding writes
     wrote_line w p n e =
@@ -62,7 +58,7 @@ module _ (t : Table) where
         (e ∙ ap (λ (k : ℕ). written_if (check k) (length (canonical_text t))) h)
         (taken_back t w out h n (sym e) p)
 
-    pub declined_line : (r : Refusal) → writing.Refused r ≡ writes document_limits t out → canonical_line (check document_limits.canonical) t ≡ refused_line r 0
+    pub declined_line : (r : Refusal) → Err r ≡ writes document_limits t out → canonical_line (check document_limits.canonical) t ≡ refused_line r 0
     unfolding writes
     declined_line r e = declined (check document_limits.canonical) r (e ∙ ap (λ (k : ℕ). written_if (check k) (length (canonical_text t))) h)
 
@@ -70,15 +66,15 @@ module _ (t : Table) where
 
 module _ (s : List ℕ) (r : Reading) (e : r ≡ read document_limits s) where
   -- what is read is well formed
-  pub read_formed : r.outcome ≡ Accepted → well_formed r.table ≡ true
-  read_formed o = read_well document_limits s r.table (omega arith) (sym e ∙ ap (λ (x : ReadOutcome). record { outcome = x; table = r.table }) o)
+  pub read_formed : r.outcome ≡ Ok tt → well_formed r.table ≡ true
+  read_formed o = read_well document_limits s r.table (omega arith) (sym e ∙ ap (λ (x : Result Unit TextRefusal). record { outcome = x; table = r.table }) o)
 
-  pub read_line : r.outcome ≡ Accepted
+  pub read_line : r.outcome ≡ Ok tt
       → line_of document_limits s ≡ canonical_line (writing_check document_limits r.table document_limits.canonical) r.table
   unfolding line_of
   read_line o = rw (sym e, o)
 
-  pub refused_line_lem : (x : Refusal) (p : ℕ) → r.outcome ≡ Refused x p → line_of document_limits s ≡ refused_line x p
+  pub refused_line_lem : (x : Refusal) (p : ℕ) → r.outcome ≡ Err (record { refusal = x; place = p }) → line_of document_limits s ≡ refused_line x p
   unfolding line_of
   refused_line_lem x p o = rw (sym e, o)
 

@@ -1,4 +1,5 @@
 -- An answer with its number has at most 25 bytes more than a canonical text may have, so that a feed into the program's 65,536 always takes some of its input.
+use Rattle.std.specs.Prelude.{Result, Ok, Err}
 use mathlib.Core.Path.{◌≡◌, refl, ap}
 use mathlib.Core.Bool.{Bool, true, false, not, false≢true}
 use mathlib.Core.List.{List, ◌∷◌, ◌++◌}
@@ -10,10 +11,6 @@ use borrow.Author.Tests.{ltb-false}
 use Rattle.forms.specs.Bytes.{text}
 use Rattle.forms.proofs.Bools.{by_cases}
 use Rattle.definitions.specs.declared.table.Table.{Table}
-use Rattle.definitions.specs.declared.answers.ReadOutcome.{ReadOutcome}
-use Rattle.definitions.specs.declared.answers.ReadOutcome.TheVariants as outcome
-use Rattle.definitions.specs.declared.answers.Check.{Check}
-use Rattle.definitions.specs.declared.answers.Check.TheVariants as check
 use Rattle.definitions.specs.Limits.{document_limits}
 use Rattle.definitions.specs.Refusals.{read_place}
 use Rattle.definitions.specs.Reading.{read}
@@ -26,21 +23,23 @@ use Rattle.laws.proofs.Digits.{decimal_most}
 use Rattle.line_refusals.proofs.Lengths.{refused_most}
 use Rattle.line_stream.specs.declared.Begun.{Begun}
 use Rattle.line_stream.specs.declared.Fed.{Fed}
+use Rattle.definitions.specs.declared.answers.Refusal.{Refusal}
+use Rattle.definitions.specs.declared.answers.TextRefusal.{TextRefusal}
 use Rattle.line_stream.specs.Stream.{max_line_number, line_answer, Feeds}
 use Rattle.line_stream.proofs.Running.{goes_on_lem}
 
 -- ---- the answer to a text
 
-abbrev is_fine : Check → Bool
-is_fine check.Pass = true
-is_fine (check.Refuse r) = false
+abbrev is_fine : Result Unit Refusal → Bool
+is_fine (Ok tt) = true
+is_fine (Err r) = false
 
 -- how long a canonical text may be
 abbrev most : ℕ
 most = document_limits.canonical
 
 -- a canonical text that is written is not beyond the limit
-fine_short : (t : Table) → writing_check document_limits t most ≡ check.Pass → length (canonical_text t) ≤ most
+fine_short : (t : Table) → writing_check document_limits t most ≡ Ok tt → length (canonical_text t) ≤ most
 unfolding writing_check
 fine_short t e =
     by_cases (ltb most (length (canonical_text t)))
@@ -50,13 +49,13 @@ fine_short t e =
     (λ w. absurd (false≢true (ap is_fine (rw (w, l) at e)))))
     (λ f. ltb-false most (length (canonical_text t)) f)
 
-canonical_most : (t : Table) (d : Check) → (d ≡ check.Pass → length (canonical_text t) ≤ most) → length (canonical_line d t) ≤ 3 + most
-canonical_most t check.Pass h = omega (arith, length-append (text "ok\t") (canonical_text t), h refl)
-canonical_most t (check.Refuse r) h = omega (arith, refused_most r 0 (omega arith))
+canonical_most : (t : Table) (d : Result Unit Refusal) → (d ≡ Ok tt → length (canonical_text t) ≤ most) → length (canonical_line d t) ≤ 3 + most
+canonical_most t (Ok tt) h = omega (arith, length-append (text "ok\t") (canonical_text t), h refl)
+canonical_most t (Err r) h = omega (arith, refused_most r 0 (omega arith))
 
-outcome_most : (o : ReadOutcome) (t : Table) → read_place o ≤ document_limits.text → length (line_by document_limits o t) ≤ 3 + most
-outcome_most outcome.Accepted t h = canonical_most t (writing_check document_limits t most) (fine_short t)
-outcome_most (outcome.Refused r p) t h = omega (arith, refused_most r p (omega (arith, h)))
+outcome_most : (o : Result Unit TextRefusal) (t : Table) → read_place o ≤ document_limits.text → length (line_by document_limits o t) ≤ 3 + most
+outcome_most (Ok tt) t h = canonical_most t (writing_check document_limits t most) (fine_short t)
+outcome_most (Err e) t h = omega (arith, refused_most e.refusal e.place (omega (arith, h)))
 
 line_most : (s : List ℕ) → length (line_of document_limits s) ≤ 3 + most
 unfolding line_of

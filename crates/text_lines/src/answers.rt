@@ -5,7 +5,6 @@ ghost use Rattle.definitions.specs.Limits.{document_limits};
 ghost use Rattle.definitions.specs.Lines.{line_of};
 ghost use Rattle.write_bytes.specs.Puts.{Puts};
 
-use definitions::answers::{ReadOutcome, Writing};
 use definitions::limits::CANONICAL_BYTES;
 use line_refusals::put_refused;
 use reader::read;
@@ -27,14 +26,14 @@ pub fn answer_text(out: &mut [u8], at: usize, s: &[u8]) -> usize
     let reading = read(s);
     let outcome = reading.outcome;
     match outcome {
-        ReadOutcome::Accepted => {
+        Ok(()) => {
             let mut room = [0u8; CANONICAL_BYTES];
             let w = write_formed(reading.table, &mut room);
             match w {
-                Writing::Written(n) => put_ok(out, at, &room, n),
-                Writing::Refused(r) => put_refused(out, at, r, 0),
+                Ok(n) => put_ok(out, at, &room, n),
+                Err(r) => put_refused(out, at, r, 0),
             }
         }
-        ReadOutcome::Refused(r, place) => put_refused(out, at, r, place),
+        Err(e) => put_refused(out, at, e.refusal, e.place),
     }
 }

@@ -6,7 +6,7 @@ ghost use Rattle.definitions.specs.OptionValues as entry;
 ghost use Rattle.definitions.specs.Canonical.{decimalℤ, distance_option, within_option, pattern_options, modifier_text, option_text, options_text};
 ghost use Rattle.write_bytes.specs.Puts.{Puts};
 
-use definitions::table::{Distance, DistanceValue, Pattern, Within, WithinValue};
+use definitions::table::{DistanceValue, Pattern, WithinValue};
 use write_bytes::limits::at_most;
 use write_bytes::{put, put_decimal, put_if, put_word};
 use write_keywords::{context_keyword, put_keyword, reference_keyword};
@@ -57,22 +57,22 @@ fn put_within_value(out: &mut [u8], at: usize, w: WithinValue) -> usize
 }
 
 // The option distance, if given.
-fn put_distance(out: &mut [u8], at: usize, d: Distance) -> usize
+fn put_distance(out: &mut [u8], at: usize, d: Option<DistanceValue>) -> usize
     ensures { Puts out.old at (options_text (distance_option d)) out.new result }
 {
     match d {
-        Distance::Unset => at,
-        Distance::Given(shift) => put_distance_value(out, at, shift),
+        None => at,
+        Some(shift) => put_distance_value(out, at, shift),
     }
 }
 
 // The option within, if given.
-fn put_within(out: &mut [u8], at: usize, w: Within) -> usize
+fn put_within(out: &mut [u8], at: usize, w: Option<WithinValue>) -> usize
     ensures { Puts out.old at (options_text (within_option w)) out.new result }
 {
     match w {
-        Within::Unset => at,
-        Within::Given(reach) => put_within_value(out, at, reach),
+        None => at,
+        Some(reach) => put_within_value(out, at, reach),
     }
 }
 

@@ -5,11 +5,9 @@
 ghost use Rattle.std.specs.Prelude.{◌≡◌};
 ghost use Rattle.definitions.specs.Refusals.{write_number, write_length};
 
-use definitions::answers::Writing;
+use definitions::answers::Refusal;
 use definitions::limits::{ITEMS, NAME_BYTES, PATTERN_BYTES};
-use definitions::table::{
-    FieldTest, Flow, HeaderField, Item, NumberField, NumberTest, Operator, Slot, Table,
-};
+use definitions::table::{FieldTest, Flow, HeaderField, Item, NumberField, NumberTest, Operator, Slot, Table};
 use read_state::no_slot;
 use refusal_numbers::number_of;
 use write_bytes::{put, put_decimal, put_word};
@@ -19,27 +17,27 @@ use writer::write;
 const SHOWN: usize = 128;
 
 // 0 where nothing is refused.
-fn write_number(w: Writing) -> u64
+fn write_number(w: Result<usize, Refusal>) -> u64
     ensures { result ≡ write_number w }
 {
     match w {
-        Writing::Written(_) => 0,
-        Writing::Refused(r) => number_of(r),
+        Ok(_) => 0,
+        Err(r) => number_of(r),
     }
 }
 
 // How many bytes are written.
-fn write_length(w: Writing) -> usize
+fn write_length(w: Result<usize, Refusal>) -> usize
     ensures { result ≡ write_length w }
 {
     match w {
-        Writing::Written(n) => n,
-        Writing::Refused(_) => 0,
+        Ok(n) => n,
+        Err(_) => 0,
     }
 }
 
 // The line that is shown: number, bytes written, buffer.
-fn put_line(out: &mut [u8], w: Writing, buffer: &[u8]) -> usize {
+fn put_line(out: &mut [u8], w: Result<usize, Refusal>, buffer: &[u8]) -> usize {
     let a1 = put_decimal(out, 0, write_number(w));
     let a2 = put(out, a1, b'\t');
     let a3 = put_decimal(out, a2, write_length(w) as u64);
@@ -49,7 +47,7 @@ fn put_line(out: &mut [u8], w: Writing, buffer: &[u8]) -> usize {
 }
 
 // Shows a line.
-fn show(rt: &impl Print, w: Writing, buffer: &[u8]) {
+fn show(rt: &impl Print, w: Result<usize, Refusal>, buffer: &[u8]) {
     let mut out = [0u8; SHOWN];
     let end = put_line(&mut out, w, buffer);
     if end <= SHOWN {

@@ -1,4 +1,5 @@
 -- What is due for a writing, by what was measured, and what then stands in the buffer.
+use Rattle.std.specs.Prelude.{Result, Ok, Err}
 use mathlib.Core.Path.{◌≡◌, sym, ap, subst, ◌∙◌}
 use mathlib.Core.Bool.{true, false}
 use mathlib.Core.List.{List, ◌++◌}
@@ -13,9 +14,6 @@ use Rattle.forms.proofs.Sound.{never}
 use Rattle.definitions.specs.declared.table.Table.{Table}
 use Rattle.definitions.specs.declared.answers.Refusal.{Refusal}
 use Rattle.definitions.specs.declared.answers.Refusal.TheVariants as refusal
-use Rattle.definitions.specs.declared.answers.Check.{Check}
-use Rattle.definitions.specs.declared.answers.Check.TheVariants.{Pass, Refuse}
-use Rattle.definitions.specs.declared.answers.Writing.TheVariants.{Written, Refused}
 use Rattle.definitions.specs.Limits.{document_limits}
 use Rattle.definitions.specs.WellFormed.{well_formed}
 use Rattle.definitions.specs.Canonical.{canonical_text}
@@ -58,28 +56,28 @@ module _ (t : Table) where
 
   module _ (out : List ℕ) where
     -- the answer and the buffer, by what is due
-    abbrev Answers : Check → Type 0
+    abbrev Answers : Result Unit Refusal → Type 0
     Answers d = (written_if d len ≡ writes document_limits t out) × (buffer_if d (canonical_text t) out ≡ buffer_after document_limits t out)
 
-    answers : (d : Check) → writing_check document_limits t (length out) ≡ d → Answers d
+    answers : (d : Result Unit Refusal) → writing_check document_limits t (length out) ≡ d → Answers d
     unfolding writes buffer_after
-    answers d e = (ap (λ (x : Check). written_if x len) (sym e), ap (λ (x : Check). buffer_if x (canonical_text t) out) (sym e))
+    answers d e = (ap (λ (x : Result Unit Refusal). written_if x len) (sym e), ap (λ (x : Result Unit Refusal). buffer_if x (canonical_text t) out) (sym e))
 
-    pub ill_formed_lem : well_formed t ≡ false → Answers (Refuse refusal.IllFormed)
+    pub ill_formed_lem : well_formed t ≡ false → Answers (Err refusal.IllFormed)
     unfolding writing_check
-    ill_formed_lem f = answers (Refuse refusal.IllFormed) (rw f)
+    ill_formed_lem f = answers (Err refusal.IllFormed) (rw f)
 
     module _ (w : well_formed t ≡ true) where
-      too_long : document_limits.canonical < len → Answers (Refuse refusal.CanonicalLength)
+      too_long : document_limits.canonical < len → Answers (Err refusal.CanonicalLength)
       unfolding writing_check
-      too_long h = answers (Refuse refusal.CanonicalLength) (rw (w, lt-ltb document_limits.canonical len h))
+      too_long h = answers (Err refusal.CanonicalLength) (rw (w, lt-ltb document_limits.canonical len h))
 
       module _ (fits : len ≤ document_limits.canonical) where
-        short-buffer : length out < len → Answers (Refuse refusal.ShortBuffer)
+        short-buffer : length out < len → Answers (Err refusal.ShortBuffer)
         unfolding writing_check
-        short-buffer g = answers (Refuse refusal.ShortBuffer) (rw (w, le-ltb document_limits.canonical len fits, lt-ltb (length out) len g))
+        short-buffer g = answers (Err refusal.ShortBuffer) (rw (w, le-ltb document_limits.canonical len fits, lt-ltb (length out) len g))
 
-        fine : len ≤ length out → Answers Pass
+        fine : len ≤ length out → Answers (Ok tt)
         fine room =
             let w = canonical_written document_limits t out w fits room in
             (sym w.0, sym w.1)
@@ -93,17 +91,17 @@ module _ (t : Table) where
       counted = subst (λ (k : ℕ). Puts room 0 (canonical_text t) after k) (measures t p) p
 
       pub room-refused : document_limits.canonical < r
-          → (Refused refusal.CanonicalLength ≡ writes document_limits t room) × Puts room 0 (canonical_text t) after (measure t)
+          → (Err refusal.CanonicalLength ≡ writes document_limits t room) × Puts room 0 (canonical_text t) after (measure t)
       room-refused h = ((too_long room w (measured_long r (measures t p) h)).0, counted)
 
-      pub room-written : r ≤ document_limits.canonical → (Written r ≡ writes document_limits t room) × Puts room 0 (canonical_text t) after (measure t)
+      pub room-written : r ≤ document_limits.canonical → (Ok r ≡ writes document_limits t room) × Puts room 0 (canonical_text t) after (measure t)
       room-written h =
           let is = measured_is r (measures t p) h in
           let fits : len ≤ document_limits.canonical = omega (arith, h, is) in
-          (ap Written is ∙ (fine room w fits (omega (arith, fits, full))).0, counted)
+          (ap Ok is ∙ (fine room w fits (omega (arith, fits, full))).0, counted)
 
     -- where it is refused, it is too long for any buffer
-    pub refused_anywhere : (r : Refusal) → writes document_limits t room ≡ Refused r → (out : List ℕ)
+    pub refused_anywhere : (r : Refusal) → writes document_limits t room ≡ Err r → (out : List ℕ)
         → (writes document_limits t room ≡ writes document_limits t out) × (out ≡ buffer_after document_limits t out)
     refused_anywhere r e out =
         by_cases (ltb document_limits.canonical len)
@@ -116,7 +114,7 @@ module _ (t : Table) where
         never (cc))
 
     -- where it was written, it is as long as is answered
-    module _ (n : ℕ) (e : writes document_limits t room ≡ Written n) where
+    module _ (n : ℕ) (e : writes document_limits t room ≡ Ok n) where
       length-told : (n ≡ len) × (len ≤ document_limits.canonical)
       length-told =
           by_cases (ltb document_limits.canonical len)
@@ -137,19 +135,19 @@ module _ (t : Table) where
           let whole = subst (λ (k : ℕ). Puts room 0 (canonical_text t) after k) counts p in
           sym (placed_whole room 0 whole (omega (arith, is, fits)) (omega (arith, is, fits, full)))
 
-      pub too_short : (out : List ℕ) → length out < n → Answers out (Refuse refusal.ShortBuffer)
+      pub too_short : (out : List ℕ) → length out < n → Answers out (Err refusal.ShortBuffer)
       too_short out g = short-buffer out w length-told.1 (omega (arith, g, length-told.0))
 
       -- the canonical text was put from the start on
       pub written : (out : List ℕ) → n ≤ length out → {after : List ℕ} {r : ℕ} → Puts out 0 (canonical_text t) after r
-          → (Written r ≡ writes document_limits t out) × (after ≡ buffer_after document_limits t out)
+          → (Ok r ≡ writes document_limits t out) × (after ≡ buffer_after document_limits t out)
       written out g p =
           let fits = length-told.1 in
           let roomy : 0 + len ≤ length out = omega (arith, g, length-told.0) in
           let few : 0 + len ≤ max_counted = omega (arith, fits) in
           let due = fine out w fits (omega (arith, roomy)) in
           let counts = ap (λ (q : List ℕ × ℕ). q.1) p.is ∙ puts_count out 0 (canonical_text t) (omega arith) ∙ most_of (0 + len) max_counted few in (
-            ap Written (counts ∙ zero-add len) ∙ due.0,
+            ap Ok (counts ∙ zero-add len) ∙ due.0,
             ap (λ (q : List ℕ × ℕ). q.0) p.is
                 ∙ puts_buffer out 0 (canonical_text t) roomy few
                 ∙ ap (λ (k : ℕ). canonical_text t ++ drop k out) (zero-add len)

@@ -1,4 +1,4 @@
-// Writing a table as canonical text into a lent buffer.
+// Result<usize, Refusal> a table as canonical text into a lent buffer.
 #![tactic(auto)]
 
 ghost use Rattle.std.specs.Prelude.{◌≡◌, true, length};
@@ -10,7 +10,7 @@ ghost use Rattle.definitions.specs.AnswerNumbers.{write_numbers, write_in_number
 ghost use Rattle.write_bytes.specs.Clipped.{at_most};
 ghost use Rattle.write_bytes.specs.Puts.{max_counted, Puts};
 
-use definitions::answers::{Refusal, Writing};
+use definitions::answers::Refusal;
 use definitions::limits::CANONICAL_BYTES;
 use definitions::table::Table;
 use table_well_formed::well_formed;
@@ -19,7 +19,7 @@ use write_canonical::put_canonical;
 
 // For a caller that knows its table to be well formed, as one that was read is: the canonical text is put into room of the length that it may have, which also
 // measures it; or 21.
-pub fn write_formed(t: Table, room: &mut [u8; CANONICAL_BYTES]) -> Writing
+pub fn write_formed(t: Table, room: &mut [u8; CANONICAL_BYTES]) -> Result<usize, Refusal>
     requires { well_formed t ≡ true }
     ensures answer { result ≡ writes document_limits t room.old }
     ensures put { Puts room.old 0 (canonical_text t) room.new (at_most (length (canonical_text t)) max_counted) }
@@ -31,14 +31,14 @@ pub fn write_formed(t: Table, room: &mut [u8; CANONICAL_BYTES]) -> Writing
         room, name, t.len, t.protocol, flow, items, t.count, &t.bytes,
     );
     if CANONICAL_BYTES < n {
-        return Writing::Refused(Refusal::CanonicalLength);
+        return Err(Refusal::CanonicalLength);
     }
-    Writing::Written(n)
+    Ok(n)
 }
 
 // THE WRITER. Any table and any buffer: 20, 21 and 22 in this order, each leaving the buffer as it was; else the canonical text at its front, the
 // bytes after it untouched, and the text's length.
-pub fn write(t: Table, out: &mut [u8]) -> Writing
+pub fn write(t: Table, out: &mut [u8]) -> Result<usize, Refusal>
     ensures answer { result ≡ writes document_limits t out.old }
     ensures buffer { out.new ≡ buffer_after document_limits t out.old }
     ensures numbers { write_numbers result ≡ write_in_numbers document_limits t (length out.old) }
@@ -46,16 +46,16 @@ pub fn write(t: Table, out: &mut [u8]) -> Writing
     let name = t.name;
     let items = t.items;
     if !well_formed(name, t.len, items, t.count, &t.bytes, t.used) {
-        return Writing::Refused(Refusal::IllFormed);
+        return Err(Refusal::IllFormed);
     }
     let mut room = [0u8; CANONICAL_BYTES];
     let w = write_formed(t, &mut room);
-    let Writing::Written(n) = w else {
+    let Ok(n) = w else {
         return w;
     };
     if out.len() < n {
-        return Writing::Refused(Refusal::ShortBuffer);
+        return Err(Refusal::ShortBuffer);
     }
     let len = put_front(out, 0, &room[..], n);
-    Writing::Written(len)
+    Ok(len)
 }

@@ -4,10 +4,10 @@ use Rattle.write_bytes.proofs.Putting.{then, told}
 use Rattle.book_answers.specs.BookAnswers.{judgement_text}
 use Rattle.book_answers.proofs.put_judgement.Goals as goal
 
-pub returns-in-Accepted : goal.returns-in-Accepted
+pub returns-in-Ok : goal.returns-in-Ok
 unfolding judgement_text
-returns-in-Accepted c = told (ap judgement_text c.in-Accepted.is) (then c.put_word-a1.ensures c.put_decimal.ensures)
+returns-in-Ok c = told (ap judgement_text c.in-Ok.is) (then c.put_word-a1.ensures c.put_decimal.ensures)
 
-pub returns-in-Refused : goal.returns-in-Refused
+pub returns-in-Err : goal.returns-in-Err
 unfolding judgement_text
-returns-in-Refused c = told (ap judgement_text c.in-Refused.is) c.put_refused.ensures
+returns-in-Err c = told (ap judgement_text c.in-Err.is) c.put_refused.ensures

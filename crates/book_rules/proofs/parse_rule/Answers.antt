@@ -24,19 +24,19 @@ pub returns-in_default-parse_state : goal.returns-in_default-parse_state
 returns-in_default-parse_state c = no-state _ (sym c.contains.ensures ∙ not-false _ c.if-not-contains.false-raw)
     _ _ c.part_after-r1.ensures c.part_after-r2.ensures
     (sym c.contains-2.ensures ∙ not-false _ c.if-not-contains-2.false-raw) _ c.part_before.ensures
-    _ (sym c.parse_number.ensures ∙ c.in-Parsed.is) _ c.part_before-2.ensures
+    _ (sym c.parse_number.ensures ∙ c.in-Some.is) _ c.part_before-2.ensures
     (sym c.parse_state.ensures ∙ c.in_default-parse_state.is)
 
 pub returns-in_default-parse_action : goal.returns-in_default-parse_action
 returns-in_default-parse_action c = no-action _ (sym c.contains.ensures ∙ not-false _ c.if-not-contains.false-raw)
     _ _ c.part_after-r1.ensures c.part_after-r2.ensures
     (sym c.contains-2.ensures ∙ not-false _ c.if-not-contains-2.false-raw) _ c.part_before.ensures
-    _ (sym c.parse_number.ensures ∙ c.in-Parsed.is) _ c.part_before-2.ensures
-    _ (sym c.parse_state.ensures ∙ c.in-Parsed-parse_state.is) _ c.part_before-3.ensures
+    _ (sym c.parse_number.ensures ∙ c.in-Some.is) _ c.part_before-2.ensures
+    _ (sym c.parse_state.ensures ∙ c.in-Some-parse_state.is) _ c.part_before-3.ensures
     (sym c.parse_action.ensures ∙ c.in_default-parse_action.is)
 
 pub overflow_cast-result : goal.overflow_cast-result
-overflow_cast-result c = omega (arith, number_fits_lem _ _ (sym c.parse_number.ensures ∙ c.in-Parsed.is))
+overflow_cast-result c = omega (arith, number_fits_lem _ _ (sym c.parse_number.ensures ∙ c.in-Some.is))
 
 pub overflow_sub-result : goal.overflow_sub-result
 overflow_sub-result c = text_le _ _ _ _ c.part_after-r1.ensures c.part_after-r2.ensures c.part_after-r3.ensures
@@ -45,6 +45,6 @@ pub returns : goal.returns
 returns c = one-rule _ (sym c.contains.ensures ∙ not-false _ c.if-not-contains.false-raw)
     _ _ c.part_after-r1.ensures c.part_after-r2.ensures
     (sym c.contains-2.ensures ∙ not-false _ c.if-not-contains-2.false-raw) _ c.part_before.ensures
-    _ (sym c.parse_number.ensures ∙ c.in-Parsed.is) _ c.part_before-2.ensures
-    _ (sym c.parse_state.ensures ∙ c.in-Parsed-parse_state.is) _ c.part_before-3.ensures
-    _ (sym c.parse_action.ensures ∙ c.in-Parsed-parse_action.is) _ _ c.part_after-r3.ensures c.part_before-4.ensures
+    _ (sym c.parse_number.ensures ∙ c.in-Some.is) _ c.part_before-2.ensures
+    _ (sym c.parse_state.ensures ∙ c.in-Some-parse_state.is) _ c.part_before-3.ensures
+    _ (sym c.parse_action.ensures ∙ c.in-Some-parse_action.is) _ _ c.part_after-r3.ensures c.part_before-4.ensures

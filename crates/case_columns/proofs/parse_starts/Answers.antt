@@ -19,7 +19,7 @@ pub loop-at-preserved : goal.loop-at-preserved
 loop-at-preserved c = (
   _,
   starting_on _ _ _ _ _ c.loop-at.invariant.1 c.loop-at-test.true _ c.part_before-e.ensures _
-      c.parse_decimal.ensures _ c.in-Parsed.is c.if-count-ge-PATTERNS.false _ c.start_of.ensures,
+      c.parse_decimal.ensures _ c.in-Some.is c.if-count-ge-PATTERNS.false _ c.start_of.ensures,
 )
 
 pub returns : goal.returns

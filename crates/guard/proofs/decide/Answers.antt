@@ -2,16 +2,16 @@
 use Rattle.guard.proofs.Books.{decision_told, book_refused, book_accepted}
 use Rattle.guard.proofs.decide.Goals as goal
 
-pub returns-in-Refused : goal.returns-in-Refused
-returns-in-Refused c =
+pub returns-in-Err : goal.returns-in-Err
+returns-in-Err c =
     let x = c.args in
     let z = decision_told x.p.now x.decoded.now x.dir x.m x.book.now
-    (book_refused x.p.now x.decoded.now x.dir x.m x.book.now c.load-b.ensures _ _ c.in-Refused.is) in
+    (book_refused x.p.now x.decoded.now x.dir x.m x.book.now c.load-b.ensures _ _ c.in-Err.is) in
     record { answer = z.0; numbers = z.1 }
 
-pub returns-in-Accepted : goal.returns-in-Accepted
-returns-in-Accepted c =
+pub returns-in-Ok : goal.returns-in-Ok
+returns-in-Ok c =
     let x = c.args in
     let z = decision_told x.p.now x.decoded.now x.dir x.m x.book.now
-    (book_accepted x.p.now x.decoded.now x.dir x.m x.book.now c.load-b.ensures _ c.in-Accepted.is c.decide_by.ensures) in
+    (book_accepted x.p.now x.decoded.now x.dir x.m x.book.now c.load-b.ensures _ c.in-Ok.is c.decide_by.ensures) in
     record { answer = z.0; numbers = z.1 }

@@ -14,23 +14,23 @@ returns-then-not-is_on c =
     sym (off_never x.p.now x.decoded.now x.dir x.m (rule_at x.book.now x.rule) (sym c.is_on.ensures ∙ c.if-not-is_on.true))
 
 pub meets-requires : goal.meets-requires
-meets-requires c = read_matchable _ c.read-reading.result (c.read-reading.ensures.answer ∙ ap (read document_limits) c.text_at.ensures) c.in-Accepted.is
+meets-requires c = read_matchable _ c.read-reading.result (c.read-reading.ensures.answer ∙ ap (read document_limits) c.text_at.ensures) c.in-Ok.is
 
-pub returns-in-Accepted : goal.returns-in-Accepted
+pub returns-in-Ok : goal.returns-in-Ok
 unfolding rule_at
-returns-in-Accepted c =
+returns-in-Ok c =
     let x = c.args in
     let rule = rule_at x.book.now x.rule in
     let table = c.read-reading.result.table in
-    let formed = read_formed _ c.read-reading.result (c.read-reading.ensures.answer ∙ ap (read document_limits) c.text_at.ensures) c.in-Accepted.is in
+    let formed = read_formed _ c.read-reading.result (c.read-reading.ensures.answer ∙ ap (read document_limits) c.text_at.ensures) c.in-Ok.is in
     c.meets.ensures table.name table.len table.used formed
     ∙ on-met x.p.now x.decoded.now x.dir x.m rule c.read-reading.result (source_read x.book.now x.rule c.read-reading.ensures.answer c.text_at.ensures)
     (sym c.is_on.ensures ∙ c.if-not-is_on.false)
 
-pub returns-in-Refused : goal.returns-in-Refused
-returns-in-Refused c =
+pub returns-in-Err : goal.returns-in-Err
+returns-in-Err c =
     let x = c.args in
     let rule = rule_at x.book.now x.rule in
     sym
     (unread-never x.p.now x.decoded.now x.dir x.m rule c.read-reading.result
-    (source_read x.book.now x.rule c.read-reading.ensures.answer c.text_at.ensures) _ _ c.in-Refused.is)
+    (source_read x.book.now x.rule c.read-reading.ensures.answer c.text_at.ensures) _ _ c.in-Err.is)

@@ -19,11 +19,11 @@ returns-then-not-is_on c =
     }
 
 pub decide_table-requires : goal.decide_table-requires
-decide_table-requires c = (read_formed _ c.read-reading.result c.read-reading.ensures.answer c.in-Accepted.is, c.requires)
+decide_table-requires c = (read_formed _ c.read-reading.result c.read-reading.ensures.answer c.in-Ok.is, c.requires)
 
-pub returns-in-Accepted : goal.returns-in-Accepted
+pub returns-in-Ok : goal.returns-in-Ok
 unfolding rule_at
-returns-in-Accepted c =
+returns-in-Ok c =
     let n = c.answer_number-answer in
     let x = c.args in
     let rule = rule_at x.book.now x.rule in
@@ -35,13 +35,13 @@ returns-in-Accepted c =
           n.ensures.number;
     }
 
-pub returns-in-Refused : goal.returns-in-Refused
-returns-in-Refused c =
+pub returns-in-Err : goal.returns-in-Err
+returns-in-Err c =
     let n = c.answer_number-answer in
     let x = c.args in
     let rule = rule_at x.book.now x.rule in
     record {
       below = omega arith;
       numbers = unread_kept rule (records_up_to x.packets x.block.now) x.out.now c.read-reading.result
-          (source_read x.book.now x.rule c.read-reading.ensures.answer c.text_at.ensures) _ _ c.in-Refused.is;
+          (source_read x.book.now x.rule c.read-reading.ensures.answer c.text_at.ensures) _ _ c.in-Err.is;
     }

@@ -6,11 +6,11 @@ use Rattle.search.specs.Searching.{searched_table}
 use Rattle.match_placements.proofs.Answering.{first_refused, first_found}
 use Rattle.match_placements.proofs.first_in.Goals as goal
 
-pub returns-in-Refuse : goal.returns-in-Refuse
-returns-in-Refuse c =
+pub returns-in-Err : goal.returns-in-Err
+returns-in-Err c =
     let x = c.args in
     let t = searched_table x.protocol x.flow x.items x.count x.bytes.now in
-    first_refused t x.header x.payload.now x.decoded.now x.dir x.m c.fields_check-check.ensures.answer c.in-Refuse.is
+    first_refused t x.header x.payload.now x.decoded.now x.dir x.m c.fields_check-check.ensures.answer c.in-Err.is
     c.refused.ensures
 
 pub returns : goal.returns

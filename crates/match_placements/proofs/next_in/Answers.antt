@@ -5,11 +5,11 @@ use Rattle.search.specs.Searching.{searched_table}
 use Rattle.match_placements.proofs.Answering.{next_refused, next-found, next-uncounted}
 use Rattle.match_placements.proofs.next_in.Goals as goal
 
-pub returns-in-Refuse : goal.returns-in-Refuse
-returns-in-Refuse c =
+pub returns-in-Err : goal.returns-in-Err
+returns-in-Err c =
     let x = c.args in
     let t = searched_table x.protocol x.flow x.items x.count x.bytes.now in
-    next_refused t x.header x.payload.now x.decoded.now x.dir x.m c.fields_check-check.ensures.answer c.in-Refuse.is
+    next_refused t x.header x.payload.now x.decoded.now x.dir x.m c.fields_check-check.ensures.answer c.in-Err.is
     c.refused.ensures x.held
 
 pub returns-then-held-positive_count : goal.returns-then-held-positive_count

@@ -12,24 +12,24 @@ first_in-requires c =
     let x = c.args in
     let formed = c.well_formed-formed.ensures x.t.protocol x.t.flow (omega arith) in
     let told = input_told x.t x.p.now x.decoded.now formed c.check_input-seen.ensures in
-    let ok = seen_checked x.t x.p.now x.decoded.now told c.in-Seen.is c.payload_of-payload.ensures.bytes in
+    let ok = seen_checked x.t x.p.now x.decoded.now told c.in-Ok.is c.payload_of-payload.ensures.bytes in
     searchable ok (omega arith)
 
-pub returns-in-Refused : goal.returns-in-Refused
-returns-in-Refused c =
+pub returns-in-Err : goal.returns-in-Err
+returns-in-Err c =
     let x = c.args in
     let formed = c.well_formed-formed.ensures x.t.protocol x.t.flow (omega arith) in
     let told = input_told x.t x.p.now x.decoded.now formed c.check_input-seen.ensures in
     let z = first_told x.t x.p.now x.decoded.now x.dir x.m
-    (first_refused x.t x.p.now x.decoded.now x.dir x.m told c.in-Refused.is c.refused.ensures) in
+    (first_refused x.t x.p.now x.decoded.now x.dir x.m told c.in-Err.is c.refused.ensures) in
     record { answer = z.0; numbers = z.1 }
 
-pub returns-in-Seen : goal.returns-in-Seen
-returns-in-Seen c =
+pub returns-in-Ok : goal.returns-in-Ok
+returns-in-Ok c =
     let x = c.args in
     let formed = c.well_formed-formed.ensures x.t.protocol x.t.flow (omega arith) in
     let told = input_told x.t x.p.now x.decoded.now formed c.check_input-seen.ensures in
-    let ok = seen_checked x.t x.p.now x.decoded.now told c.in-Seen.is c.payload_of-payload.ensures.bytes in
+    let ok = seen_checked x.t x.p.now x.decoded.now told c.in-Ok.is c.payload_of-payload.ensures.bytes in
     let found = c.first_in.ensures ∙ first_by_parts x.t _ c.payload_of-payload.result.now x.decoded.now x.dir x.m in
     let z = first_told x.t x.p.now x.decoded.now x.dir x.m (found ∙ first_here ok x.dir x.m) in
     record { answer = z.0; numbers = z.1 }

@@ -14,26 +14,26 @@ pub first_in-a-requires : goal.first_in-a-requires
 first_in-a-requires c =
     let x = c.args in
     let r = c.requires in
-    let n = seen_small x.p.now x.decoded.now c.packet_header-seen.ensures.answer c.in-Seen.is c.payload_of-payload.ensures.bytes in
+    let n = seen_small x.p.now x.decoded.now c.packet_header-seen.ensures.answer c.in-Ok.is c.payload_of-payload.ensures.bytes in
     let b = r.bytes in
     record { few = r.few; patterns = r.patterns; stored = r.stored; bytes = omega (arith, b); payload = n.0; decoded = n.1 }
 
-pub returns-in-Refused : goal.returns-in-Refused
-returns-in-Refused c =
+pub returns-in-Err : goal.returns-in-Err
+returns-in-Err c =
     let x = c.args in
     λ name len used w.
     let t = table_with name len x.protocol x.flow x.bytes.now used x.items x.count in
     ap is_met
     (verdict_refused t x.p.now x.decoded.now x.dir x.m
-    (c.packet_header-seen.ensures.answer ∙ formed_header t x.p.now x.decoded.now w) c.in-Refused.is)
+    (c.packet_header-seen.ensures.answer ∙ formed_header t x.p.now x.decoded.now w) c.in-Err.is)
 
-pub returns-in-Seen : goal.returns-in-Seen
-returns-in-Seen c =
+pub returns-in-Ok : goal.returns-in-Ok
+returns-in-Ok c =
     let x = c.args in
     λ name len used w.
     let t = table_with name len x.protocol x.flow x.bytes.now used x.items x.count in
     let ok = seen_checked t x.p.now x.decoded.now (c.packet_header-seen.ensures.answer ∙ formed_header t x.p.now x.decoded.now w)
-    c.in-Seen.is c.payload_of-payload.ensures.bytes in
+    c.in-Ok.is c.payload_of-payload.ensures.bytes in
     let found = c.first_in-a.ensures ∙ first_by_parts t _ c.payload_of-payload.result.now x.decoded.now x.dir x.m in
     c.is_met.ensures
     ∙ ap is_met (c.verdict_of.ensures ∙ ap (λ (y : Answer). verdict_of y.found) found ∙ verdict_here ok x.dir x.m)

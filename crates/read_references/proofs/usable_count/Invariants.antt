@@ -1,7 +1,7 @@
+use Rattle.std.specs.Prelude.{None}
 use mathlib.Core.Path.{◌≡◌}
 use Prim.Native.Nat.{◌-◌, ◌≤◌}
 use lib.ListN.{take, drop}
-use Rattle.definitions.specs.declared.packets.LastMatch.TheVariants.{None}
 use Rattle.definitions.specs.References.{usable_run}
 use Rattle.definitions.specs.Items.{patterns_of}
 use Rattle.read_references.specs.Counting.{to_come}

@@ -36,14 +36,14 @@ option_by_name-p-requires c =
     let l = pre.short in
     (g.1, l, omega (arith, u, g.0), bytes_full pre.holds (omega (arith, u, i, l)))
 
-pub returns-in-Next : goal.returns-in-Next
+pub returns-in-Ok : goal.returns-in-Ok
 unfolding read_after
-returns-in-Next c = λ located items held latest.
+returns-in-Ok c = λ located items held latest.
     let x = c.args in
     let pre = c.requires in
     let read = c.option_by_name-p in
     let P = read.ensures in
-    let q = ended_parsed read.result.cursor (sym c.ended_by-ended.ensures ∙ c.in-Next.is) in
+    let q = ended_parsed read.result.cursor (sym c.ended_by-ended.ensures ∙ c.in-Ok.is) in
     let inserts = c.insert_option.ensures in
     let e = inserts.0 in
     let ended = c.name_end-to.ensures in
@@ -54,7 +54,7 @@ returns-in-Next c = λ located items held latest.
     let k = read_after located read.result P held latest _ q (omega (arith, u, g.0)) z pre.short in
     let after : List ℕ = read.new.bytes in
     let put : List Slot = set items e.place e.slot in
-    let i = option_at_lem _ _ _ _ ended c.option_named-found.ensures c.in-Found.is
+    let i = option_at_lem _ _ _ _ ended c.option_named-found.ensures c.in-Some.is
     ∙ ap listed (sym P.reads.reads ∙ ap (read_by (option_value_of _ read.result.value P.al P.b)) q) in
     subst (λ (t : Stepped). StepsTo x.s.now located x.at t.step t.state after (set items t.place t.slot)) (sym inserts.2)
     (stepped _ located _ _ _ after items put _ _ _ P.al P.b (P.apart _ q) held i z (omega (arith, g.0, w)) (omega (arith, u, g.0, w)) _
@@ -63,12 +63,12 @@ returns-in-Next c = λ located items held latest.
     subst (λ (l : List ℕ). Holds x.s.now (located_also located x.at (option_in k)) e.state l put)
     (sym (ap (λ (m : PatternBytes). m.bytes) P.stored)) (inserts.1.holds k y)))
 
-pub returns-in-Refused : goal.returns-in-Refused
-returns-in-Refused c = λ located items held latest.
+pub returns-in-Err : goal.returns-in-Err
+returns-in-Err c = λ located items held latest.
     let read = c.option_by_name-p in
     let P = read.ensures in
     let v = option_value_of _ read.result.value P.al P.b in
-    let q = sym c.ended_by-ended.ensures ∙ c.in-Refused.is in
+    let q = sym c.ended_by-ended.ensures ∙ c.in-Err.is in
     let named = c.name_end-to.ensures in
-    let i = option_at_lem _ _ _ _ named c.option_named-found.ensures c.in-Found.is ∙ ap listed (sym P.reads.reads) in
-    rw c.step_only-in-Refused.ensures (λ K. taken_refused _ _ _ K v read.result.cursor i q)
+    let i = option_at_lem _ _ _ _ named c.option_named-found.ensures c.in-Some.is ∙ ap listed (sym P.reads.reads) in
+    rw c.step_only-in-Err.ensures (λ K. taken_refused _ _ _ K v read.result.cursor i q)

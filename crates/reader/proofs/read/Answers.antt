@@ -1,5 +1,6 @@
 -- What reading a text comes to is what is still to come from the loop's place on: the front says so at the start, spaces are passed, each step is the
 -- definition's, and at the last `)` the judgement is.
+use Rattle.std.specs.Prelude.{Result}
 use mathlib.Core.Path.{◌≡◌, refl, sym, ap, ◌∙◌, subst}
 use native.Mathlib.Omega.{arith}
 use mathlib.Core.List.{[]}
@@ -8,7 +9,6 @@ use lib.Seq.{set_out}
 use Rattle.definitions.specs.Limits.{document_limits, max_items}
 use Rattle.definitions.specs.Reading.{finished}
 use Rattle.laws.proofs.Numbers.{read_told}
-use Rattle.read_frame.specs.declared.Front.{Front}
 use Rattle.read_frame.specs.Framing.{Fronts}
 use Rattle.read_insert.specs.Checking.{table_in}
 use Rattle.read_insert.proofs.OneMore.{sound, items_full}
@@ -16,11 +16,12 @@ use Rattle.read_steps.proofs.OptionSteps.{fresh_holds}
 use Rattle.read_steps.proofs.Looping.{goes_space, goes_told, loop_out}
 use Rattle.reader.proofs.read.Goals as goal
 use Rattle.reader.proofs.read.Goals.{then-place-lt-ITEMS, else-place-lt-ITEMS}
+use Rattle.definitions.specs.declared.answers.TextRefusal.{TextRefusal}
 
 pub loop-at-init : goal.loop-at-init
 loop-at-init c =
     let s = c.args.s.now in
-    let front = subst (λ (f : Front). Fronts s f) c.in_default.is c.front_of-front.ensures in
+    let front = subst (λ (f : Result Unit TextRefusal). Fronts s f) c.in_default.is c.front_of-front.ensures in
     let none = c.no_slot-none in
     let f = fresh_holds s c.fresh-st.result (replicate document_limits.room 0) (replicate max_items none.result) c.fresh-st.ensures refl
     (ap (replicate max_items) none.ensures) in
@@ -68,8 +69,8 @@ loop-at-preserved c =
 pub finish-outcome-requires : goal.finish-outcome-requires
 finish-outcome-requires c = sound c.loop-at.invariant.1
 
-pub returns-in-Refused-outcome : goal.returns-in-Refused-outcome
-returns-in-Refused-outcome c =
+pub returns-in-Err-outcome : goal.returns-in-Err-outcome
+returns-in-Err-outcome c =
     let l = c.loop-at in
     let i = l.invariant in
     let t = c.step_at-t in
@@ -77,7 +78,7 @@ returns-in-Refused-outcome c =
     let g = goes_told _ l.bytes l.st _ l.at t.new.bytes t.result t.ensures _ told i.0 l.items i.1 refl i.2 in
     let judged = c.finish-outcome.ensures _ l.bytes i.0 refl i.1 in
     let z = read_told _
-    (c.refused-in-Refused-outcome.ensures ∙ rw c.in-Refused-outcome.is at judged ∙ sym (i.5 ∙ ap (finished document_limits.room _) g.0)) in
+    (c.refused-in-Err-outcome.ensures ∙ rw c.in-Err-outcome.is at judged ∙ sym (i.5 ∙ ap (finished document_limits.room _) g.0)) in
     record { answer = z.0; numbers = z.1 }
 
 pub returns-in-Done : goal.returns-in-Done

@@ -8,21 +8,21 @@ use Rattle.replay_laws.specs.Replays.{refused_output}
 use Rattle.replay_lines.specs.Feeding.{is_accepted, opened_text}
 use Rattle.replay_lines.proofs.open.Goals as goal
 
-pub returns-in-Refused : goal.returns-in-Refused
+pub returns-in-Err : goal.returns-in-Err
 unfolding refused_output
-returns-in-Refused c =
+returns-in-Err c =
     let b = c.load-b.ensures in
-    let judged = sym (loaded_judgement document_limits _) ∙ sym (ap (λ (x : LoadedBook). x.judgement) b) ∙ c.in-Refused.is in
+    let judged = sym (loaded_judgement document_limits _) ∙ sym (ap (λ (x : LoadedBook). x.judgement) b) ∙ c.in-Err.is in
     record {
       rules = ap (λ (x : LoadedBook). x.rules) b;
       accepted = sym (ap is_accepted judged);
       put = told (ap opened_text judged) c.put_refused_book-put.ensures;
     }
 
-pub returns-in-Accepted : goal.returns-in-Accepted
-returns-in-Accepted c =
+pub returns-in-Ok : goal.returns-in-Ok
+returns-in-Ok c =
     let b = c.load-b.ensures in
-    let judged = sym (loaded_judgement document_limits _) ∙ sym (ap (λ (x : LoadedBook). x.judgement) b) ∙ c.in-Accepted.is in
+    let judged = sym (loaded_judgement document_limits _) ∙ sym (ap (λ (x : LoadedBook). x.judgement) b) ∙ c.in-Ok.is in
     record {
       rules = ap (λ (x : LoadedBook). x.rules) b;
       accepted = sym (ap is_accepted judged);

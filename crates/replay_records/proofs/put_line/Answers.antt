@@ -28,13 +28,13 @@ returns-in_default c =
 
 pub put_record-requires : goal.put_record-requires
 put_record-requires c =
-    let e = sym c.parse_packet.ensures ∙ c.in-Parsed.is in
+    let e = sym c.parse_packet.ensures ∙ c.in-Some.is in
     (hex_packet _ _ _ _ _ e, hex_decoded _ _ _ _ _ e)
 
 pub returns : goal.returns
 returns c =
     let some = sym c.contains.ensures ∙ not-false _ c.if-not-contains.false-raw in
-    let e = sym c.parse_packet.ensures ∙ c.in-Parsed.is in
+    let e = sym c.parse_packet.ensures ∙ c.in-Some.is in
     let z = good-put _ _ _ c.if-line-gt-TRACE_BYTES.false c.part_after-r1.ensures c.part_after-r2.ensures some
     c.part_before.ensures c.part_before-packet.ensures c.part_before-2.ensures c.part_after-decoded.ensures
     (parsed_packet_lem _ _ _ _ _ e) _ (packet_value _ _ _ _ _ e) c.put_record.ensures in

@@ -15,29 +15,29 @@ returns-in_default c =
 pub returns-then-rule-last : goal.returns-then-rule-last
 returns-then-rule-last c =
     let x = c.args in
-    not-rising x.n x.last x.l.now (omega (arith, c.if-n-ge-RULES.false)) c.parse_rule.result c.parse_rule.ensures _ c.in-Parsed.is
+    not-rising x.n x.last x.l.now (omega (arith, c.if-n-ge-RULES.false)) c.parse_rule.result c.parse_rule.ensures _ c.in-Some.is
     (omega (arith, c.if-rule-last.true))
 
 pub overflow_add-end : goal.overflow_add-end
 overflow_add-end c =
     let x = c.args in
     omega
-    (arith, text-within x.n x.last x.l.now (omega (arith, c.if-n-ge-RULES.false)) c.parse_rule.result c.parse_rule.ensures _ c.in-Parsed.is)
+    (arith, text-within x.n x.last x.l.now (omega (arith, c.if-n-ge-RULES.false)) c.parse_rule.result c.parse_rule.ensures _ c.in-Some.is)
 
 pub slice_bounds-read-end : goal.slice_bounds-read-end
 slice_bounds-read-end c =
     let x = c.args in
     omega
-    (arith, text-within x.n x.last x.l.now (omega (arith, c.if-n-ge-RULES.false)) c.parse_rule.result c.parse_rule.ensures _ c.in-Parsed.is)
+    (arith, text-within x.n x.last x.l.now (omega (arith, c.if-n-ge-RULES.false)) c.parse_rule.result c.parse_rule.ensures _ c.in-Some.is)
 
-pub returns-in-Accepted : goal.returns-in-Accepted
-returns-in-Accepted c =
+pub returns-in-Ok : goal.returns-in-Ok
+returns-in-Ok c =
     let x = c.args in
-    line-passed x.n x.last x.l.now (omega (arith, c.if-n-ge-RULES.false)) c.parse_rule.result c.parse_rule.ensures _ c.in-Parsed.is
-    (omega (arith, c.if-rule-last.false)) c.read-reading.result c.read-reading.ensures.answer (part_long c.in-Parsed.rule.start c.in-Parsed.rule.len x.l.now) c.in-Accepted.is
+    line-passed x.n x.last x.l.now (omega (arith, c.if-n-ge-RULES.false)) c.parse_rule.result c.parse_rule.ensures _ c.in-Some.is
+    (omega (arith, c.if-rule-last.false)) c.read-reading.result c.read-reading.ensures.answer (part_long c.in-Some.rule.start c.in-Some.rule.len x.l.now) c.in-Ok.is
 
-pub returns-in-Refused : goal.returns-in-Refused
-returns-in-Refused c =
+pub returns-in-Err : goal.returns-in-Err
+returns-in-Err c =
     let x = c.args in
-    text-refused x.n x.last x.l.now (omega (arith, c.if-n-ge-RULES.false)) c.parse_rule.result c.parse_rule.ensures _ c.in-Parsed.is
-    (omega (arith, c.if-rule-last.false)) c.read-reading.result c.read-reading.ensures.answer (part_long c.in-Parsed.rule.start c.in-Parsed.rule.len x.l.now) _ _ c.in-Refused.is
+    text-refused x.n x.last x.l.now (omega (arith, c.if-n-ge-RULES.false)) c.parse_rule.result c.parse_rule.ensures _ c.in-Some.is
+    (omega (arith, c.if-rule-last.false)) c.read-reading.result c.read-reading.ensures.answer (part_long c.in-Some.rule.start c.in-Some.rule.len x.l.now) _ _ c.in-Err.is

@@ -5,11 +5,11 @@ use Rattle.definitions.specs.Canonical.{distance_option, modifier_text, option_t
 use Rattle.write_bytes.proofs.Putting.{none_put, told}
 use Rattle.write_patterns.proofs.put_distance.Goals as goal
 
-pub returns-in-Unset : goal.returns-in-Unset
+pub returns-in-None : goal.returns-in-None
 unfolding options_text
-returns-in-Unset c = told (ap (λ x. options_text (distance_option x)) c.in-Unset.is) none_put
+returns-in-None c = told (ap (λ x. options_text (distance_option x)) c.in-None.is) none_put
 
-pub returns-in-Given : goal.returns-in-Given
+pub returns-in-Some : goal.returns-in-Some
 unfolding options_text option_text
-returns-in-Given c = told (ap (λ x. options_text (distance_option x)) c.in-Given.is ∙ append-nil (modifier_text (entry.Distance c.in-Given.shift)))
+returns-in-Some c = told (ap (λ x. options_text (distance_option x)) c.in-Some.is ∙ append-nil (modifier_text (entry.Distance c.in-Some.shift)))
     c.put_distance_value.ensures

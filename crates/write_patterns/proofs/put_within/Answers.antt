@@ -5,11 +5,11 @@ use Rattle.definitions.specs.Canonical.{within_option, modifier_text, option_tex
 use Rattle.write_bytes.proofs.Putting.{none_put, told}
 use Rattle.write_patterns.proofs.put_within.Goals as goal
 
-pub returns-in-Unset : goal.returns-in-Unset
+pub returns-in-None : goal.returns-in-None
 unfolding options_text
-returns-in-Unset c = told (ap (λ x. options_text (within_option x)) c.in-Unset.is) none_put
+returns-in-None c = told (ap (λ x. options_text (within_option x)) c.in-None.is) none_put
 
-pub returns-in-Given : goal.returns-in-Given
+pub returns-in-Some : goal.returns-in-Some
 unfolding options_text option_text
-returns-in-Given c = told (ap (λ x. options_text (within_option x)) c.in-Given.is ∙ append-nil (modifier_text (entry.Within c.in-Given.reach)))
+returns-in-Some c = told (ap (λ x. options_text (within_option x)) c.in-Some.is ∙ append-nil (modifier_text (entry.Within c.in-Some.reach)))
     c.put_within_value.ensures

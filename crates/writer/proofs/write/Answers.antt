@@ -26,14 +26,14 @@ pub returns-then-out-n : goal.returns-then-out-n
 returns-then-out-n c =
     let x = c.args in
     let formed = sym (c.well_formed-2.ensures x.t.protocol x.t.flow (omega arith)) ∙ c.if-not-well_formed.false in
-    let a = too_short x.t formed _ refl c.in-Written.n (sym c.write_formed-w.ensures.answer ∙ c.in-Written.is) x.out.now c.if-out-n.true in
+    let a = too_short x.t formed _ refl c.in-Ok.n (sym c.write_formed-w.ensures.answer ∙ c.in-Ok.is) x.out.now c.if-out-n.true in
     record { answer = a.0; buffer = a.1; numbers = write_told _ _ a.0 }
 
 pub returns : goal.returns
 returns c =
     let x = c.args in
     let formed = sym (c.well_formed-2.ensures x.t.protocol x.t.flow (omega arith)) ∙ c.if-not-well_formed.false in
-    let e = sym c.write_formed-w.ensures.answer ∙ c.in-Written.is in
-    let back = taken_back x.t formed _ refl c.in-Written.n e c.write_formed-w.ensures.put in
-    let a = written x.t formed _ refl c.in-Written.n e x.out.now c.if-out-n.false (told back c.put_front-len.ensures) in
+    let e = sym c.write_formed-w.ensures.answer ∙ c.in-Ok.is in
+    let back = taken_back x.t formed _ refl c.in-Ok.n e c.write_formed-w.ensures.put in
+    let a = written x.t formed _ refl c.in-Ok.n e x.out.now c.if-out-n.false (told back c.put_front-len.ensures) in
     record { answer = a.0; buffer = a.1; numbers = write_told _ _ a.0 }

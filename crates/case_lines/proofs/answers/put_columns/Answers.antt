@@ -18,12 +18,12 @@ returns-in_default c = told
 
 pub put_formed-requires : goal.put_formed-requires
 put_formed-requires c =
-    let e = sym c.parse_packet.ensures ∙ c.in-Parsed.is in
+    let e = sym c.parse_packet.ensures ∙ c.in-Some.is in
     (hex_packet _ _ _ _ _ e, hex_decoded _ _ _ _ _ e, c.requires.0, c.requires.1)
 
 pub returns : goal.returns
 returns c =
-    let e = sym c.parse_packet.ensures ∙ c.in-Parsed.is in
+    let e = sym c.parse_packet.ensures ∙ c.in-Some.is in
     let y = sym (query_is _ _ c.parse_query-queried.ensures) ∙ (sym c.is_query.ensures ∙ c.if-not-is_query.false) in
     told
     (good_columns _ _ _ _ _ _ y (parsed_packet_lem _ _ _ _ _ e) _ (packet_value _ _ _ _ _ e) _ (query_says _ _ c.parse_query-queried.ensures y))

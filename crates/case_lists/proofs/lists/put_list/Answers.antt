@@ -11,22 +11,22 @@ put_seen-requires c =
     let x = c.args in
     let formed = c.well_formed-formed.ensures x.t.protocol x.t.flow (omega arith) in
     let told-input = input_told x.t x.p.now x.decoded.now formed c.check_input-seen.ensures in
-    let ok = seen_checked x.t x.p.now x.decoded.now told-input c.in-Seen.is c.payload_of-payload.ensures.bytes in
+    let ok = seen_checked x.t x.p.now x.decoded.now told-input c.in-Ok.is c.payload_of-payload.ensures.bytes in
     searchable ok (omega arith)
 
-pub returns-in-Refused : goal.returns-in-Refused
-returns-in-Refused c =
+pub returns-in-Err : goal.returns-in-Err
+returns-in-Err c =
     let x = c.args in
     let formed = c.well_formed-formed.ensures x.t.protocol x.t.flow (omega arith) in
     let told-input = input_told x.t x.p.now x.decoded.now formed c.check_input-seen.ensures in
-    let check = refused_check x.t x.p.now x.decoded.now told-input c.in-Refused.is x.dir x.m in
+    let check = refused_check x.t x.p.now x.decoded.now told-input c.in-Err.is x.dir x.m in
     told (rw check) c.put_refused.ensures
 
-pub returns-in-Seen : goal.returns-in-Seen
-returns-in-Seen c =
+pub returns-in-Ok : goal.returns-in-Ok
+returns-in-Ok c =
     let x = c.args in
     let formed = c.well_formed-formed.ensures x.t.protocol x.t.flow (omega arith) in
     let told-input = input_told x.t x.p.now x.decoded.now formed c.check_input-seen.ensures in
-    let ok = seen_checked x.t x.p.now x.decoded.now told-input c.in-Seen.is c.payload_of-payload.ensures.bytes in
+    let ok = seen_checked x.t x.p.now x.decoded.now told-input c.in-Ok.is c.payload_of-payload.ensures.bytes in
     let l = list_here ok x.dir x.m ∙ sym (list_by_parts x.t _ c.payload_of-payload.result.now x.decoded.now x.dir x.m) in
     told (rw (check_here ok x.dir x.m, l)) c.put_seen.ensures

@@ -15,7 +15,7 @@ returns-in_default c =
     let w = fields_check x.payload.now x.decoded.now x.m in
     let l = list_in t x.header x.payload.now x.decoded.now x.dir x.m in
     let a = c.first_in-a in
-    told (first_not w l a.result a.ensures c.in_default.not-Placed) c.put_answer.ensures
+    told (first_not w l a.result a.ensures c.in_default.not-Ok-Placed) c.put_answer.ensures
 
 pub returns : goal.returns
 unfolding first_in_list
@@ -24,5 +24,5 @@ returns c =
     let t = searched_table x.protocol x.flow x.items x.count x.bytes.now in
     let w = fields_check x.payload.now x.decoded.now x.m in
     let v = list_ordered t x.header x.payload.now x.decoded.now x.dir x.m in
-    told (first_one _ v w c.first_in-a.result c.first_in-a.ensures c.in-Placed.is)
+    told (first_one _ v w c.first_in-a.result c.first_in-a.ensures c.in-Ok-Placed.is)
     (then c.put_placement-next.ensures c.put_after.ensures)

@@ -17,12 +17,12 @@ returns-in_default c = told
 
 pub put_formed-requires : goal.put_formed-requires
 put_formed-requires c =
-    let e = sym c.parse_packet.ensures ∙ c.in-Parsed.is in
+    let e = sym c.parse_packet.ensures ∙ c.in-Some.is in
     let hex-book = sym c.is_hex_pairs.ensures ∙ c.if-not-is_hex_pairs.false in
     (hex_packet _ _ _ _ _ e, hex_decoded _ _ _ _ _ e, hex-book, c.requires.0, c.requires.1, c.requires.2)
 
 pub returns : goal.returns
 returns c =
-    let e = sym c.parse_packet.ensures ∙ c.in-Parsed.is in
+    let e = sym c.parse_packet.ensures ∙ c.in-Some.is in
     let hex-book = sym c.is_hex_pairs.ensures ∙ c.if-not-is_hex_pairs.false in
     told (good_columns _ _ _ _ _ hex-book (parsed_packet_lem _ _ _ _ _ e) _ (packet_value _ _ _ _ _ e)) c.put_formed.ensures

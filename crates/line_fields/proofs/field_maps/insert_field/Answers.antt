@@ -12,4 +12,4 @@ returns-in_default c = no_span_there _ _ _ c.part_before.ensures _ c.field_named
 
 pub returns : goal.returns
 returns c = one_field _ _ _ c.part_before.ensures _ c.field_named-field.ensures (sym c.is_present.ensures ∙ c.if-is_present.false)
-    _ c.part_after.ensures _ c.parse_span.ensures _ c.in-Parsed.is _ c.with_field.ensures
+    _ c.part_after.ensures _ c.parse_span.ensures _ c.in-Some.is _ c.with_field.ensures

@@ -9,7 +9,7 @@ returns-in_default c = inserting_halt _ _ _ c.loop-at.invariant c.loop-at-test.t
 
 pub loop-at-preserved : goal.loop-at-preserved
 loop-at-preserved c = inserting_on _ _ _ c.loop-at.invariant c.loop-at-test.true _ c.part_before-e.ensures _ c.insert_field.ensures
-    _ c.in-Parsed.is
+    _ c.in-Some.is
 
 pub returns : goal.returns
 returns c = inserting_out _ _ _ c.loop-at.invariant (omega arith)

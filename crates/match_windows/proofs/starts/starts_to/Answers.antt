@@ -19,16 +19,16 @@ pub returns-then-not-reaches : goal.returns-then-not-reaches
 returns-then-not-reaches c =
     let a = c.args in
     let w = c.window_end-e in
-    let z : to_z w64 (of_z w64 w.result) ≡ a.s +ℤ pos c.in-Given.w.number = end_back a.s w.result c.in-Given.w.number c.ranges.s (record { sfits = w.type_inv }) w.ensures in
-    to_none a.s a.within c.in-Given.w a.len a.n c.in-Given.is
+    let z : to_z w64 (of_z w64 w.result) ≡ a.s +ℤ pos c.in-Some.w.number = end_back a.s w.result c.in-Some.w.number c.ranges.s (record { sfits = w.type_inv }) w.ensures in
+    to_none a.s a.within c.in-Some.w a.len a.n c.in-Some.is
     (ap (le_z (pos a.n)) (sym z) ∙ sym c.reaches.ensures ∙ not-true _ c.if-not-reaches.true-raw)
 
 pub returns : goal.returns
 returns c =
     let a = c.args in
     let w = c.window_end-e in
-    let z : to_z w64 (of_z w64 w.result) ≡ a.s +ℤ pos c.in-Given.w.number = end_back a.s w.result c.in-Given.w.number c.ranges.s (record { sfits = w.type_inv }) w.ensures in
-    to_some a.s a.within c.in-Given.w a.len a.n c.in-Given.is
+    let z : to_z w64 (of_z w64 w.result) ≡ a.s +ℤ pos c.in-Some.w.number = end_back a.s w.result c.in-Some.w.number c.ranges.s (record { sfits = w.type_inv }) w.ensures in
+    to_some a.s a.within c.in-Some.w a.len a.n c.in-Some.is
     (ap (le_z (pos a.n)) (sym z) ∙ sym c.reaches.ensures ∙ not-false _ c.if-not-reaches.false-raw)
     c.room-2.result
     (c.room-2.ensures ∙ ap (λ (k : ℕ). k + 1 - a.n) (c.place-end.ensures ∙ ap (λ (x : ℤ). min (clip x) a.len) z))

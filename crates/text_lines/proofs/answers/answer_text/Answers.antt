@@ -8,27 +8,27 @@ use Rattle.text_lines.proofs.answers.answer_text.Goals as goal
 pub write_formed-w-requires : goal.write_formed-w-requires
 write_formed-w-requires c =
     let read = c.read-reading in
-    read_formed c.args.s.now read.result read.ensures.answer c.in-Accepted.is
+    read_formed c.args.s.now read.result read.ensures.answer c.in-Ok.is
 
-pub returns-in-Written : goal.returns-in-Written
-returns-in-Written c =
+pub returns-in-Ok : goal.returns-in-Ok
+returns-in-Ok c =
     let s = c.args.s.now in
     let read = c.read-reading in
     let w = c.write_formed-w.ensures in
-    let formed = read_formed s read.result read.ensures.answer c.in-Accepted.is in
-    told (read_line s read.result read.ensures.answer c.in-Accepted.is)
-    (told (wrote_line read.result.table _ refl formed w.put c.in-Written.n (sym c.in-Written.is ∙ w.answer)) c.put_ok.ensures)
+    let formed = read_formed s read.result read.ensures.answer c.in-Ok.is in
+    told (read_line s read.result read.ensures.answer c.in-Ok.is)
+    (told (wrote_line read.result.table _ refl formed w.put c.in-Ok.n (sym c.in-Ok.is ∙ w.answer)) c.put_ok.ensures)
 
-pub returns-in-Refused-w : goal.returns-in-Refused-w
-returns-in-Refused-w c =
+pub returns-in-Err-w : goal.returns-in-Err-w
+returns-in-Err-w c =
     let s = c.args.s.now in
     let read = c.read-reading in
-    told (read_line s read.result read.ensures.answer c.in-Accepted.is)
-    (told (declined_line read.result.table _ refl c.in-Refused-w.r (sym c.in-Refused-w.is ∙ c.write_formed-w.ensures.answer))
+    told (read_line s read.result read.ensures.answer c.in-Ok.is)
+    (told (declined_line read.result.table _ refl c.in-Err-w.r (sym c.in-Err-w.is ∙ c.write_formed-w.ensures.answer))
     c.put_refused.ensures)
 
-pub returns-in-Refused : goal.returns-in-Refused
-returns-in-Refused c =
+pub returns-in-Err : goal.returns-in-Err
+returns-in-Err c =
     let read = c.read-reading in
     let s = c.args.s.now in
-    told (refused_line_lem s read.result read.ensures.answer c.in-Refused.r c.in-Refused.place c.in-Refused.is) c.put_refused-in-Refused.ensures
+    told (refused_line_lem s read.result read.ensures.answer c.in-Err.r c.in-Err.place c.in-Err.is) c.put_refused-in-Err.ensures

@@ -1,2 +1,0 @@
--- What the contracts of `book_file` cite.
-pub mod Counted
