@@ -11,7 +11,7 @@ use Rattle.definitions.specs.declared.answers.Refusal.{Refusal}
 use Rattle.definitions.specs.Lists.{any?, all?}
 use Rattle.definitions.specs.Refusals.{number_of, check_number, refuse_if, and_then}
 
-pub no_fine : {A : Type 0} (r : Refusal) → Err r ≡ Ok tt → A
+pub no_fine : {A : Type 0} (r : Refusal) → ◌≡◌ {A = Result Unit Refusal} (Err r) (Ok tt) → A
 no_fine r e = let z : false ≡ true = cc in absurd (false≢true z)
 
 pub refuse_same : (b : Bool) (r : Refusal) (d d' : Result Unit Refusal) → (b ≡ false → d ≡ d') → refuse_if b r d ≡ refuse_if b r d'

@@ -131,16 +131,23 @@ module _ (s : List ℕ) (P Q : Placing) where
       → ((read_placing P lim s).table ≡ (read_placing Q lim s).table) × (except_places (read_placing P lim s).outcome ≡ except_places (read_placing Q lim s).outcome)
   places_alone lim = let i = readings lim in (i.0, same_except i.1)
 
+  -- a refusal's cause and place
+  same_refusal : (r r' : Refusal) (p p' : ℕ)
+      → ◌≡◌ {A = Result Unit TextRefusal} (Err (record { refusal = r; place = p })) (Err (record { refusal = r'; place = p' })) → (r ≡ r') × (p ≡ p')
+  same_refusal r r' p p' e =
+      let z : ◌≡◌ {A = TextRefusal} (record { refusal = r; place = p }) (record { refusal = r'; place = p' }) = cc in
+      (ap (λ (x : TextRefusal). x.refusal) z, ap (λ (x : TextRefusal). x.place) z)
+
   -- 6 by one placing is 6 by the other, and there is an option whose form fails
   abbrev pub FormCause : ℕ → Result Unit TextRefusal → Type 0
   FormCause p o = (dash : ℕ) × (q : ℕ) × OptionAnswers s dash (listed (Failed q)) × (p ≡ P.form dash q) × (o ≡ Err (record { refusal = refusal.Form; place = (Q.form dash q) }))
 
   form_of : {o o' : Result Unit TextRefusal} → Outcomes o o' → (p : ℕ) → o ≡ Err (record { refusal = refusal.Form; place = p }) → FormCause p o'
   form_of accepts p e = never (cc)
-  form_of (refuses (form dash q a)) p e = let z : P.form dash q ≡ p = cc in (dash, q, a, sym z, refl)
-  form_of (refuses (limit dash q next a)) p e = never (cc)
+  form_of (refuses (form dash q a)) p e = (dash, q, a, sym (same_refusal _ _ _ _ e).1, refl)
+  form_of (refuses (limit dash q next a)) p e = let z : refusal.Limit ≡ refusal.Form = (same_refusal _ _ _ _ e).0 in never (cc)
   form_of (refuses (other r k w)) p e =
-      let z : r ≡ refusal.Form = cc in
+      let z : r ≡ refusal.Form = (same_refusal _ _ _ _ e).0 in
       let y : placed_anew refusal.Form ≡ false = subst (λ x. placed_anew x ≡ false) z w in
       never (cc)
 
@@ -155,10 +162,10 @@ module _ (s : List ℕ) (P Q : Placing) where
 
   limit_of : {o o' : Result Unit TextRefusal} → Outcomes o o' → (p : ℕ) → o ≡ Err (record { refusal = refusal.Limit; place = p }) → LimitCause p o'
   limit_of accepts p e = never (cc)
-  limit_of (refuses (form dash q a)) p e = never (cc)
-  limit_of (refuses (limit dash q next a)) p e = let z : P.limit dash q ≡ p = cc in (dash, q, next, a, sym z, refl)
+  limit_of (refuses (form dash q a)) p e = let z : refusal.Form ≡ refusal.Limit = (same_refusal _ _ _ _ e).0 in never (cc)
+  limit_of (refuses (limit dash q next a)) p e = (dash, q, next, a, sym (same_refusal _ _ _ _ e).1, refl)
   limit_of (refuses (other r k w)) p e =
-      let z : r ≡ refusal.Limit = cc in
+      let z : r ≡ refusal.Limit = (same_refusal _ _ _ _ e).0 in
       let y : placed_anew refusal.Limit ≡ false = subst (λ x. placed_anew x ≡ false) z w in
       never (cc)
 
