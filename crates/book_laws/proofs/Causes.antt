@@ -57,11 +57,13 @@ line_among lim n last l =
     (ap (among book_causes) (text_number (read lim (rule_source l)).outcome)
     ∙ among_more read_causes book_causes (read_number (read lim (rule_source l)).outcome) refl (read_causes_lem lim (rule_source l)))))
 
-accepted_not : {A : Type 0} (n : ℕ) (r : Refusal) (line : ℕ) → Ok n ≡ Err (record { refusal = r; line = line }) → A
+accepted_not : {A : Type 0} (n : ℕ) (r : Refusal) (line : ℕ) → ◌≡◌ {A = Result ℕ BookRefusal} (Ok n) (Err (record { refusal = r; line = line })) → A
 accepted_not n r line e = let z : false ≡ true = cc in absurd (false≢true z)
 
-refused_at_lem : (c r : Refusal) (n line : ℕ) → Err (record { refusal = c; line = n }) ≡ Err (record { refusal = r; line = line }) → n ≡ line
-refused_at_lem c r n line e = cc
+refused_at_lem : (c r : Refusal) (n line : ℕ)
+    → ◌≡◌ {A = Result ℕ BookRefusal} (Err (record { refusal = c; line = n })) (Err (record { refusal = r; line = line })) → n ≡ line
+refused_at_lem c r n line e =
+    let z : ◌≡◌ {A = BookRefusal} (record { refusal = c; line = n }) (record { refusal = r; line = line }) = cc in ap (λ (x : BookRefusal). x.line) z
 
 -- a line that passes is not the 65th
 line_few : (lim : Limits) (n last : ℕ) (l : List ℕ) → line_check lim (suc n) last l ≡ Ok tt → suc n ≤ max_rules

@@ -34,7 +34,7 @@ rises_over last (x ∷ rs) h r m =
     (λ n. omega (arith, h.0, rises_over x.number rs h.1 r n))
     (cases_cons m)
 
-refused_not : {A : Type 0} (r : Refusal) (line n : ℕ) → Err (record { refusal = r; line = line }) ≡ Ok n → A
+refused_not : {A : Type 0} (r : Refusal) (line n : ℕ) → ◌≡◌ {A = Result ℕ BookRefusal} (Err (record { refusal = r; line = line })) (Ok n) → A
 refused_not r line n e = let z : false ≡ true = cc in absurd (false≢true z)
 
 pub passed_line : (d : Result Unit Refusal) (n k : ℕ) (j : Result ℕ BookRefusal) → unless_line d n j ≡ Ok k → (d ≡ Ok tt) × (j ≡ Ok k)

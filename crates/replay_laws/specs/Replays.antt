@@ -2,6 +2,7 @@
 use Rattle.std.specs.Prelude.{ℕ, Bool, true, false, List, [], ◌++◌, map, if◌then◌else◌, Result, Ok, Err}
 use Rattle.forms.specs.Bytes.{text}
 use Rattle.definitions.specs.declared.answers.Refusal.{Refusal}
+use Rattle.definitions.specs.declared.books.Action.{Action}
 use Rattle.definitions.specs.declared.books.Action.TheVariants as action
 use Rattle.definitions.specs.declared.books.Decision.{Decision}
 use Rattle.definitions.specs.declared.answers.BookRefusal.{BookRefusal}
@@ -21,10 +22,13 @@ pub data Outcome : Type 0 where
   hold : ℕ → Outcome
   bad : Outcome
 
+abbrev pub outcome_of : Action → ℕ → Outcome
+outcome_of action.Pass n = pass n
+outcome_of action.Hold n = hold n
+
 -- by what the rules decide, which is never a refusal: the book was judged before
 abbrev pub outcome_by : Result Decision BookRefusal → Outcome
-outcome_by (Ok d) = pass d.rule
-outcome_by (Ok d) = hold d.rule
+outcome_by (Ok d) = outcome_of d.action d.rule
 outcome_by (Err e) = bad
 
 -- word, tab, deciding rule

@@ -1,6 +1,6 @@
 -- THE SYNTAX EXACTLY: the reader accepts a text with a table exactly if the grammar has the text for that table, so that a text has at most one
 -- table. The reader's tests in their order are the grammar's conditions, and its loop reads the options' texts.
-use Rattle.std.specs.Prelude.{Ok, Err}
+use Rattle.std.specs.Prelude.{Result, Ok, Err}
 use mathlib.Core.Path.{◌≡◌, refl, sym, ap, subst, ◌∙◌}
 use mathlib.Core.Bool.{true, false, not}
 use mathlib.Core.List.{List, [], ◌++◌}
@@ -13,6 +13,7 @@ use borrow.Author.Tests.{ltb-false, le-ltb, not-false}
 use Rattle.forms.specs.Bytes.{run}
 use Rattle.definitions.specs.declared.answers.Refusal.{Refusal}
 use Rattle.definitions.specs.declared.answers.Refusal.TheVariants as refusal
+use Rattle.definitions.specs.declared.answers.TextRefusal.{TextRefusal}
 use Rattle.definitions.specs.declared.table.Table.{Table}
 use Rattle.definitions.specs.Limits.{Limits}
 use Rattle.definitions.specs.Lists.{none?, all?, count, same_bytes}
@@ -32,7 +33,8 @@ use Rattle.syntax.proofs.UsablePatterns.{test_only, options_tests, usable_exactl
 -- ---- after the options
 
 refused_never {ℓ} : {A : Type ℓ} (room : ℕ) (r : Refusal) (p : ℕ) (t : Table) → refused_reading room r p ≡ accepted_reading t → A
-refused_never room r p t e = let z : Err (record { refusal = r; place = p }) ≡ (Ok tt) = ap (λ x. x.outcome) e in impossible (cc)
+refused_never room r p t e =
+    let z : ◌≡◌ {A = Result Unit TextRefusal} (Err (record { refusal = r; place = p })) (Ok tt) = ap (λ x. x.outcome) e in impossible (cc)
 
 -- what is left to ask of the options
 record Checked (room : ℕ) (es : List OptionValue) (t : Table) : Type 0 where

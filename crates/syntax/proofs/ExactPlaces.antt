@@ -69,7 +69,7 @@ wrong_byte_exactly lim s p = (
   λ w.
       let c = form_cause s at_dash at_letter lim w.0 w.1 in
       let u = subst (λ d. WrongByte s d c.1) (sym c.3) (form_fails s c.0 c.1 c.2) in
-      c.4 ∙ ap (outcome.Refused refusal.Form) (one_wrong_byte s w.0 c.1 p u w.2),
+      c.4 ∙ ap (λ q. Err (record { refusal = refusal.Form; place = q })) (one_wrong_byte s w.0 c.1 p u w.2),
 )
 
 -- ---- 7
@@ -130,5 +130,5 @@ beyond_limit_exactly lim s p = (
   λ b.
       let c = limit_cause s at_dash at_letter lim b.0 b.1 in
       let u = subst (λ d. BeyondLimit s d c.1) (sym c.4) (limit_breaks s c.0 c.1 c.2 c.3) in
-      c.5 ∙ ap (outcome.Refused refusal.Limit) (one_beyond_limit s b.0 c.1 p u b.2),
+      c.5 ∙ ap (λ q. Err (record { refusal = refusal.Limit; place = q })) (one_beyond_limit s b.0 c.1 p u b.2),
 )

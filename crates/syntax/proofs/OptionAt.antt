@@ -9,10 +9,8 @@ use lib.Seq.{take-append_seam, drop-append_seam}
 use Rattle.forms.specs.Bytes.{text, same_word}
 use Rattle.forms.specs.Place.{Read, read_at}
 use Rattle.forms.proofs.Words.{word_length}
-use Rattle.definitions.specs.declared.answers.Refusal.TheVariants as refusal
 use Rattle.definitions.specs.OptionValues.{OptionValue}
 use Rattle.definitions.specs.Options.{Option, option_table, in_name, name_length, listed, option_at}
-use Rattle.definitions.specs.Reading.{dashes}
 use Rattle.definitions.specs.WrongPlaces.{span, NamedAt, OfForm}
 use Rattle.list_laws.proofs.Runs.{run_le}
 use Rattle.laws.proofs.Placing.{OptionAnswers}

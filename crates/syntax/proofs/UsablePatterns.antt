@@ -1,6 +1,6 @@
 -- As many patterns are usable as there are, or fewer: the options of a text make one pattern item for each pattern option and no other, since no
 -- option's form makes a test whose item is a pattern. That is shown row by row, of the function that makes the option.
-use Rattle.std.specs.Prelude.{Option, None}
+use Rattle.std.specs.Prelude.{Option as Optional, None}
 use mathlib.Core.Path.{◌≡◌, refl, sym, ap, subst, ◌∙◌}
 use mathlib.Core.Bool.{Bool, true, false}
 use mathlib.Core.List.Memᴰ.{head as first_one}
@@ -138,7 +138,7 @@ patterns_counted (Test it al ∷ es) t = ap length (skipped (kind_of it) (patter
 patterns_counted (Pattern n b ∷ es) t = ap suc (patterns_counted es t)
 patterns_counted (Modified m ∷ es) t = patterns_counted es t
 
-usable_run_le : (last : Option Match) (ps : List table.Pattern) → usable_run last ps ≤ length ps
+usable_run_le : (last : Optional Match) (ps : List table.Pattern) → usable_run last ps ≤ length ps
 unfolding usable_run
 usable_run_le last [] = omega arith
 usable_run_le last (p ∷ ps) = by_cases (usable last p) (λ t. rw t (omega (arith, usable_run_le (last_after last p (start_at 0)) ps))) (λ t. rw t (omega arith))

@@ -7,7 +7,7 @@ use mathlib.Core.List.{List, [], ◌∷◌, ◌++◌, append_assoc}
 use Prim.Native.Nat.{ℕ, ◌+◌, ◌-◌, ◌≤◌, ◌<◌}
 use native.Mathlib.Omega.{arith}
 use lib.ListN.{length, length-append, drop, length-drop}
-use Rattle.forms.specs.Form.{Form, Means}
+use Rattle.forms.specs.Form.{Means}
 use Rattle.forms.specs.Scan.{Scan, Got, Stop, scan, over}
 use Rattle.forms.specs.Place.{Failed, placed, read_at}
 use Rattle.forms.proofs.Sound.{never}
@@ -20,7 +20,7 @@ use Rattle.definitions.specs.Options.{listed}
 use Rattle.definitions.specs.Reading.{at_dash, at_letter, read_placing, read}
 use Rattle.definitions.specs.WrongPlaces.{span, OfForm, BeginsForm, WrongByte}
 use Rattle.laws.proofs.Placing.{OptionAnswers, form_cause}
-use Rattle.syntax.proofs.Frame.{after, place_after_lem}
+use Rattle.syntax.proofs.Frame.{place_after_lem}
 use Rattle.syntax.proofs.Rows.{form_alone_lem}
 use Rattle.syntax.proofs.OptionAt.{Named, named_at, form_stands, span_of, parted_alike}
 
