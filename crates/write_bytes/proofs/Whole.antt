@@ -1,12 +1,13 @@
 -- What was put from the start of a buffer on: how many bytes are counted, and what the buffer holds.
 use mathlib.Core.Path.{◌≡◌, refl, sym, ap, subst, ◌∙◌}
-use mathlib.Core.List.{List, [], ◌∷◌, ◌++◌}
+use mathlib.Core.List.{List, [], ◌∷◌, ◌++◌, append_assoc}
 use Prim.Native.Nat.{ℕ, suc, ◌+◌, ◌≤◌, ◌<◌}
 use native.Mathlib.Omega.{arith}
 use native.Mathlib.Nat.{le_refl, le_trans, le_of_lt}
 use lib.Dec.{leb, ltb}
 use lib.ListN.{length, set, take, drop, length-append}
-use lib.Seq.{sets, sets-eq, take-set-le, take_at, length-take-le}
+use lib.Seq.{sets, sets-eq, take-set-le, take_at, length-take-le, drop-drop}
+use borrow.Rule.Slice.PartMut.{put_mid}
 use borrow.Author.Tests.{le-leb, leb-true, leb-false, le-ltb, ltb-true, ltb-false}
 use Rattle.forms.proofs.Bools.{by_cases}
 use Rattle.write_bytes.specs.Puts.{max_counted, counted, puts, Puts}
@@ -52,6 +53,20 @@ puts_sets out at (b ∷ l) h =
 pub puts_buffer : (out : List ℕ) (at : ℕ) (l : List ℕ) → at + length l ≤ length out → at + length l ≤ max_counted
     → (puts out at l).0 ≡ (take at out ++ l) ++ drop (at + length l) out
 puts_buffer out at l h g = puts_sets out at l g ∙ sets-eq l out at h
+
+-- they are written at once: the part that they fill is replaced
+pub put_at_once : (out : List ℕ) (at : ℕ) {k : ℕ} (l : List ℕ) {m : List ℕ} → at + length l ≤ length out → at + length l ≤ max_counted → k ≡ length l → m ≡ l
+    → Puts out at l (put_mid at k out m) (at + length l)
+put_at_once out at {k = k} l {m = m} h g e d =
+    let n = at + length l in
+    let rest : drop k (drop at out) ≡ drop n out = ap (λ (j : ℕ). drop j (drop at out)) e ∙ drop-drop (length l) at out in
+    let buffer : put_mid at k out m ≡ (puts out at l).0 =
+    ap (λ (x : List ℕ). take at out ++ (m ++ x)) rest
+    ∙ ap (λ (x : List ℕ). take at out ++ (x ++ drop n out)) d
+    ∙ sym (append_assoc (take at out) l (drop n out))
+    ∙ sym (puts_buffer out at l h g) in
+    let counts : n ≡ (puts out at l).1 = sym (puts_count out at l (omega (arith, g)) ∙ most_of n max_counted g) in
+    record { is = ap (λ (x : List ℕ). (x, n)) buffer ∙ ap (λ (x : ℕ). ((puts out at l).0, x)) counts }
 
 -- ---- from any place on
 

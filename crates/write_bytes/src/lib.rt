@@ -25,22 +25,18 @@ pub fn put(out: &mut [u8], at: usize, b: u8) -> usize
 {
     if at < out.len() {
         out[at] = b;
-        return next_place(at);
     }
     next_place(at)
 }
 
-// A word that has room: no place is looked at before it is written.
+// A word that has room.
 fn put_whole(out: &mut [u8], at: usize, w: &[u8]) -> usize
     requires { (at + length w.now ≤ length out.old) × (at + length w.now ≤ max_counted) }
     ensures { Puts out.old at w.now out.new result }
 {
-    let mut i = 0;
-    while i < w.len() {
-        out[at + i] = w[i];
-        i += 1;
-    }
-    at + i
+    let end = at + w.len();
+    out[at..end].copy_from_slice(w);
+    end
 }
 
 // A word, byte by byte.
@@ -48,10 +44,8 @@ fn put_each(out: &mut [u8], at: usize, w: &[u8]) -> usize
     ensures { Puts out.old at w.now out.new result }
 {
     let mut next = at;
-    let mut i = 0;
-    while i < w.len() {
-        next = put(out, next, w[i]);
-        i += 1;
+    for b in w {
+        next = put(out, next, *b);
     }
     next
 }
@@ -62,14 +56,12 @@ pub fn put_word(out: &mut [u8], at: usize, w: &[u8]) -> usize
 {
     let room = out.len();
     let n = w.len();
-    if at <= COUNTED {
-        if n <= COUNTED - at {
-            if room <= at {
-                return at + n;
-            }
-            if n <= room - at {
-                return put_whole(out, at, w);
-            }
+    if at <= COUNTED && n <= COUNTED - at {
+        if room <= at {
+            return at + n;
+        }
+        if n <= room - at {
+            return put_whole(out, at, w);
         }
     }
     put_each(out, at, w)
@@ -80,7 +72,7 @@ pub fn put_front(out: &mut [u8], at: usize, w: &[u8], n: usize) -> usize
     ensures { Puts out.old at (take n w.now) out.new result }
 {
     let k = at_most(n, w.len());
-    put_word(out, at, &w[0..k])
+    put_word(out, at, &w[..k])
 }
 
 // A word, if it is wanted.

@@ -6,5 +6,5 @@ ghost use Rattle.write_bytes.specs.Clipped.{at_most};
 pub fn at_most(n: usize, most: usize) -> usize
     ensures { result ≡ at_most n most }
 {
-    if n <= most { n } else { most }
+    n.min(most)
 }

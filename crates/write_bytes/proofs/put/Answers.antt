@@ -1,9 +1,11 @@
 -- A byte within the buffer is kept.
 use Rattle.write_bytes.proofs.Putting.{one_put, one_past_lem}
 use Rattle.write_bytes.proofs.put.Goals as goal
-
-pub returns-then-at-out : goal.returns-then-at-out
-returns-then-at-out c = one_put c.next_place.ensures
+use Rattle.write_bytes.proofs.put.Goals.{then-at-out, else-at-out}
 
 pub returns : goal.returns
-returns c = one_past_lem c.if-at-out.false c.next_place-2.ensures
+returns c =
+    elim c.if-at-out.branch [
+      | then-at-out w ↦ rw w.out-is (one_put c.next_place.ensures)
+      | else-at-out w ↦ rw w.out-is (one_past_lem w.if-at-out.false c.next_place.ensures)
+    ]
