@@ -1,12 +1,12 @@
 -- A BLOCK'S ANSWERS ARE THOSE OF `decide`, PACKET BY PACKET: for a loaded book that is accepted, each number is that of the book's decision on its packet.
 -- Document 02, T-03.
 use Rattle.std.specs.Prelude.{Ok}
-use mathlib.Core.Path.{◌≡◌, refl, sym, ap, ◌∙◌, fun_ext}
+use mathlib.Core.Path.{◌≡◌, sym, ap, ◌∙◌, fun_ext}
 use mathlib.Core.List.{List, ◌++◌, map}
 use Prim.Native.Nat.{ℕ}
 use lib.ListN.{length, drop}
 use Rattle.definitions.specs.Limits.{Limits}
-use Rattle.definitions.specs.Books.{Rule, rules_of, judge}
+use Rattle.definitions.specs.Books.{Rule, judge}
 use Rattle.definitions.specs.Decisions.{decision}
 use Rattle.definitions.specs.LoadedBooks.{rules_in, loaded}
 use Rattle.definitions.specs.Blocks.{PacketRecord, records_up_to, decision_number, record_number, block_numbers}

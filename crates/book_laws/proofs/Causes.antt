@@ -1,7 +1,7 @@
 -- NO NUMBER IS GIVEN FOR ANOTHER CAUSE: a book's judgement, and so a decision, has number 0, 1 to 12 or 50 to 53 (`judge_causes`, `decision_causes`). 50 has line 0,
 -- every other refusal a line from 1 to 65 that the book has (`refused_line_lem`). Document 02, T-03.
 use Rattle.std.specs.Prelude.{if◌then◌else◌, Result, Ok, Err, ℕ}
-use mathlib.Core.Path.{◌≡◌, refl, ap, ◌∙◌}
+use mathlib.Core.Path.{◌≡◌, refl, ap, sym, ◌∙◌}
 use mathlib.Core.Logic.{◌⊎◌, inl, inr}
 use mathlib.Core.Bool.{Bool, true, false, not, false≢true}
 use mathlib.Core.List.{List, [], ◌∷◌}
@@ -132,7 +132,9 @@ refused_line_lem lim book r line e = go (ltb max_book (length book)) e
   where
     go : (b : Bool) → (if b then Err (record { refusal = refusal.BookLength; line = 0 }) else judge_lines lim 0 0 (book_lines book)) ≡ Err (record { refusal = r; line = line })
         → ((r ≡ refusal.BookLength) × (line ≡ 0)) ⊎ ((0 < line) × (line ≤ length (book_lines book)) × (line ≤ suc max_rules))
-    go true k = inl (cc, cc)
+    go true k =
+        let z : ◌≡◌ {A = BookRefusal} (record { refusal = refusal.BookLength; line = 0 }) (record { refusal = r; line = line }) = cc in
+        inl (sym (ap (λ (x : BookRefusal). x.refusal) z), sym (ap (λ (x : BookRefusal). x.line) z))
     go false k =
         let w = lines_within lim 0 0 (book_lines book) r line (omega arith) k in
         inr (w.0, omega (arith, w.1), w.2)

@@ -1,10 +1,10 @@
 -- WHICH RULE DECIDES. For an accepted book the decision is that of the lowest numbered rule that is on and has a placement (`decides_exactly`), and hold with 0
 -- exactly if there is none (`holds_exactly`). A refused book's answer is its refusal, whatever the packet (`refused_alone`). A packet for which 30 to 35 is due is
 -- held with 0 by every accepted book (`refused_packet_held`). By the rising numbers, the first rule of the list that decides is the lowest. Document 02, T-03.
-use Rattle.std.specs.Prelude.{if◌then◌else◌, Result, Ok, Err}
+use Rattle.std.specs.Prelude.{Result, Ok, Err}
 use mathlib.Core.Path.{◌≡◌, refl, sym, ap, subst, ◌∙◌}
 use mathlib.Core.Logic.{◌↔◌, ◌⊎◌, inl, inr, ⊎_elim}
-use mathlib.Core.Bool.{Bool, true, false, not, ◌&&◌, true≢false, false≢true, and-false}
+use mathlib.Core.Bool.{Bool, true, false, not, and-false}
 use mathlib.Core.List.Memᴰ.{head as here}
 use mathlib.Core.List.Memᴰ.{not-nil}
 use mathlib.Core.List.Memᴰ.{tail as there}
@@ -20,7 +20,7 @@ use Rattle.definitions.specs.declared.answers.Refusal.{Refusal}
 use Rattle.definitions.specs.declared.answers.Refusal.TheVariants as refusal
 use Rattle.definitions.specs.declared.packets.Start.{Start}
 use Rattle.definitions.specs.declared.books.Action.{Action}
-use Rattle.definitions.specs.declared.books.Action.TheVariants.{Pass, Hold}
+use Rattle.definitions.specs.declared.books.Action.TheVariants.{Hold}
 use Rattle.definitions.specs.declared.books.Decision.{Decision}
 use Rattle.definitions.specs.declared.answers.BookRefusal.{BookRefusal}
 use Rattle.definitions.specs.Limits.{Limits}

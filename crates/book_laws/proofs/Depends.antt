@@ -1,9 +1,9 @@
 -- WHAT A DECISION DEPENDS ON beside book, direction and map: the lent lengths, the packet's first four bytes, its datagram and the present fields
 -- (`decision_depends`). A rule on a field that is missing never decides (`missing_never`), whatever packet and decoded buffer hold. The user's first question, for a
 -- whole book. Document 02, T-03.
-use Rattle.std.specs.Prelude.{if◌then◌else◌, Result, Ok, Err, ℕ}
-use mathlib.Core.Path.{◌≡◌, refl, ap, ◌∙◌}
-use mathlib.Core.Bool.{Bool, true, false, ◌&&◌, false≢true, and-false}
+use Rattle.std.specs.Prelude.{Result, Ok, Err, ℕ}
+use mathlib.Core.Path.{◌≡◌, refl, ap}
+use mathlib.Core.Bool.{false, ◌&&◌, and-false}
 use mathlib.Core.List.{List, [], ◌∷◌, Memᴰ as Mem}
 use Prim.Native.Nat.{ℕ}
 use Rattle.definitions.specs.declared.packets.Direction.{Direction}

@@ -1,5 +1,4 @@
 -- The lines of a book: the first of what is left ends with the first LF (`lines_first`), and the lines one after the other are the book (`lines_joined`).
-use Rattle.std.specs.Prelude.{if◌then◌else◌}
 use mathlib.Core.Path.{◌≡◌, refl, ap, ◌∙◌}
 use mathlib.Core.Bool.{Bool, true, false, not}
 use mathlib.Core.List.{List, [], ◌∷◌, ◌++◌}

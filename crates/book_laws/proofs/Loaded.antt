@@ -11,7 +11,7 @@ use Rattle.definitions.specs.declared.answers.Refusal.{Refusal}
 use Rattle.definitions.specs.declared.books.LoadedRule.{LoadedRule}
 use Rattle.definitions.specs.declared.answers.BookRefusal.{BookRefusal}
 use Rattle.definitions.specs.Limits.{Limits, max_rules}
-use Rattle.definitions.specs.Books.{Rule, book_lines, rule_source, rule_of, rules_of, judge}
+use Rattle.definitions.specs.Books.{book_lines, rule_source, rule_of, rules_of, judge}
 use Rattle.definitions.specs.LoadedBooks.{rule_at, rules_in, source_start, loaded_at, loaded_from, unused_rule, rules_with, loaded_if, loaded}
 use Rattle.book_laws.proofs.Lines.{joined, lines_joined}
 use Rattle.book_laws.proofs.Sources.{start_within, source_within, source_at}

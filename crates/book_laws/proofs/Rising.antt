@@ -1,6 +1,6 @@
 -- The numbers of an accepted book's rules rise from 1 on (`rules_rise`): each line's is compared with the one before.
 use Rattle.std.specs.Prelude.{if◌then◌else◌, Result, Ok, Err, ℕ}
-use mathlib.Core.Path.{◌≡◌, refl, sym, ◌∙◌}
+use mathlib.Core.Path.{◌≡◌, refl}
 use mathlib.Core.Logic.{⊎_elim}
 use mathlib.Core.Bool.{Bool, true, false, not, false≢true}
 use mathlib.Core.List.Memᴰ.{cases_cons}
@@ -15,8 +15,7 @@ use Rattle.definitions.specs.declared.answers.Refusal.{Refusal}
 use Rattle.definitions.specs.declared.answers.Refusal.TheVariants as refusal
 use Rattle.definitions.specs.declared.answers.BookRefusal.{BookRefusal}
 use Rattle.definitions.specs.Limits.{Limits, max_book, max_rules}
-use Rattle.definitions.specs.Reading.{read}
-use Rattle.definitions.specs.Books.{Rule, book_lines, is_rule, rule_number, rule_source, rule_of, rules_of, text_check, line_check, unless_line, judge_lines, judge}
+use Rattle.definitions.specs.Books.{Rule, book_lines, is_rule, rule_number, rule_of, rules_of, line_check, unless_line, judge_lines, judge}
 use Rattle.laws.proofs.Checks.{refuse_fine}
 
 -- each number is larger than the one before it

@@ -11,7 +11,7 @@ use Rattle.forms.proofs.Bools.{by_cases}
 use Rattle.definitions.specs.Parts.{find, part_before, part_after, after_parts}
 use Rattle.definitions.specs.Books.{rule_source}
 use Rattle.definitions.specs.LoadedBooks.{source_start}
-use Rattle.line_parts.proofs.Delimiters.{find_le, before_length, before_le, after_parts-le}
+use Rattle.line_parts.proofs.Delimiters.{before_length, before_le, after_parts-le}
 
 -- an end of some bytes
 pub record EndOf (l e : List ℕ) : Type 0 where

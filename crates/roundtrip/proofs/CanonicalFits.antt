@@ -28,7 +28,7 @@ use Rattle.definitions.specs.declared.packets.Match.{Match}
 use Rattle.definitions.specs.declared.table.DistanceValue.{DistanceValue}
 use Rattle.definitions.specs.Limits.{max_name, max_byte, max_addresses}
 use Rattle.definitions.specs.Lists.{all?}
-use Rattle.definitions.specs.OptionValues.{Context, Distance, OptionValue, Name, Protocol, Flow, Test, Pattern}
+use Rattle.definitions.specs.OptionValues.{OptionValue, Name, Protocol, Flow, Test, Pattern}
 use Rattle.definitions.specs.Forms.{test}
 use Rattle.definitions.specs.Items.{Kind, unused, addressed, patterned, plain_test, kind_of, slots_of, pattern_first, patterns_of, after_item}
 use Rattle.definitions.specs.Starts.{start_at}

@@ -22,7 +22,7 @@ use Rattle.definitions.specs.declared.table.Slot.{Slot}
 use Rattle.definitions.specs.declared.table.Table.{Table}
 use Rattle.definitions.specs.Limits.{max_name, max_items, max_addresses}
 use Rattle.definitions.specs.Lists.{all?, padded}
-use Rattle.definitions.specs.OptionValues.{OptionValue, Flow, Pattern}
+use Rattle.definitions.specs.OptionValues.{OptionValue}
 use Rattle.definitions.specs.Tables.{name_in, protocol_in, flow_in, bare, modified, slot_of, no_slot, slots_in, bytes_in, table_of}
 use Rattle.definitions.specs.Items.{Kind, unused, addressed, patterned, plain_test, kind_of, slots_of, pattern_first, patterns_of, after_item}
 use Rattle.definitions.specs.Canonical.{flow_option, item_options, slot_options, canonical_options}

@@ -21,7 +21,7 @@ use Rattle.definitions.specs.declared.table.Item.TheVariants as item
 use Rattle.definitions.specs.declared.table.Table.{Table}
 use Rattle.definitions.specs.Limits.{Limits, max_word}
 use Rattle.definitions.specs.Lists.{all?, none?}
-use Rattle.definitions.specs.Numbers.{decimal_digits, digit_value, value_of, number, either_base, numeral}
+use Rattle.definitions.specs.Numbers.{decimal_digits, digit_value, value_of, either_base, numeral}
 use Rattle.definitions.specs.OptionValues.{OptionValue}
 use Rattle.definitions.specs.Forms.{test, field_equals}
 use Rattle.definitions.specs.Options.{opening}

@@ -42,7 +42,7 @@ use Rattle.definitions.specs.declared.table.Address.{Address}
 use Rattle.definitions.specs.Limits.{max_byte, max_word, max_long}
 use Rattle.definitions.specs.Lists.{none?}
 use Rattle.definitions.specs.OptionValues.{Context, NoCase, Distance, Within, OptionValue, Name, Protocol, Flow, Test, Pattern, Modified}
-use Rattle.definitions.specs.Numbers.{number, numeral}
+use Rattle.definitions.specs.Numbers.{numeral}
 use Rattle.definitions.specs.Forms.{quotable, spaces, comma, negation, address_test, test, less_or_greater, comparison, max_field, max_number, reference_word, signed}
 use Rattle.definitions.specs.Forms.{width, byte_comparison, flags, byte_test}
 use Rattle.definitions.specs.ByteCounts.{is_byte_count, byte_count, width_of}
