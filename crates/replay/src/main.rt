@@ -2,11 +2,10 @@
 // (crate replay_lines). Nothing is written for a file that can't be read.
 #![tactic(auto)]
 
-ghost use Rattle.std.specs.Prelude.{◌≤◌, ◌<◌};
+ghost use Rattle.std.specs.Prelude.{◌≤◌};
 
 use book_file::{ROOM, read_book};
 use definitions::books::Rules;
-use line_io::{Step, fill, rest, start, write_fed, write_last};
 use replay_lines::{LINE_BYTES, feed, finish, open};
 use replay_totals::{Totals, no_totals};
 use std::io::Read;
@@ -14,45 +13,13 @@ use std::io::Read;
 // Bytes of the block that is read, and of the output.
 const BLOCK: usize = 262144;
 
-// How far a run is, and the totals so far.
-#[derive(Clone, Copy)]
-struct Progress {
-    step: Step,
-    totals: Totals,
-}
-
-// Reads, answers what came and writes; at the end of the trace, a last line that lacks its LF, and the totals.
-fn turn(
-    rt: &(impl Print + Eprint),
-    input: &mut impl Read,
-    book: &[u8],
+// What a replay goes by, and what it keeps: the bytes of the line begun, and the totals so far.
+#[derive(Drop)]
+struct State<'a> {
+    book: &'a [u8],
     rules: Rules,
-    block: &mut [u8; BLOCK],
-    line: &mut [u8; LINE_BYTES],
-    out: &mut [u8; BLOCK],
-    s: Step,
+    line: [u8; LINE_BYTES],
     totals: Totals,
-) -> Progress
-    requires { 0 < s.left }
-    ensures { result.step.left < s.left }
-{
-    let now = fill(rt, input, block, s);
-    if now.from < now.end {
-        let begun = now.begun;
-        let replayed = feed(book, rules, rest(block, now), line, out, begun, totals);
-        let fed = replayed.fed;
-        let totals = replayed.totals;
-        return Progress {
-            step: write_fed(rt, out, fed, now),
-            totals,
-        };
-    }
-    let begun = now.begun;
-    let put = finish(book, rules, line, out, begun, totals);
-    Progress {
-        step: write_last(rt, out, put, now),
-        totals,
-    }
 }
 
 // Replays the trace by the rules of a book.
@@ -63,19 +30,25 @@ fn run(
     rules: Rules,
     out: &mut [u8; BLOCK],
 ) {
-    let mut block = [0u8; BLOCK];
-    let mut line = [0u8; LINE_BYTES];
-    let mut s = start();
-    let mut totals = no_totals();
-    while s.left > 0 {
-        let t = turn(
-            rt, input, book, rules, &mut block, &mut line, out, s, totals,
-        );
-        let step = t.step;
-        let sum = t.totals;
-        s = step;
-        totals = sum;
-    }
+    let mut state = State {
+        book,
+        rules,
+        line: [0u8; LINE_BYTES],
+        totals: no_totals(),
+    };
+    line_io::run(
+        rt,
+        input,
+        &mut [0u8; BLOCK],
+        out,
+        &mut state,
+        |input, s: &mut State, out, begun| {
+            let replayed = feed(s.book, s.rules, input, &mut s.line, out, begun, s.totals);
+            s.totals = replayed.totals;
+            replayed.fed
+        },
+        |s: &State, out, begun| finish(s.book, s.rules, &s.line, out, begun, s.totals),
+    );
 }
 
 // Writes the first bytes of the output; if it can't, says so. There are as many.
@@ -91,22 +64,19 @@ fn write_refusal(rt: &(impl Print + Eprint), out: &[u8], put: usize) {
 fn run_book(rt: &(impl Print + Eprint), input: &mut impl Read, room: &[u8; ROOM], n: usize)
     requires { n ≤ 65537 }
 {
-    let bytes = &room[..];
-    let book = &bytes[..n];
+    let book = &room[..n];
     let mut out = [0u8; BLOCK];
     let opened = open(book, &mut out);
     if opened.accepted {
-        let rules = opened.rules;
-        run(rt, input, book, rules, &mut out);
-        return;
+        run(rt, input, book, opened.rules, &mut out);
+    } else {
+        write_refusal(rt, &out, opened.put);
     }
-    write_refusal(rt, &out, opened.put);
 }
 
 fn main(rt: HostRuntime) {
     let mut room = [0u8; ROOM];
-    let file = read_book(&rt, &mut room);
-    if let Some(n) = file {
+    if let Some(n) = read_book(&rt, &mut room) {
         run_book(&rt, &mut rt.stdin(), &room, n);
     }
 }

@@ -3,5 +3,5 @@ use Rattle.std.proofs.Common.{rules, refl}
 use Rattle.line_io.specs.Blocks.{filled}
 use Rattle.line_io.proofs.fill.Goals as goal
 
-pub returns-in-Ok-clause-step : goal.returns-in-Ok-clause-step
-returns-in-Ok-clause-step g c = filled c.in-Ok.n c.if-s.false (search rules) refl
+pub returns-in-Ok : goal.returns-in-Ok
+returns-in-Ok g c = record { step = filled c.in-Ok.n c.if-s.false (search rules) refl }

@@ -1,5 +1,0 @@
--- Steps are counted down; nothing is claimed of what is read or written.
-use Rattle.decisions.proofs.main.Given as goal
-
-abbrev pub decreases-loop-s : goal.decreases-loop-s
-decreases-loop-s l = l.s.left

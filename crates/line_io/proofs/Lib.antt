@@ -1,2 +1,0 @@
--- What the proofs of the programs cite.
-pub mod Taken
