@@ -3,7 +3,7 @@
 use Rattle.std.specs.Prelude.{Result, Ok, Err, ℕ}
 use mathlib.Core.Path.{◌≡◌, refl, sym, ap, ◌∙◌, fun_ext}
 use mathlib.Core.Logic.{⊎_elim}
-use mathlib.Core.Bool.{true, false, not, ◌&&◌}
+use mathlib.Core.Bool.{true, not, ◌&&◌}
 use mathlib.Core.List.Memᴰ.{head as here}
 use mathlib.Core.List.Memᴰ.{not-nil}
 use mathlib.Core.List.Memᴰ.{tail as there}
@@ -34,7 +34,7 @@ use Rattle.laws.proofs.Checks.{no_fine, refuse_fine}
 use Rattle.laws.proofs.Refusing.{limit_kept}
 use Rattle.book_laws.proofs.Rising.{passed_line, accepted_book}
 use Rattle.book_laws.proofs.Deciding.{by_rules}
-use Rattle.limit_laws.specs.LongerTexts.{Raised, widened, widened_reading, judged_below}
+use Rattle.limit_laws.specs.LongerTexts.{Raised, widened_reading, judged_below}
 use Rattle.limit_laws.proofs.WidenedReading.{read_widened}
 use Rattle.limit_laws.proofs.WidenedAnswers.{verdict_widened}
 use Rattle.limit_laws.proofs.WidenedWriting.{accepted_formed}
