@@ -11,12 +11,9 @@ use definitions::table::Context;
 pub fn at_context(relative: bool, last: Option<Match>) -> Context
     ensures { result ≡ at_context relative last }
 {
-    if !relative {
-        return Context::Packet;
-    }
     match last {
-        None => Context::Packet,
-        Some(m) => m.context,
+        Some(m) if relative => m.context,
+        _ => Context::Packet,
     }
 }
 
@@ -24,11 +21,8 @@ pub fn at_context(relative: bool, last: Option<Match>) -> Context
 pub fn at_start(relative: bool, last: Option<Match>) -> usize
     ensures { result ≡ at_start relative last }
 {
-    if !relative {
-        return 0;
-    }
     match last {
-        None => 0,
-        Some(m) => m.end,
+        Some(m) if relative => m.end,
+        _ => 0,
     }
 }

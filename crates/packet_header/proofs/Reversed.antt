@@ -1,15 +1,15 @@
--- Bytes read from the last on are the reversed bytes, and so is the number that they write.
-use mathlib.Core.Path.{◌≡◌, refl, sym}
+-- Bytes read from the last on are the reversed bytes.
+use mathlib.Core.Path.{◌≡◌, refl}
 use mathlib.Core.Bool.{Bool, true, false}
 use mathlib.Core.List.{List, [], ◌∷◌, reverse, reverse-cons}
-use Prim.Native.Nat.{ℕ, zero, suc, ◌+◌, ◌-◌, ◌*◌, ◌≤◌, ◌<◌}
+use Prim.Native.Nat.{ℕ, zero, suc, ◌+◌, ◌-◌, ◌≤◌, ◌<◌}
 use native.Mathlib.Omega.{arith}
 use lib.ListN.{length, get_or, length-reverse, get_or-append, get_or-eq_default}
 use lib.Dec.{ltb}
 use lib.Seq.{get_or_at}
 use borrow.Author.Tests.{ltb-true, ltb-false}
-use Rattle.definitions.specs.Packet.{big_endian}
-use Rattle.packet_header.proofs.Widths.{be_more, more_fits}
+use native.Mathlib.Nat.{zero-add}
+use Rattle.std.proofs.lemmas.List.{get_or_read}
 
 pub reverse_read : (d : List ℕ) (i : ℕ) → i < length d → get_or (reverse d) (length d - suc i) 0 ≡ get_or d i 0
 reverse_read [] i h = absurd (let z : ⊥ = omega arith in z)
@@ -33,20 +33,6 @@ reverse_bytes d bytes k = go (ltb k (length d)) refl
         let h : length (reverse d) ≤ k = omega (arith, ltb-false k (length d) e, length-reverse d) in
         omega (arith, get_or-eq_default (reverse d) 0 h)
 
-module _ (d : List ℕ) (i : ℕ) (some : 1 ≤ i) (inside : i ≤ length d) where
-  next_read : get_or (reverse d) (0 + (length d - i)) 0 ≡ get_or d (i - 1) 0
-  next_read =
-      let same : 0 + (length d - i) ≡ length d - suc (i - 1) = omega arith in
-      rw same (reverse_read d (i - 1) (omega arith))
-
-  -- a byte more from the end
-  pub reverse_more : big_endian (length d - i) (reverse d) 0 * 256 + get_or d (i - 1) 0 ≡ big_endian (length d - (i - 1)) (reverse d) 0
-  reverse_more =
-      let same : length d - i + 1 ≡ length d - (i - 1) = omega arith in
-      rw (← next_read, ← same) (be_more (length d - i) (reverse d) 0)
-
-  -- which fits, up to four bytes
-  pub reverse_fits : ((k : ℕ) → get_or d k 0 < 256) → length d ≤ 4 → (v : ℕ) → v ≡ big_endian (length d - i) (reverse d) 0
-      → v * 256 + get_or d (i - 1) 0 < 4294967296
-  reverse_fits bytes four v e =
-      more_fits (reverse d) (reverse_bytes d bytes) 0 (length d - i) v (get_or d (i - 1) 0) e (sym next_read) (omega arith)
+-- the byte after the k last ones, as numbers are read
+pub next_read : (d : List ℕ) (k b : ℕ) → k < length (reverse d) → b ≡ get_or (reverse d) k b → b ≡ get_or (reverse d) (0 + k) 0
+next_read d k b inside e = rw zero-add (get_or_read (reverse d) k b inside e 0)

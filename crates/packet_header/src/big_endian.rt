@@ -5,7 +5,7 @@ ghost use Rattle.definitions.specs.Packet.{big_endian};
 fn byte_at(d: &[u8], at: usize) -> u8
     ensures { result ≡ get_or d.now at 0 }
 {
-    if at < d.len() { d[at] } else { 0 }
+    d.get(at).copied().unwrap_or(0)
 }
 
 // The number that the n bytes at a place write, big end first.
@@ -13,12 +13,9 @@ pub fn be_at(d: &[u8], at: usize, n: usize) -> u64
     requires { (at ≤ 255) × (n ≤ 4) }
     ensures { result ≡ big_endian n d.now at }
 {
-    let mut v: u64 = 0;
-    let mut i = 0;
-    while i < n {
-        let b = byte_at(d, at + i);
-        v = v * 256 + (b as u64);
-        i += 1;
+    let mut v = 0;
+    for i in 0..n {
+        v = v * 256 + u64::from(byte_at(d, at + i));
     }
     v
 }
@@ -28,7 +25,7 @@ pub fn be8(d: &[u8], at: usize) -> u8
     requires { at ≤ 255 }
     ensures { result ≡ big_endian 1 d.now at }
 {
-    be_at(d, at, 1) as u8
+    byte_at(d, at)
 }
 
 // The number of two bytes at a place.

@@ -10,12 +10,9 @@ fn le_all(d: &[u8]) -> u64
     requires { length d.now ≤ 4 }
     ensures { result ≡ big_endian (length d.now) (reverse d.now) 0 }
 {
-    let mut v: u64 = 0;
-    let mut i = d.len();
-    while 0 < i {
-        i -= 1;
-        let b = d[i];
-        v = v * 256 + (b as u64);
+    let mut v = 0;
+    for b in d.iter().rev() {
+        v = v * 256 + u64::from(*b);
     }
     v
 }

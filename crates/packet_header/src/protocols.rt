@@ -12,5 +12,5 @@ pub const UDP: u8 = 17;
 pub fn has_ports(protocol: u8) -> bool
     ensures { result ≡ has_ports protocol }
 {
-    (protocol == TCP) | (protocol == UDP)
+    matches!(protocol, TCP | UDP)
 }

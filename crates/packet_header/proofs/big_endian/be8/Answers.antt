@@ -1,12 +1,14 @@
--- A field of one byte is below 256.
-use native.Mathlib.Omega.{arith}
-use Prim.Native.Nat.{ℕ, ◌<◌}
+-- One byte is its own number.
+use mathlib.Core.Path.{◌≡◌, ap}
+use Prim.Native.Nat.{◌+◌}
 use lib.ListN.{get_or}
-use Rattle.packet_header.proofs.Widths.{be_below}
+use native.Mathlib.Omega.{arith}
+use Rattle.definitions.specs.Packet.{big_endian}
 use Rattle.packet_header.proofs.big_endian.be8.Goals as goal
 
-pub overflow_cast-result : goal.overflow_cast-result
-overflow_cast-result c =
-    let a = c.args in
-    let bytes : (k : ℕ) → get_or a.d.now k 0 < 256 = λ k. (c.shared_slice_known-1.given k).fits in
-    omega (arith, c.be_at.ensures, be_below a.d.now bytes a.at 1)
+pub returns : goal.returns
+unfolding big_endian
+returns c =
+    let d = c.args.d.now in
+    let here : get_or d (c.args.at + 0) 0 ≡ get_or d c.args.at 0 = ap (λ k. get_or d k 0) (omega arith) in
+    omega (arith, here, c.byte_at.ensures)

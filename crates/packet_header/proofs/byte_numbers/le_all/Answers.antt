@@ -1,33 +1,49 @@
--- The loop has read the last bytes down to place i: the first of the reversed bytes. Four bytes at most are below 2 ^ 32, so nothing wraps.
-use Prim.Native.Nat.{ℕ, ◌-◌, ◌<◌}
-use mathlib.Core.Path.{◌≡◌}
-use lib.ListN.{length, get_or}
+-- The loop has read the last bytes, which are the first of the reversed ones. Four bytes at most are below 2 ^ 32, so nothing wraps.
+use mathlib.Core.Path.{refl, ◌∙◌}
+use mathlib.Core.List.{reverse}
+use Prim.Native.Nat.{◌+◌, ◌≤◌}
+use lib.ListN.{length, length-reverse}
 use native.Mathlib.Omega.{arith}
+use Rattle.std.proofs.lemmas.Iterator.Adapters.{YieldsList-from_rev_slice}
+use Rattle.std.proofs.lemmas.Iterator.Consumers.{YieldsList-turn, YieldsList-end}
+use Rattle.std.proofs.lemmas.List.{length_push}
 use Rattle.definitions.specs.Packet.{big_endian}
-use Rattle.packet_header.proofs.Reversed.{reverse_more, reverse_fits}
+use Rattle.packet_header.proofs.Reversed.{reverse_bytes, next_read}
+use Rattle.packet_header.proofs.Widths.{be_more, more_fits}
 use Rattle.packet_header.proofs.byte_numbers.le_all.Goals as goal
 
-pub loop-i-init : goal.loop-i-init
+pub loop-b-init : goal.loop-b-init
 unfolding big_endian
-loop-i-init c =
-    let none : length c.args.d.now - length c.args.d.now ≡ 0 = omega arith in
-    (omega arith, rw none)
+loop-b-init c = refl
 
 pub overflow_mul-v : goal.overflow_mul-v
 overflow_mul-v c =
-    let l = c.loop-i in
     let d = c.args.d.now in
-    let bytes : (k : ℕ) → get_or d k 0 < 256 = λ k. (c.shared_slice_known-1.given k).fits in
-    omega (arith, reverse_fits d l.i (omega arith) l.invariant.0 bytes c.requires l.v l.invariant.1)
+    let l = c.loop-b in
+    let turn = YieldsList-turn (YieldsList-from_rev_slice d cc) l.yielded _ l.yielded_by _ _ c.in-Some.b c.in-Some.is c.next.ensures.steps in
+    let four : length l.yielded + 1 ≤ 4 = omega (arith, turn.0, length-reverse d, c.requires) in
+    omega (arith, more_fits (reverse d) (reverse_bytes d (λ k. (c.type_inv.d k).fits)) 0 _ _ _ l.invariant refl four)
 
 pub overflow_add-v : goal.overflow_add-v
 overflow_add-v c =
-    let l = c.loop-i in
     let d = c.args.d.now in
-    let bytes : (k : ℕ) → get_or d k 0 < 256 = λ k. (c.shared_slice_known-1.given k).fits in
-    omega (arith, reverse_fits d l.i (omega arith) l.invariant.0 bytes c.requires l.v l.invariant.1)
+    let l = c.loop-b in
+    let turn = YieldsList-turn (YieldsList-from_rev_slice d cc) l.yielded _ l.yielded_by _ _ c.in-Some.b c.in-Some.is c.next.ensures.steps in
+    let read = c.from.ensures ∙ next_read d _ _ turn.0 turn.1 in
+    let four : length l.yielded + 1 ≤ 4 = omega (arith, turn.0, length-reverse d, c.requires) in
+    omega (arith, more_fits (reverse d) (reverse_bytes d (λ k. (c.type_inv.d k).fits)) 0 _ _ _ l.invariant read four)
 
-pub loop-i-preserved : goal.loop-i-preserved
-loop-i-preserved c =
-    let l = c.loop-i in
-    (omega (arith, l.invariant.0), rw l.invariant.1 (reverse_more c.args.d.now l.i (omega arith) l.invariant.0))
+pub loop-b-preserved : goal.loop-b-preserved
+loop-b-preserved c =
+    let d = c.args.d.now in
+    let l = c.loop-b in
+    let turn = YieldsList-turn (YieldsList-from_rev_slice d cc) l.yielded _ l.yielded_by _ _ c.in-Some.b c.in-Some.is c.next.ensures.steps in
+    let read = c.from.ensures ∙ next_read d _ _ turn.0 turn.1 in
+    rw (length_push l.yielded c.in-Some.b, read, l.invariant) (be_more (length l.yielded) (reverse d) 0)
+
+pub returns : goal.returns
+returns c =
+    let d = c.args.d.now in
+    let l = c.loop-b in
+    let done = YieldsList-end (YieldsList-from_rev_slice d cc) l.yielded _ l.yielded_by _ _ c.in-None.is c.next.ensures.steps in
+    rw (← length-reverse d, ← done.1) l.invariant
