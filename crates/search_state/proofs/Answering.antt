@@ -1,5 +1,6 @@
 -- The first of a list of placements after one to pass, where the list is made start by start: a start that lies adds the placements with it, a
 -- start before the one to pass adds nothing.
+use Rattle.std.specs.Prelude.{None}
 use mathlib.Core.Path.{◌≡◌, refl, ap, ◌∙◌}
 use mathlib.Core.Bool.{Bool, true, false, ◌&&◌}
 use mathlib.Core.List.{List, [], ◌∷◌, ◌++◌, map}
@@ -17,7 +18,6 @@ use Rattle.definitions.specs.Placements.{lex_less, up_from, spread}
 use Rattle.laws.proofs.StartOrder.{before_asymmetric, before_total, before_differs, after_differs, number_before}
 use Rattle.laws.proofs.Keep.{keep_append}
 use Rattle.match_patterns.proofs.Listing.{from, passed}
-use Rattle.search_state.specs.Outcomes.{nothing}
 use Rattle.search_state.specs.Choosing.{push, extend, first_of, answer, after_if, found_or, start_from}
 
 -- ---- starts that pass a test, from one on: here numbers become starts
@@ -129,6 +129,6 @@ module _ (f : Start → List (List Start)) (a : Start) (p : List Start) where
         (λ t. let l = leb-true a.at x t in let y : max a.at x ≡ x = omega arith in rw y)
         (λ t. let l = leb-false a.at x t in let y : max a.at x ≡ a.at = omega arith in rw y (ap (first_of chosen) (less_all (a.at - x) x (omega arith))))
 
-pub answer_nothing : (chosen : Placement) (on-bound : Bool) (p : List Start) → answer chosen on-bound p [] ≡ nothing
+pub answer_nothing : (chosen : Placement) (on-bound : Bool) (p : List Start) → answer chosen on-bound p [] ≡ None
 unfolding answer keep
 answer_nothing chosen on-bound p = refl

@@ -1,6 +1,5 @@
-// The state of a search: what it is given, the starts that it has chosen so far, and what it finds.
+// The state of a search: what it is given, and the starts that it has chosen so far.
 #![tactic(auto)]
 
 pub mod chosen;
 pub mod input;
-pub mod outcomes;
