@@ -1,20 +1,17 @@
 -- The first numbers of a list changed one by one, the others as they were: the number at a place is still the old one when its turn comes, and setting it makes
 -- the front one longer.
-use mathlib.Core.Path.{◌≡◌, refl, sym, ap, ◌∙◌}
+use mathlib.Core.Path.{◌≡◌, ap, ◌∙◌}
 use mathlib.Core.List.{List, [], ◌∷◌, ◌++◌, map, map-append}
-use Prim.Native.Nat.{ℕ, suc, ◌+◌, ◌≤◌, ◌<◌}
+use Prim.Native.Nat.{ℕ, suc, ◌+◌, ◌<◌}
 use native.Mathlib.Omega.{arith}
 use native.Mathlib.Numerals.{add-one}
-use lib.ListN.{length, get_or, take, drop, set, replicate, length-map}
-use lib.Seq.{take-suc, drop-cons, append_snoc, length-take-le, length_front, set_at, set-get_or, get_or_at}
+use lib.ListN.{length, get_or, take, drop, set, length-map}
+use lib.Seq.{take-suc, drop-cons, append_snoc, length-take-le, set_at, get_or_at}
 
 abbrev pub front : (ℕ → ℕ) → ℕ → List ℕ → List ℕ
 front f i l = map f (take i l) ++ drop i l
 
 module _ (f : ℕ → ℕ) (i : ℕ) (l : List ℕ) where
-  pub front_length : length (front f i l) ≡ length l
-  front_length = length_front l (map f (take i l)) i (length-map (take i l) f)
-
   module _ (h : i < length l) where
     before : length (map f (take i l)) ≡ i
     before = length-map (take i l) f ∙ length-take-le i l (omega arith)
@@ -38,15 +35,3 @@ module _ (f : ℕ → ℕ) (i : ℕ) (l : List ℕ) where
       front-set v q =
           let w : v ≡ f (get_or l i 0) = q ∙ ap f front-old in
           rw (w, e, front_here, front_longer) (set_at (map f (take i l)) (get_or l i 0) (drop (suc i) l) (f (get_or l i 0)) i before)
-
-      -- where the number stays as it is
-      pub front_kept : get_or o i 0 ≡ f (get_or o i 0) → o ≡ front f (i + 1) l
-      front_kept q = sym (set-get_or o i 0) ∙ front-set (get_or o i 0) q
-
--- all of them changed to one number
-map_const : (v : ℕ) (l : List ℕ) → map (λ _. v) l ≡ replicate (length l) v
-map_const v [] = refl
-map_const v (x ∷ l) = ap (λ (k : List ℕ). v ∷ k) (map_const v l)
-
-pub front_const : (v n : ℕ) (l : List ℕ) → n ≤ length l → front (λ _. v) n l ≡ replicate n v ++ drop n l
-front_const v n l h = rw (map_const v (take n l), length-take-le n l h)

@@ -1,4 +1,3 @@
 -- Laws that the proofs of `guard_numbers` cite.
 pub mod Tests
 pub mod Fronts
-pub mod Some

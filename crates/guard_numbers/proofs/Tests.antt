@@ -1,8 +1,12 @@
 -- The test for a number that is not decided, and what it is in the end.
-use mathlib.Core.Path.{◌≡◌}
-use mathlib.Core.Bool.{true, false}
+use Rattle.std.specs.List.{list_any}
+use mathlib.Core.Path.{◌≡◌, refl, ap}
+use mathlib.Core.Bool.{Bool, true, false, ◌||◌}
+use mathlib.Core.List.{List, [], ◌∷◌}
 use Prim.Native.Nat.{ℕ}
+use lib.Dec.{eqb}
 use borrow.Author.Tests.{eq-eqb, ne_eqb}
+use Rattle.definitions.specs.Lists.{any?}
 use Rattle.guard_numbers.specs.OpenNumbers.{open_number, is_open, closed}
 
 module _ (x : ℕ) where
@@ -21,3 +25,9 @@ module _ (x : ℕ) where
   pub closed_other : (x ≡ open_number → ⊥) → x ≡ closed x
   unfolding closed
   closed_other n = rw (open_not n)
+
+-- whether some number of a list is not decided
+pub some_open : (l : List ℕ) → list_any (λ x. eqb x open_number) l ≡ any? is_open l
+unfolding any? is_open
+some_open [] = refl
+some_open (x ∷ l) = ap (λ (b : Bool). eqb x open_number || b) (some_open l)

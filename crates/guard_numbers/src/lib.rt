@@ -27,11 +27,7 @@ pub fn open_all(out: &mut [u32], n: usize)
     requires { n ≤ length out.old }
     ensures { out.new ≡ replicate n open_number ++ drop n out.old }
 {
-    let mut i = 0;
-    while i < n {
-        out[i] = OPEN;
-        i += 1;
-    }
+    out[..n].fill(OPEN);
 }
 
 // Whether some packet is not decided.
@@ -39,14 +35,7 @@ pub fn any_open(out: &[u32], n: usize) -> bool
     requires { n ≤ length out.now }
     ensures { result ≡ any? is_open (take n out.now) }
 {
-    let mut i = 0;
-    while i < n {
-        if out[i] == OPEN {
-            return true;
-        }
-        i += 1;
-    }
-    false
+    out[..n].contains(&OPEN)
 }
 
 // Packets that no rule decided are held, with rule 0.
@@ -54,11 +43,9 @@ pub fn close_all(out: &mut [u32], n: usize)
     requires { n ≤ length out.old }
     ensures { out.new ≡ map closed (take n out.old) ++ drop n out.old }
 {
-    let mut i = 0;
-    while i < n {
-        if out[i] == OPEN {
-            out[i] = 0;
+    for number in out[..n].iter_mut() {
+        if *number == OPEN {
+            *number = 0;
         }
-        i += 1;
     }
 }
