@@ -11,17 +11,12 @@ use write_bytes::put;
 pub fn put_answers(out: &mut [u8], at: usize, numbers: &[u32], n: usize) -> usize
     ensures { Puts out.old at (answer_bytes (take n numbers.now)) out.new result }
 {
+    let first = &numbers[..n.min(numbers.len())];
     let mut next = at;
-    let mut i = 0;
-    while i < numbers.len() {
-        if n <= i {
-            break;
-        }
-        let a = numbers[i];
-        next = put(out, next, (a / 65536 % 256) as u8);
-        next = put(out, next, (a / 256 % 256) as u8);
-        next = put(out, next, (a % 256) as u8);
-        i += 1;
+    for a in first {
+        next = put(out, next, (*a / 65536 % 256) as u8);
+        next = put(out, next, (*a / 256 % 256) as u8);
+        next = put(out, next, (*a % 256) as u8);
     }
     next
 }

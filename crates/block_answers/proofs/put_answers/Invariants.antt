@@ -1,12 +1,8 @@
 use mathlib.Core.Path.{◌≡◌}
-use Prim.Native.Nat.{◌-◌, ◌≤◌}
-use lib.ListN.{length, take, drop}
+use lib.ListN.{drop}
 use Rattle.write_bytes.specs.Puts.{puts}
 use Rattle.block_answers.specs.AnswerBytes.{answer_bytes}
 use Rattle.block_answers.proofs.put_answers.Given as goal
 
-abbrev pub invariant-loop-i : goal.invariant-loop-i
-invariant-loop-i l = (l.i ≤ length l.numbers) × (puts l.initial.out l.initial.next (answer_bytes (take l.n l.numbers)) ≡ puts l.out l.next (answer_bytes (drop l.i (take l.n l.numbers))))
-
-abbrev pub decreases-loop-i : goal.decreases-loop-i
-decreases-loop-i l = length l.numbers - l.i
+abbrev pub invariant-loop-a : goal.invariant-loop-a
+invariant-loop-a l = puts l.initial.out l.initial.next (answer_bytes l.first) ≡ puts l.out l.next (answer_bytes (drop l.a-index l.first))
