@@ -1,8 +1,10 @@
 -- What a search has found, as an answer.
-use Rattle.std.specs.Prelude.{if◌then◌else◌, Ok}
+use Rattle.std.specs.Prelude.{[], Option, None, Some, Ok}
+use Rattle.definitions.specs.declared.packets.Placement.{Placement}
 use Rattle.definitions.specs.declared.answers.Found.TheVariants.{Placed, Nothing}
 use Rattle.definitions.specs.declared.answers.Answer.{Answer}
-use Rattle.search_state.specs.declared.outcomes.Outcome.{Outcome}
+use Rattle.definitions.specs.Answers.{placement_of}
 
-abbrev pub answer_of : Outcome → Answer
-answer_of x = record { found = if x.found then (Ok Placed) else (Ok Nothing); placement = x.placement }
+abbrev pub answer_of : Option Placement → Answer
+answer_of (Some h) = record { found = Ok Placed; placement = h }
+answer_of None = record { found = Ok Nothing; placement = placement_of [] }

@@ -4,32 +4,31 @@ ghost use Rattle.definitions.specs.Answers.{refused_answer};
 ghost use Rattle.match_answers.specs.Answering.{answer_of};
 
 use definitions::answers::{Answer, Found, Refusal};
-use search_state::outcomes::{Outcome, empty};
+use definitions::packets::Placement;
+use search_state::chosen::empty;
 
 // The answer that refuses.
 pub fn refused(r: Refusal) -> Answer
     ensures { result ≡ refused_answer r }
 {
-    let placement = empty();
     Answer {
         found: Err(r),
-        placement,
+        placement: empty(),
     }
 }
 
 // The answer that hands out what a search has found.
-pub fn answered(x: Outcome) -> Answer
+pub fn answered(x: Option<Placement>) -> Answer
     ensures { result ≡ answer_of x }
 {
-    let placement = x.placement;
-    if x.found {
-        return Answer {
+    match x {
+        Some(placement) => Answer {
             found: Ok(Found::Placed),
             placement,
-        };
-    }
-    Answer {
-        found: Ok(Found::Nothing),
-        placement,
+        },
+        None => Answer {
+            found: Ok(Found::Nothing),
+            placement: empty(),
+        },
     }
 }

@@ -8,9 +8,8 @@ use definitions::answers::{Found, Refusal, Verdict};
 pub fn verdict_of(f: Result<Found, Refusal>) -> Result<Verdict, Refusal>
     ensures { result ≡ verdict_of f }
 {
-    match f {
-        Ok(Found::Placed) => Ok(Verdict::Met),
-        Ok(Found::Nothing) => Ok(Verdict::NotMet),
-        Err(r) => Err(r),
-    }
+    f.map(|found| match found {
+        Found::Placed => Verdict::Met,
+        Found::Nothing => Verdict::NotMet,
+    })
 }
