@@ -41,8 +41,10 @@ pub fn last_ending(last: Option<Match>, p: Pattern, end: usize) -> Option<Match>
     if p.negated {
         return last;
     }
-    let context = p.context;
-    Some(Match { context, end })
+    Some(Match {
+        context: p.context,
+        end,
+    })
 }
 
 // The same where it plays no part at which start `p` lies.
@@ -58,12 +60,7 @@ fn last_in(last: Option<Match>, c: Context) -> bool
 {
     match last {
         None => true,
-        Some(m) => {
-            let context = m.context;
-            let a = context_number(context);
-            let b = context_number(c);
-            a == b
-        }
+        Some(m) => m.context == c,
     }
 }
 
@@ -72,7 +69,7 @@ fn reference_usable(last: Option<Match>, c: Context, r: Reference) -> bool
 {
     match r {
         Reference::Match => last_in(last, c),
-        Reference::Packet => context_number(c) == 0,
+        Reference::Packet => c == Context::Packet,
         Reference::Context => true,
     }
 }
@@ -86,14 +83,7 @@ fn not_negative(offset: i32) -> bool
 fn reverse_usable(d: DistanceValue) -> bool
     ensures { result ≡ reverse_usable d }
 {
-    if !d.reverse {
-        return true;
-    }
-    let reference = d.reference;
-    if reference_number(reference) == 0 {
-        return false;
-    }
-    not_negative(d.offset)
+    !d.reverse || (d.reference != Reference::Match && not_negative(d.offset))
 }
 
 fn distance_usable(last: Option<Match>, c: Context, distance: Option<DistanceValue>) -> bool
@@ -101,14 +91,7 @@ fn distance_usable(last: Option<Match>, c: Context, distance: Option<DistanceVal
 {
     match distance {
         None => true,
-        Some(d) => {
-            let reference = d.reference;
-            if reference_usable(last, c, reference) {
-                reverse_usable(d)
-            } else {
-                false
-            }
-        }
+        Some(d) => reference_usable(last, c, d.reference) && reverse_usable(d),
     }
 }
 
@@ -117,34 +100,16 @@ fn within_usable(last: Option<Match>, c: Context, within: Option<WithinValue>) -
 {
     match within {
         None => true,
-        Some(w) => {
-            let reference = w.reference;
-            reference_usable(last, c, reference)
-        }
-    }
-}
-
-fn same_reference(d: DistanceValue, within: Option<WithinValue>) -> bool
-    ensures { result ≡ references_alike (Some d) within }
-{
-    match within {
-        None => true,
-        Some(w) => {
-            let first = d.reference;
-            let second = w.reference;
-            let a = reference_number(first);
-            let b = reference_number(second);
-            a == b
-        }
+        Some(w) => reference_usable(last, c, w.reference),
     }
 }
 
 fn references_alike(distance: Option<DistanceValue>, within: Option<WithinValue>) -> bool
     ensures { result ≡ references_alike distance within }
 {
-    match distance {
-        None => true,
-        Some(d) => same_reference(d, within),
+    match (distance, within) {
+        (Some(d), Some(w)) => d.reference == w.reference,
+        _ => true,
     }
 }
 
@@ -152,14 +117,7 @@ fn references_alike(distance: Option<DistanceValue>, within: Option<WithinValue>
 pub fn is_usable(last: Option<Match>, p: Pattern) -> bool
     ensures { result ≡ usable last p }
 {
-    let c = p.context;
-    let distance = p.distance;
-    let within = p.within;
-    if !distance_usable(last, c, distance) {
-        return false;
-    }
-    if !within_usable(last, c, within) {
-        return false;
-    }
-    references_alike(distance, within)
+    distance_usable(last, p.context, p.distance)
+        && within_usable(last, p.context, p.within)
+        && references_alike(p.distance, p.within)
 }
