@@ -11,30 +11,21 @@ use definitions::packets::Span;
 pub fn is_at(f: Option<Span>) -> bool
     ensures { result ≡ is_at f }
 {
-    match f {
-        None => false,
-        Some(_) => true,
-    }
+    f.is_some()
 }
 
 // Whether `len` bytes from `start` on end after `n`. The sum is not formed, so it can't wrap.
 fn beyond(n: usize, start: usize, len: usize) -> bool
     ensures { result ≡ ltb n (start + len) }
 {
-    if n < start {
-        return true;
-    }
-    n - start < len
+    n < start || n - start < len
 }
 
 // Whether a present span passes its buffer.
 pub fn passes_end(b: &[u8], f: Option<Span>) -> bool
     ensures { result ≡ passes f b.now }
 {
-    match f {
-        None => false,
-        Some(sp) => beyond(b.len(), sp.start, sp.len),
-    }
+    f.is_some_and(|span| beyond(b.len(), span.start, span.len))
 }
 
 // The span within its buffer that the field entry shows: its own, or none at the buffer's start.
@@ -42,14 +33,8 @@ fn shown_span(b: &[u8], f: Option<Span>) -> Span
     ensures { result ≡ shown f b.now }
 {
     match f {
-        None => Span { start: 0, len: 0 },
-        Some(sp) => {
-            if beyond(b.len(), sp.start, sp.len) {
-                Span { start: 0, len: 0 }
-            } else {
-                sp
-            }
-        }
+        Some(span) if !beyond(b.len(), span.start, span.len) => span,
+        _ => Span { start: 0, len: 0 },
     }
 }
 
@@ -57,8 +42,6 @@ fn shown_span(b: &[u8], f: Option<Span>) -> Span
 pub fn part_of<'a>(b: &'a [u8], f: Option<Span>) -> &'a [u8]
     ensures { PartOf b.entry (shown f b.now) result }
 {
-    let sp = shown_span(b, f);
-    let start = sp.start;
-    let end = start + sp.len;
-    &b[start..end]
+    let span = shown_span(b, f);
+    &b[span.start..span.start + span.len]
 }
