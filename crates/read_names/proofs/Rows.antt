@@ -6,8 +6,10 @@ use mathlib.Core.List.{List, [], ◌∷◌, map, head-eq_of_cons-eq, tail-eq_of_
 use Prim.Native.Nat.{ℕ, suc, ◌+◌, ◌≤◌, ◌<◌}
 use native.Mathlib.Omega.{arith}
 use native.Mathlib.Numerals.{add-one}
-use lib.ListN.{length, get_or, drop, drop_of_length-le}
+use lib.ListN.{length, get_or, drop, drop_of_length-le, length-map}
 use lib.Seq.{drop-cons}
+use denote.Ref.{Bor}
+use Rattle.std.proofs.lemmas.List.{get_or-map}
 use Rattle.forms.specs.Bytes.{same_word}
 use Rattle.forms.specs.Form.{Form}
 use Rattle.forms.specs.Place.{read_at}
@@ -35,6 +37,24 @@ names_small k h = all_at no_capitals [] option_names k refl h
 pub order_count : length option_order ≡ option_count
 unfolding option_order
 order_count = refl
+
+-- ---- rows of names and options, side by side, that are the table's
+
+pub record Table (rows : List (Bor (List ℕ) × OptionName)) : Type 0 where
+  pub names : map (λ (r : Bor (List ℕ) × OptionName). r.0.now) rows ≡ option_names
+  pub options : map (λ (r : Bor (List ℕ) × OptionName). r.1) rows ≡ option_order
+
+module _ {rows : List (Bor (List ℕ) × OptionName)} (t : Table rows) (k : ℕ) (d : Bor (List ℕ) × OptionName) (h : k < option_count) where
+  long : k < length rows
+  long = omega (arith, h, ap length t.options, order_count, length-map rows (λ (r : Bor (List ℕ) × OptionName). r.1))
+
+  pub name_at : (get_or rows k d).0.now ≡ get_or option_names k []
+  name_at =
+      sym (get_or-map (λ (r : Bor (List ℕ) × OptionName). r.0.now) rows k d [] long) ∙ ap (λ (l : List (List ℕ)). get_or l k []) t.names
+
+  pub option_at : (e : OptionName) → (get_or rows k d).1 ≡ get_or option_order k e
+  option_at e =
+      sym (get_or-map (λ (r : Bor (List ℕ) × OptionName). r.1) rows k d e long) ∙ ap (λ (l : List OptionName). get_or l k e) t.options
 
 -- ---- the first row with a name, row by row
 

@@ -1,45 +1,60 @@
--- Comparing bytes with a word, letter by letter.
-use mathlib.Core.Path.{◌≡◌, ◌∙◌}
-use mathlib.Core.Bool.{true, false, not, ◌&&◌}
-use mathlib.Core.List.{List}
-use Prim.Native.Nat.{ℕ, ◌+◌, ◌≤◌, ◌<◌}
+-- Comparing bytes with a word, letter case ignored: the library folds both, and a word without capitals is its own folding.
+use Rattle.std.specs.Char.{to_ascii_lowercase}
+use mathlib.Core.Path.{◌≡◌, refl, sym, ◌∙◌}
+use mathlib.Core.Bool.{true, not}
+use mathlib.Core.List.{List, [], ◌∷◌, map, head-eq_of_cons-eq, tail-eq_of_cons-eq}
+use Prim.Native.Nat.{ℕ}
 use native.Mathlib.Omega.{arith}
-use native.Mathlib.Numerals.{add-one}
-use lib.ListN.{length, get_or, drop, drop_of_length-le}
-use lib.Seq.{drop-cons}
-use lib.Dec.{eqb}
-use borrow.Author.Tests.{not-true}
+use lib.Dec.{eqb, leb}
+use borrow.Author.Tests.{eq-eqb, eqb-true, not-true, leb-true, leb-false, lt-ltb, le-ltb}
 use Rattle.forms.specs.Bytes.{between, lower, same_word}
-use Rattle.forms.specs.Form.{has}
-use Rattle.forms.proofs.Bools.{by_cases}
-use Rattle.forms.proofs.Words.{word_length, any_case_lem}
-use Rattle.list_laws.proofs.Every.{all_at}
-use Rattle.scan_bytes.specs.Classes.{case_class}
+use Rattle.forms.proofs.Bools.{by_cases, both_left, both_right}
+use Rattle.definitions.specs.Lists.{all?}
 use Rattle.read_names.specs.Names.{no_capitals}
 
--- words of other lengths are not the same
-pub other_length : (x w : List ℕ) → (length x ≡ length w → ⊥) → same_word x w ≡ false
-other_length x w n = by_cases (same_word x w) (λ t. absurd (n (word_length x w t))) (λ t. t)
+abbrev folded : List ℕ → List ℕ
+folded x = map to_ascii_lowercase x
 
--- what is still to come of two words of one length
-abbrev pub Still : List ℕ → List ℕ → ℕ → Type 0
-Still x w i = same_word x w ≡ same_word (drop i x) (drop i w)
+folds : (b : ℕ) → to_ascii_lowercase b ≡ lower b
+unfolding lower
+folds b =
+    by_cases (leb 65 b)
+    (λ t.
+    let low = leb-true 65 b t in
+    by_cases (leb b 90)
+    (λ u. rw (t, u, le-ltb b 65 low, lt-ltb b 91 (let high = leb-true b 90 u in omega arith)))
+    (λ u. rw (t, u, le-ltb b 65 low, le-ltb b 91 (let high = leb-false b 90 u in omega arith))))
+    (λ t. rw (t, lt-ltb b 65 (leb-false 65 b t)))
 
-module _ (x w : List ℕ) (i : ℕ) (same : length x ≡ length w) (h : i < length w) (u : Still x w i) where
-  heads : same_word (drop i x) (drop i w) ≡ (eqb (lower (get_or x i 0)) (get_or w i 0) && same_word (drop (i + 1) x) (drop (i + 1) w))
-  unfolding same_word
-  heads = rw (add-one, drop-cons x i 0 (omega arith), drop-cons w i 0 h)
+small : (y : ℕ) → not (between 65 90 y) ≡ true → to_ascii_lowercase y ≡ y
+unfolding lower
+small y n = folds y ∙ rw (not-true (between 65 90 y) n)
 
-  -- a byte is the letter of a word in either case exactly if the byte, folded, is that letter
-  pub letter : no_capitals w ≡ true → has (case_class (get_or w i 0)) (get_or x i 0) ≡ eqb (lower (get_or x i 0)) (get_or w i 0)
-  letter n = any_case_lem (get_or w i 0) (get_or x i 0) (not-true _ (all_at (λ b. not (between 65 90 b)) 0 w i n h))
+module _ (y : ℕ) (w : List ℕ) (n : no_capitals (y ∷ w) ≡ true) where
+  first_small : to_ascii_lowercase y ≡ y
+  unfolding all?
+  first_small = small y (both_left (not (between 65 90 y)) (no_capitals w) n)
 
-  pub letters_on : eqb (lower (get_or x i 0)) (get_or w i 0) ≡ true → Still x w (i + 1)
-  letters_on e = u ∙ heads ∙ rw e
+  rest_small : no_capitals w ≡ true
+  unfolding all?
+  rest_small = both_right (not (between 65 90 y)) (no_capitals w) n
 
-  pub letters_off : eqb (lower (get_or x i 0)) (get_or w i 0) ≡ false → same_word x w ≡ false
-  letters_off e = u ∙ heads ∙ rw e
-
-pub letters_out : (x w : List ℕ) (i : ℕ) → length x ≡ length w → length w ≤ i → Still x w i → same_word x w ≡ true
+-- bytes are the word exactly if both fold to the same
+pub same_if : (x w : List ℕ) → no_capitals w ≡ true → folded x ≡ folded w → same_word x w ≡ true
 unfolding same_word
-letters_out x w i same h u = u ∙ rw (drop_of_length-le x {i = i} (omega arith), drop_of_length-le w {i = i} h)
+same_if [] [] n e = refl
+same_if [] (y ∷ w) n e = cc
+same_if (b ∷ x) [] n e = cc
+same_if (b ∷ x) (y ∷ w) n e =
+    let head : lower b ≡ y = sym (folds b) ∙ head-eq_of_cons-eq e ∙ first_small y w n in
+    rw (eq-eqb (lower b) y head) (same_if x w (rest_small y w n) (tail-eq_of_cons-eq e))
+
+pub same_only : (x w : List ℕ) → no_capitals w ≡ true → same_word x w ≡ true → folded x ≡ folded w
+unfolding same_word
+same_only [] [] n e = refl
+same_only [] (y ∷ w) n e = cc
+same_only (b ∷ x) [] n e = cc
+same_only (b ∷ x) (y ∷ w) n e =
+    let head : to_ascii_lowercase b ≡ to_ascii_lowercase y = folds b ∙ eqb-true (lower b) y (both_left (eqb (lower b) y) (same_word x w) e) ∙ sym (first_small y w n) in
+    let tail : folded x ≡ folded w = same_only x w (rest_small y w n) (both_right (eqb (lower b) y) (same_word x w) e) in
+    cc
