@@ -9,28 +9,25 @@ ghost use Rattle.definitions.specs.Forms.{max_field};
 ghost use Rattle.definitions.specs.WellFormed.{address_fits, address_unused, distance_fits, item_fits};
 
 use definitions::limits::{ADDRESSES, MAX_BYTE, MAX_OFFSET, MAX_PREFIX, MAX_WORD};
-use definitions::table::{Address, DistanceValue, FieldTest, HeaderField, Item, NumberField, NumberTest, Pattern, Width};
+use definitions::table::{
+    Address, DistanceValue, FieldTest, HeaderField, Item, NumberField, NumberTest, Pattern, Width,
+};
 
 // An address test has 1 to 8 addresses.
 pub fn count_fits(count: usize) -> bool
     ensures { result ≡ between 1 max_addresses count }
 {
-    if 1 <= count {
-        count <= ADDRESSES
-    } else {
-        false
-    }
+    (1..=ADDRESSES).contains(&count)
 }
 
 // Whether a number test is within the limit of its field. No text reads as an ip_id.
+#[tactic(auto, unfolding(definitions::specs::WellFormed::item_fits))]
 pub fn number_fits(a: NumberTest) -> bool
     ensures { result ≡ item_fits (Item.Number a) }
 {
-    let field = a.field;
-    match field {
+    match a.field {
         NumberField::IpId => false,
-        NumberField::SourcePort => true,
-        NumberField::DestinationPort => true,
+        NumberField::SourcePort | NumberField::DestinationPort => true,
         NumberField::Tos => a.number as u64 <= MAX_BYTE,
     }
 }
@@ -40,24 +37,18 @@ pub fn field_most(field: HeaderField) -> u64
     ensures { result ≡ max_field field }
 {
     match field {
-        HeaderField::TotalLength => MAX_WORD,
-        HeaderField::Id => MAX_WORD,
-        HeaderField::Checksum => MAX_WORD,
+        HeaderField::TotalLength | HeaderField::Id | HeaderField::Checksum => MAX_WORD,
         HeaderField::Ttl => MAX_BYTE,
     }
 }
 
 // Whether mask and number of a field test are within the limit of its field.
+#[tactic(auto, unfolding(definitions::specs::WellFormed::item_fits))]
 pub fn field_fits(a: FieldTest) -> bool
     ensures { result ≡ item_fits (Item.Field a) }
 {
-    let field = a.field;
-    let most = field_most(field);
-    if a.mask as u64 <= most {
-        a.number as u64 <= most
-    } else {
-        false
-    }
+    let most = field_most(a.field);
+    a.mask as u64 <= most && a.number as u64 <= most
 }
 
 // How many bytes a byte test reads.
@@ -77,31 +68,21 @@ const OFFSET_LEAST: i32 = -MAX_OFFSET;
 fn offset_fits(offset: i32) -> bool
     ensures { result ≡ leb (nat_abs offset) max_word }
 {
-    if OFFSET_LEAST <= offset {
-        offset <= MAX_OFFSET
-    } else {
-        false
-    }
+    OFFSET_LEAST <= offset && offset <= MAX_OFFSET
 }
 
 fn distance_fits(distance: Option<DistanceValue>) -> bool
     ensures { result ≡ distance_fits distance }
 {
-    match distance {
-        None => true,
-        Some(d) => offset_fits(d.offset),
-    }
+    distance.is_none_or(|d| offset_fits(d.offset))
 }
 
 // A pattern has a byte at least, and its distance fits; a within does by its type.
+#[tactic(auto, unfolding(definitions::specs::WellFormed::item_fits))]
 pub fn pattern_fits(p: Pattern) -> bool
     ensures { result ≡ item_fits (Item.Pattern p) }
 {
-    if p.len == 0 {
-        return false;
-    }
-    let distance = p.distance;
-    distance_fits(distance)
+    p.len != 0 && distance_fits(p.distance)
 }
 
 // The number of an address is within its limit by its type.
@@ -115,5 +96,5 @@ pub fn address_fits(a: Address) -> bool
 pub fn address_unused(a: Address) -> bool
     ensures { result ≡ address_unused a }
 {
-    if a.number == 0 { a.prefix == 0 } else { false }
+    a.number == 0 && a.prefix == 0
 }

@@ -1,6 +1,5 @@
 // Which references of one pattern are usable, after the last positive pattern before it.
-ghost use Rattle.std.specs.Prelude.{◌≡◌, ◌+◌, pos};
-ghost use Rattle.std.specs.Int.Signed.{le_z};
+ghost use Rattle.std.specs.Prelude.{◌≡◌, ◌+◌};
 ghost use Rattle.definitions.specs.declared.packets.Start.{Start};
 ghost use Rattle.definitions.specs.Starts.{start_at};
 ghost use Rattle.definitions.specs.References.{context_number, reference_number, last_after, last_in, reference_usable, reverse_usable, distance_usable, within_usable, references_alike, usable};
@@ -74,16 +73,10 @@ fn reference_usable(last: Option<Match>, c: Context, r: Reference) -> bool
     }
 }
 
-fn not_negative(offset: i32) -> bool
-    ensures { result ≡ le_z (pos 0) offset }
-{
-    0 <= offset
-}
-
 fn reverse_usable(d: DistanceValue) -> bool
     ensures { result ≡ reverse_usable d }
 {
-    !d.reverse || (d.reference != Reference::Match && not_negative(d.offset))
+    !d.reverse || (d.reference != Reference::Match && 0 <= d.offset)
 }
 
 fn distance_usable(last: Option<Match>, c: Context, distance: Option<DistanceValue>) -> bool
@@ -114,6 +107,7 @@ fn references_alike(distance: Option<DistanceValue>, within: Option<WithinValue>
 }
 
 // The references of `p` after the last positive pattern.
+#[tactic(auto, unfolding(definitions::specs::References::usable))]
 pub fn is_usable(last: Option<Match>, p: Pattern) -> bool
     ensures { result ≡ usable last p }
 {
