@@ -23,8 +23,7 @@ fn found_number(f: Result<Found, Refusal>) -> u64
     ensures { result ≡ found_number f }
 {
     match f {
-        Ok(Found::Placed) => 0,
-        Ok(Found::Nothing) => 0,
+        Ok(_) => 0,
         Err(r) => number_of(r),
     }
 }
@@ -35,8 +34,7 @@ fn found_one(f: Result<Found, Refusal>) -> u64
 {
     match f {
         Ok(Found::Placed) => 1,
-        Ok(Found::Nothing) => 0,
-        Err(_) => 0,
+        Ok(Found::Nothing) | Err(_) => 0,
     }
 }
 
@@ -45,10 +43,8 @@ fn put_starts(out: &mut [u64], at: usize, starts: [Start; PATTERNS])
     requires { at + max_patterns ≤ length out.old }
     ensures { out.new ≡ sets out.old at (map start_number starts) }
 {
-    let mut j = 0;
-    while j < PATTERNS {
-        out[at + j] = start_number(starts[j]);
-        j += 1;
+    for (j, start) in starts.iter().enumerate() {
+        out[at + j] = start_number(*start);
     }
 }
 
@@ -57,11 +53,8 @@ pub fn put_answer(out: &mut [u64], at: usize, a: Answer)
     requires { at + numbers_of_one ≤ length out.old }
     ensures { out.new ≡ take at out.old ++ answer_numbers a ++ drop (at + numbers_of_one) out.old }
 {
-    let found = a.found;
-    let placement = a.placement;
-    let starts = placement.starts;
-    out[at] = found_number(found);
-    out[at + 1] = found_one(found);
-    out[at + 2] = placement.count as u64;
-    put_starts(&mut *out, at + 3, starts);
+    out[at] = found_number(a.found);
+    out[at + 1] = found_one(a.found);
+    out[at + 2] = a.placement.count as u64;
+    put_starts(out, at + 3, a.placement.starts);
 }

@@ -1,10 +1,8 @@
 -- What is still to be stored falls by a start with each turn.
 use mathlib.Core.Path.{◌≡◌, ◌∙◌}
-use Prim.Native.Nat.{◌-◌}
 use native.Mathlib.Omega.{arith}
-use lib.ListN.{length, length-set}
+use lib.ListN.{length}
 use Rattle.definitions.specs.Limits.{max_patterns}
-use Rattle.definitions.specs.Starts.{start_number}
 use Rattle.match_numbers.proofs.Storing.{stores_start}
 use Rattle.match_numbers.proofs.put_starts.Goals as goal
 
@@ -14,4 +12,4 @@ loop-j-preserved c =
     let l = c.loop-j in
     let n : length x.starts ≡ max_patterns = omega arith in
     let stored = stores_start l.out x.at x.starts l.j c.start_number.result (omega arith) c.start_number.ensures in
-    (length-set l.out _ _ ∙ l.invariant.0, omega arith, l.invariant.2 ∙ stored)
+    l.invariant ∙ stored
