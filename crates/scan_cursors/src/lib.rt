@@ -1,4 +1,4 @@
-// Where scanning stands in a text.
+// Where scanning stands in a text, and what it read up to there.
 #![tactic(auto)]
 
 ghost use Rattle.std.specs.Prelude.{◌≡◌};
@@ -12,15 +12,11 @@ pub enum Cursor {
     Failed(usize),
 }
 
-// The place where scanning stands.
-pub fn place(c: Cursor) -> usize
-    ensures { result ≡ place_of c }
-{
-    match c {
-        Cursor::Parsed(at) => at,
-        Cursor::OutOfRange(_, at) => at,
-        Cursor::Failed(at) => at,
-    }
+// What a scanner read, and where scanning stands after it. The value counts only where scanning goes on.
+#[derive(Clone, Copy)]
+pub struct Scanned<T> {
+    pub value: T,
+    pub cursor: Cursor,
 }
 
 // After a number beyond its limit at the place: where the form stops later, that comes first (6 before 7).
@@ -28,21 +24,44 @@ fn out_of_range(place: usize, d: Cursor) -> Cursor
     ensures { result ≡ out_of_range_by place d }
 {
     match d {
-        Cursor::Parsed(at) => Cursor::OutOfRange(place, at),
-        Cursor::OutOfRange(_, at) => Cursor::OutOfRange(place, at),
-        Cursor::Failed(stop) => Cursor::Failed(stop),
+        Cursor::Parsed(at) | Cursor::OutOfRange(_, at) => Cursor::OutOfRange(place, at),
+        Cursor::Failed(_) => d,
     }
 }
 
-// The cursor d that a scanner answered from the place of c, after all that c went through: once stopped, scanning stays there, and the
-// first number beyond its limit is kept.
-pub fn join(c: Cursor, d: Cursor) -> Cursor
-    ensures { result ≡ joined c d }
-{
-    match c {
-        Cursor::Parsed(_) => d,
-        Cursor::OutOfRange(place, _) => out_of_range(place, d),
-        Cursor::Failed(at) => Cursor::Failed(at),
+impl Cursor {
+    // The place where scanning stands.
+    pub fn place(self) -> usize
+        ensures { result ≡ place_of self }
+    {
+        match self {
+            Cursor::Parsed(at) | Cursor::OutOfRange(_, at) | Cursor::Failed(at) => at,
+        }
+    }
+
+    // The cursor d that a scanner answered from the place of this one, after all that this one went through: once stopped, scanning
+    // stays there, and the first number beyond its limit is kept.
+    pub fn join(self, d: Cursor) -> Cursor
+        ensures { result ≡ joined self d }
+    {
+        match self {
+            Cursor::Parsed(_) => d,
+            Cursor::OutOfRange(place, _) => out_of_range(place, d),
+            Cursor::Failed(_) => self,
+        }
+    }
+}
+
+impl<T: Copy> Scanned<T> {
+    // What was read from the place of c, after all that c went through.
+    pub fn after(self, c: Cursor) -> Scanned<T>
+        ensures same { result.value ≡ self.value }
+        ensures on { result.cursor ≡ joined c self.cursor }
+    {
+        Scanned {
+            cursor: c.join(self.cursor),
+            ..self
+        }
     }
 }
 
@@ -51,14 +70,7 @@ pub fn limited(c: Cursor, kept: bool, d: Cursor) -> Cursor
     ensures { result ≡ limited_by kept (place_of c) d }
 {
     match d {
-        Cursor::Parsed(end) => {
-            if kept {
-                Cursor::Parsed(end)
-            } else {
-                Cursor::OutOfRange(place(c), end)
-            }
-        }
-        Cursor::OutOfRange(first, end) => Cursor::OutOfRange(first, end),
-        Cursor::Failed(at) => Cursor::Failed(at),
+        Cursor::Parsed(end) if !kept => Cursor::OutOfRange(c.place(), end),
+        _ => d,
     }
 }
