@@ -19,30 +19,37 @@ use Rattle.scan_cursors.specs.Reads.{Inside, Reads}
 use Rattle.scan_cursors.proofs.Readings.{alike_reads, fmap_reads, preceded_reads, pure_reads, failed_reads}
 use Rattle.scan_pieces.proofs.AtPlace.{byte_begun, byte_none, begins_in}
 
--- what is still to come of a word
-pub record Word (s : List ℕ) (at : ℕ) (w : List ℕ) (i here : ℕ) : Type 0 where
-  pub inside : here ≤ length s
-  pub rest : (d : Cursor) → Reads (word (drop i w)) s (Parsed here) 0 d → Reads (word w) s (Parsed at) 0 d
+-- what is still to come of a word after its first i bytes
+pub record Word (s : List ℕ) (at : ℕ) (w : List ℕ) (i : ℕ) : Type 0 where
+  pub inside : at + i ≤ length s
+  pub rest : (d : Cursor) → Reads (word (drop i w)) s (Parsed (at + i)) 0 d → Reads (word w) s (Parsed at) 0 d
 
-module _ (s : List ℕ) (at : ℕ) (w : List ℕ) (i here : ℕ) (u : Word s at w i here) where
+pub word_start : (s : List ℕ) (at : ℕ) (w : List ℕ) → at ≤ length s → Word s at w 0
+word_start s at w h = let e : at + 0 ≡ at = omega arith in record { inside = omega arith; rest = λ d r. rw e at r }
+
+module _ (s : List ℕ) (at : ℕ) (w : List ℕ) (i : ℕ) (u : Word s at w i) where
   tail : i < length w → drop i w ≡ get_or w i 0 ∷ drop (i + 1) w
   tail h = rw add-one (drop-cons w i 0 h)
 
-  pub word_on : i < length w → begins (case_class (get_or w i 0)) (drop here s) ≡ true → Word s at w (i + 1) (here + 1)
+  pub word_on : i < length w → begins (case_class (get_or w i 0)) (drop (at + i) s) ≡ true → Word s at w (i + 1)
   word_on h e =
+      let q : at + (i + 1) ≡ at + i + 1 = omega arith in
       record {
-        inside = omega (arith, begins_in (case_class (get_or w i 0)) s here e);
-        rest = λ d r. u.rest d (rw (tail h) (preceded_reads u.inside (byte_begun (case_class (get_or w i 0)) s here e) r));
+        inside = omega (arith, begins_in (case_class (get_or w i 0)) s (at + i) e);
+        rest = λ d r. u.rest d (rw (tail h) (preceded_reads u.inside (byte_begun (case_class (get_or w i 0)) s (at + i) e) (rw q at r)));
       }
 
-  pub word_halt : i < length w → begins (case_class (get_or w i 0)) (drop here s) ≡ false → Reads (word w) s (Parsed at) 0 (Failed here)
+  pub word_halt : i < length w → begins (case_class (get_or w i 0)) (drop (at + i) s) ≡ false → Reads (word w) s (Parsed at) 0 (Failed (at + i))
   word_halt h e =
-      u.rest (Failed here)
+      u.rest (Failed (at + i))
       (rw (tail h)
-      (preceded_reads u.inside (byte_none (case_class (get_or w i 0)) s here u.inside e 0) (failed_reads (word (drop (i + 1) w)) s here 0 u.inside)))
+      (preceded_reads u.inside (byte_none (case_class (get_or w i 0)) s (at + i) u.inside e 0)
+      (failed_reads (word (drop (i + 1) w)) s (at + i) 0 u.inside)))
 
-  pub word_out : length w ≤ i → Reads (word w) s (Parsed at) 0 (Parsed here)
-  word_out h = u.rest (Parsed here) (rw (drop_of_length-le w h) (pure_reads 0 s (Parsed here) u.inside))
+  pub word_out : length w ≤ i → i ≤ length w → Reads (word w) s (Parsed at) 0 (Parsed (at + length w))
+  word_out h k =
+      let e : length w ≡ i = omega arith in
+      rw e (u.rest (Parsed (at + i)) (rw (drop_of_length-le w h) (pure_reads 0 s (Parsed (at + i)) u.inside)))
 
 -- ---- what a word says plays no part in how it is scanned
 

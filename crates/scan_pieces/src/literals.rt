@@ -10,25 +10,20 @@ ghost use Rattle.scan_cursors.specs.declared.Cursor.TheVariants.{Parsed};
 use crate::runs::run_at;
 use scan_bytes::bytes::{Class, in_case};
 use scan_bytes::runs::run_of;
-use scan_cursors::Cursor;
+use scan_cursors::{Cursor, Scanned};
 
 // Whether the byte stands at the place.
 pub fn stands(s: &[u8], at: usize, b: u8) -> bool
     ensures { result ≡ begins ((b, b) ∷ []) (drop at s.now) }
 {
-    if at < s.len() { s[at] == b } else { false }
+    at < s.len() && s[at] == b
 }
 
 // Whether the byte of a word stands at the place, in either letter case.
 pub fn starts(s: &[u8], at: usize, y: u8) -> bool
     ensures { result ≡ begins (case_class y) (drop at s.now) }
 {
-    if at < s.len() {
-        let b = s[at];
-        in_case(y, b)
-    } else {
-        false
-    }
+    at < s.len() && in_case(y, s[at])
 }
 
 // The byte, which must stand at the place.
@@ -48,30 +43,22 @@ pub fn gap_at(s: &[u8], at: usize) -> Cursor
     requires { at ≤ length s.now }
     ensures { Skips gap s.now (Parsed at) result }
 {
-    let run = run_at(s, at, Class::Space);
-    run.cursor
-}
-
-// Whether an optional byte stood there, and where scanning stands.
-#[derive(Clone, Copy)]
-pub struct OptionalLiteral {
-    pub yes: bool,
-    pub cursor: Cursor,
+    run_at(s, at, Class::Space).cursor
 }
 
 // Whether the byte stands at the place, and the place after it.
-pub fn optional_literal_at(s: &[u8], at: usize, b: u8) -> OptionalLiteral
+pub fn optional_literal_at(s: &[u8], at: usize, b: u8) -> Scanned<bool>
     requires { at ≤ length s.now }
-    ensures { Reads (opt false (literal_as b true)) s.now (Parsed at) result.yes result.cursor }
+    ensures { Reads (opt false (literal_as b true)) s.now (Parsed at) result.value result.cursor }
 {
     if stands(s, at, b) {
-        OptionalLiteral {
-            yes: true,
+        Scanned {
+            value: true,
             cursor: Cursor::Parsed(at + 1),
         }
     } else {
-        OptionalLiteral {
-            yes: false,
+        Scanned {
+            value: false,
             cursor: Cursor::Parsed(at),
         }
     }

@@ -11,35 +11,28 @@ use crate::literals::{stands, starts};
 use scan_bytes::bytes::Class;
 use scan_bytes::numbers::value_of;
 use scan_bytes::runs::run_of;
-use scan_cursors::Cursor;
+use scan_cursors::{Cursor, Scanned};
 
-// A number, which is never beyond its limit: it is 0 where one stood there that is.
-#[derive(Clone, Copy)]
-pub struct Numeric {
-    pub value: u64,
-    pub cursor: Cursor,
-}
-
-// The run of digits of a class as a number in a base, up to a limit; one beyond it is told by its first digit.
-fn digits_at(s: &[u8], at: usize, k: Class, base: u64, limit: u64) -> Numeric
+// The run of digits of a class as a number in a base, up to a limit; one beyond it is told by its first digit, and its value is 0.
+fn digits_at(s: &[u8], at: usize, k: Class, base: u64, limit: u64) -> Scanned<u64>
     requires { (at ≤ length s.now) × (limit < number_cap) × (1 ≤ base) × (base ≤ 16) }
     ensures { Reads (digits_within (class_of k) base limit) s.now (Parsed at) result.value result.cursor × (result.value ≤ limit) }
 {
     let end = run_of(s, at, k);
     if end == at {
-        return Numeric {
+        return Scanned {
             value: 0,
             cursor: Cursor::Failed(at),
         };
     }
-    let v = value_of(s, at, end, base);
-    if v <= limit {
-        Numeric {
-            value: v,
+    let value = value_of(s, at, end, base);
+    if value <= limit {
+        Scanned {
+            value,
             cursor: Cursor::Parsed(end),
         }
     } else {
-        Numeric {
+        Scanned {
             value: 0,
             cursor: Cursor::OutOfRange(at, end),
         }
@@ -47,7 +40,7 @@ fn digits_at(s: &[u8], at: usize, k: Class, base: u64, limit: u64) -> Numeric
 }
 
 // A decimal number up to a limit.
-pub fn number_at(s: &[u8], at: usize, limit: u64) -> Numeric
+pub fn number_at(s: &[u8], at: usize, limit: u64) -> Scanned<u64>
     requires { (at ≤ length s.now) × (limit < number_cap) }
     ensures { Reads (number limit) s.now (Parsed at) result.value result.cursor × (result.value ≤ limit) }
 {
@@ -58,15 +51,11 @@ pub fn number_at(s: &[u8], at: usize, limit: u64) -> Numeric
 fn is_hex_prefix(s: &[u8], at: usize) -> bool
     ensures { result ≡ hex_prefixed s.now at }
 {
-    if stands(s, at, b'0') {
-        starts(s, at + 1, b'x')
-    } else {
-        false
-    }
+    stands(s, at, b'0') && starts(s, at + 1, b'x')
 }
 
 // A number in decimal, or in hex after `0x` or `0X`, up to a limit.
-pub fn numeral_at(s: &[u8], at: usize, limit: u64) -> Numeric
+pub fn numeral_at(s: &[u8], at: usize, limit: u64) -> Scanned<u64>
     requires { (at ≤ length s.now) × (limit < number_cap) }
     ensures { Reads (numeral limit) s.now (Parsed at) result.value result.cursor × (result.value ≤ limit) }
 {

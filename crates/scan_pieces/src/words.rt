@@ -12,15 +12,10 @@ pub fn word_at(s: &[u8], at: usize, w: &[u8]) -> Cursor
     requires { at ≤ length s.now }
     ensures { Reads (word w.now) s.now (Parsed at) 0 result }
 {
-    let mut i = 0;
-    let mut from = at;
-    while i < w.len() {
-        let y = w[i];
-        if !starts(s, from, y) {
-            return Cursor::Failed(from);
+    for (i, &y) in w.iter().enumerate() {
+        if !starts(s, at + i, y) {
+            return Cursor::Failed(at + i);
         }
-        from += 1;
-        i += 1;
     }
-    Cursor::Parsed(from)
+    Cursor::Parsed(at + w.len())
 }

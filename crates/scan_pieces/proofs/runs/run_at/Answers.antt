@@ -8,8 +8,8 @@ returns-then-end-at c =
     let e = c.run_of-end.ensures in
     (run_none _ _ _ _ h e c.if-end-at.true _, omega (arith, run_end _ _ _ _ h e, e))
 
-pub returns : goal.returns
-returns c =
+pub returns-else-end-at : goal.returns-else-end-at
+returns-else-end-at c =
     let h = c.requires in
     let e = c.run_of-end.ensures in
     (run_some _ _ _ _ h e c.if-end-at.false, omega (arith, run_end _ _ _ _ h e, e))
