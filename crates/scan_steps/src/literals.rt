@@ -5,9 +5,9 @@ ghost use Rattle.definitions.specs.Forms.{spaces};
 ghost use Rattle.scan_bytes.specs.Classes.{case_class};
 ghost use Rattle.scan_cursors.specs.Reads.{Inside, next_in, Reads, Skips};
 
-use scan_cursors::{Cursor, join, place};
+use scan_cursors::{Cursor, Scanned};
 use scan_pieces::literals::{
-    OptionalLiteral, closing_at, literal_at, optional_literal_at, spaces_at, stands, starts,
+    closing_at, literal_at, optional_literal_at, spaces_at, stands, starts,
 };
 
 // Whether scanning goes on, with the byte.
@@ -15,8 +15,7 @@ pub fn next_is(s: &[u8], c: Cursor, b: u8) -> bool
     ensures { result ≡ next_in ((b, b) ∷ []) s.now c }
 {
     match c {
-        Cursor::Parsed(at) => stands(s, at, b),
-        Cursor::OutOfRange(_, at) => stands(s, at, b),
+        Cursor::Parsed(at) | Cursor::OutOfRange(_, at) => stands(s, at, b),
         Cursor::Failed(_) => false,
     }
 }
@@ -26,8 +25,7 @@ pub fn next_is_letter(s: &[u8], c: Cursor, y: u8) -> bool
     ensures { result ≡ next_in (case_class y) s.now c }
 {
     match c {
-        Cursor::Parsed(at) => starts(s, at, y),
-        Cursor::OutOfRange(_, at) => starts(s, at, y),
+        Cursor::Parsed(at) | Cursor::OutOfRange(_, at) => starts(s, at, y),
         Cursor::Failed(_) => false,
     }
 }
@@ -37,23 +35,26 @@ pub fn then_literal(s: &[u8], c: Cursor, b: u8) -> Cursor
     requires { Inside s.now c }
     ensures { Reads (literal b) s.now c b result }
 {
-    let at = place(c);
-    let d = literal_at(s, at, b);
-    join(c, d)
+    c.join(literal_at(s, c.place(), b))
+}
+
+// The byte, which must stand there, and what it stands for.
+pub fn then_literal_as<T: Copy>(s: &[u8], c: Cursor, b: u8, value: T) -> Scanned<T>
+    requires { Inside s.now c }
+    ensures { Reads (literal_as b value) s.now c result.value result.cursor }
+{
+    Scanned {
+        value,
+        cursor: then_literal(s, c, b),
+    }
 }
 
 // Whether the byte stands there, and the cursor after it.
-pub fn then_optional_literal(s: &[u8], c: Cursor, b: u8) -> OptionalLiteral
+pub fn then_optional_literal(s: &[u8], c: Cursor, b: u8) -> Scanned<bool>
     requires { Inside s.now c }
-    ensures { Reads (opt false (literal_as b true)) s.now c result.yes result.cursor }
+    ensures { Reads (opt false (literal_as b true)) s.now c result.value result.cursor }
 {
-    let at = place(c);
-    let m = optional_literal_at(s, at, b);
-    let d = m.cursor;
-    OptionalLiteral {
-        yes: m.yes,
-        cursor: join(c, d),
-    }
+    optional_literal_at(s, c.place(), b).after(c)
 }
 
 // Any spaces.
@@ -61,9 +62,7 @@ pub fn then_spaces(s: &[u8], c: Cursor) -> Cursor
     requires { Inside s.now c }
     ensures { Skips spaces s.now c result }
 {
-    let at = place(c);
-    let end = spaces_at(s, at);
-    join(c, Cursor::Parsed(end))
+    c.join(Cursor::Parsed(spaces_at(s, c.place())))
 }
 
 // Any spaces and `;`: the end of an option.
@@ -71,7 +70,5 @@ pub fn then_closing(s: &[u8], c: Cursor) -> Cursor
     requires { Inside s.now c }
     ensures { Skips (preceded spaces (literal 59)) s.now c result }
 {
-    let at = place(c);
-    let d = closing_at(s, at);
-    join(c, d)
+    c.join(closing_at(s, c.place()))
 }

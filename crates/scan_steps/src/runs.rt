@@ -5,21 +5,15 @@ ghost use Rattle.forms.specs.Pieces.{some};
 ghost use Rattle.scan_bytes.specs.Classes.{class_of};
 ghost use Rattle.scan_cursors.specs.Reads.{Inside, Reads};
 
+use definitions::packets::Span;
 use scan_bytes::bytes::Class;
-use scan_cursors::{Cursor, join, place};
-use scan_pieces::runs::{RunAt, run_at};
+use scan_cursors::{Cursor, Scanned};
+use scan_pieces::runs::run_at;
 
-// One or more bytes of a class.
-pub fn then_run(s: &[u8], c: Cursor, k: Class) -> RunAt
+// One or more bytes of a class, told by their place in the text and their number.
+pub fn then_run(s: &[u8], c: Cursor, k: Class) -> Scanned<Span>
     requires { Inside s.now c }
-    ensures { Reads (some (byte (class_of k))) s.now c (take result.len (drop result.from s.now)) result.cursor × (result.from + result.len ≤ length s.now) }
+    ensures { Reads (some (byte (class_of k))) s.now c (take result.value.len (drop result.value.start s.now)) result.cursor × (result.value.start + result.value.len ≤ length s.now) }
 {
-    let at = place(c);
-    let run = run_at(s, at, k);
-    let d = run.cursor;
-    RunAt {
-        from: run.from,
-        len: run.len,
-        cursor: join(c, d),
-    }
+    run_at(s, c.place(), k).after(c)
 }
