@@ -13,7 +13,6 @@ use definitions::table::{
     Address, AddressTest, Context, DistanceValue, FieldTest, Flow, HeaderField, Item, NumberField,
     NumberTest, Operator, WithinValue,
 };
-use scan_cursors::Cursor;
 
 // A name is told by its first byte's place in the text and its length, a pattern by its length: its bytes are the last in use.
 // The addresses of an address test stand beside the value.
@@ -29,13 +28,6 @@ pub enum Value {
     NoCase,
     Distance(DistanceValue),
     Within(WithinValue),
-}
-
-// An option's value, and where scanning stands after it.
-#[derive(Clone, Copy)]
-pub struct Valued {
-    pub value: Value,
-    pub cursor: Cursor,
 }
 
 // All bits of a header field of two bytes.
@@ -58,8 +50,7 @@ fn id_equals(number: u16) -> Item
 pub fn number_item(a: NumberTest) -> Item
     ensures { result ≡ renewed_item (Item.Number a) }
 {
-    let field = a.field;
-    match field {
+    match a.field {
         NumberField::IpId => id_equals(a.number),
         _ => Item::Number(a),
     }
