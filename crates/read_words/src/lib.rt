@@ -10,198 +10,104 @@ ghost use Rattle.read_words.specs.Words.{protocol_value, flow_word, context_word
 
 use definitions::limits::MAX_BYTE;
 use definitions::table::{Context, Flow, Reference, SizeField};
-use scan_cursors::Cursor;
-use scan_pieces::numbers::Numeric;
+use scan_cursors::{Cursor, Scanned};
 use scan_steps::literals::next_is_letter;
 use scan_steps::numbers::then_number;
-use scan_steps::words::{then_either_word, then_word};
-
-// A flow, and where scanning stands after it.
-#[derive(Clone, Copy)]
-pub struct FlowAt {
-    pub flow: Flow,
-    pub cursor: Cursor,
-}
-
-// A context, and where scanning stands after it.
-#[derive(Clone, Copy)]
-pub struct ContextAt {
-    pub context: Context,
-    pub cursor: Cursor,
-}
-
-// A field of data_size, and where scanning stands after it.
-#[derive(Clone, Copy)]
-pub struct SizeFieldAt {
-    pub field: SizeField,
-    pub cursor: Cursor,
-}
-
-// A reference, and where scanning stands after it.
-#[derive(Clone, Copy)]
-pub struct ReferenceAt {
-    pub reference: Reference,
-    pub cursor: Cursor,
-}
+use scan_steps::words::{then_either_keyword, then_keyword, then_word};
 
 // `tcp`, `udp`, `icmp` or a number.
-pub fn then_protocol(s: &[u8], c: Cursor) -> Numeric
+pub fn then_protocol(s: &[u8], c: Cursor) -> Scanned<u64>
     requires { Inside s.now c }
     ensures { Reads protocol_value s.now c result.value result.cursor × (result.value ≤ max_byte) }
 {
     if next_is_letter(s, c, b't') {
-        return Numeric {
-            value: 6,
-            cursor: then_word(s, c, b"tcp"),
-        };
+        return then_keyword(s, c, b"tcp", 6);
     }
     if next_is_letter(s, c, b'u') {
-        return Numeric {
-            value: 17,
-            cursor: then_word(s, c, b"udp"),
-        };
+        return then_keyword(s, c, b"udp", 17);
     }
     if next_is_letter(s, c, b'i') {
-        return Numeric {
-            value: 1,
-            cursor: then_word(s, c, b"icmp"),
-        };
+        return then_keyword(s, c, b"icmp", 1);
     }
     then_number(s, c, MAX_BYTE)
 }
 
 // `from_client` or `from_server`.
-pub fn then_flow(s: &[u8], c: Cursor) -> FlowAt
+pub fn then_flow(s: &[u8], c: Cursor) -> Scanned<Flow>
     requires { Inside s.now c }
-    ensures { Reads flow_word s.now c result.flow result.cursor }
+    ensures { Reads flow_word s.now c result.value result.cursor }
 {
     let from = then_word(s, c, b"from_");
-    let side = then_either_word(s, from, b"client", b"server");
-    let cursor = side.cursor;
-    if side.first {
-        return FlowAt {
-            flow: Flow::FromClient,
-            cursor,
-        };
-    }
-    FlowAt {
-        flow: Flow::FromServer,
-        cursor,
-    }
+    then_either_keyword(
+        s,
+        from,
+        b"client",
+        Flow::FromClient,
+        b"server",
+        Flow::FromServer,
+    )
 }
 
 // `match`, `packet` or `context`.
-pub fn then_reference(s: &[u8], c: Cursor) -> ReferenceAt
+pub fn then_reference(s: &[u8], c: Cursor) -> Scanned<Reference>
     requires { Inside s.now c }
-    ensures { Reads reference_word s.now c result.reference result.cursor }
+    ensures { Reads reference_word s.now c result.value result.cursor }
 {
     if next_is_letter(s, c, b'm') {
-        return ReferenceAt {
-            reference: Reference::Match,
-            cursor: then_word(s, c, b"match"),
-        };
+        return then_keyword(s, c, b"match", Reference::Match);
     }
-    let w = then_either_word(s, c, b"packet", b"context");
-    let cursor = w.cursor;
-    if w.first {
-        return ReferenceAt {
-            reference: Reference::Packet,
-            cursor,
-        };
-    }
-    ReferenceAt {
-        reference: Reference::Context,
-        cursor,
-    }
+    then_either_keyword(
+        s,
+        c,
+        b"packet",
+        Reference::Packet,
+        b"context",
+        Reference::Context,
+    )
 }
 
 // `payload`, `uri`, `header` or `body`.
-pub fn then_size_word(s: &[u8], c: Cursor) -> SizeFieldAt
+pub fn then_size_word(s: &[u8], c: Cursor) -> Scanned<SizeField>
     requires { Inside s.now c }
-    ensures { Reads size_word s.now c result.field result.cursor }
+    ensures { Reads size_word s.now c result.value result.cursor }
 {
     if next_is_letter(s, c, b'p') {
-        return SizeFieldAt {
-            field: SizeField::Payload,
-            cursor: then_word(s, c, b"payload"),
-        };
+        return then_keyword(s, c, b"payload", SizeField::Payload);
     }
     if next_is_letter(s, c, b'u') {
-        return SizeFieldAt {
-            field: SizeField::Uri,
-            cursor: then_word(s, c, b"uri"),
-        };
+        return then_keyword(s, c, b"uri", SizeField::Uri);
     }
-    let w = then_either_word(s, c, b"header", b"body");
-    let cursor = w.cursor;
-    if w.first {
-        return SizeFieldAt {
-            field: SizeField::Header,
-            cursor,
-        };
-    }
-    SizeFieldAt {
-        field: SizeField::Body,
-        cursor,
-    }
+    then_either_keyword(s, c, b"header", SizeField::Header, b"body", SizeField::Body)
 }
 
 // `header` or `host`.
-fn then_h_word(s: &[u8], c: Cursor) -> ContextAt
+fn then_h_word(s: &[u8], c: Cursor) -> Scanned<Context>
     requires { Inside s.now c }
-    ensures { Reads h_word s.now c result.context result.cursor }
+    ensures { Reads h_word s.now c result.value result.cursor }
 {
     let h = then_word(s, c, b"h");
-    let w = then_either_word(s, h, b"eader", b"ost");
-    let cursor = w.cursor;
-    if w.first {
-        return ContextAt {
-            context: Context::Header,
-            cursor,
-        };
-    }
-    ContextAt {
-        context: Context::Host,
-        cursor,
-    }
+    then_either_keyword(s, h, b"eader", Context::Header, b"ost", Context::Host)
 }
 
 // `body` or `banner`.
-fn then_b_word(s: &[u8], c: Cursor) -> ContextAt
+fn then_b_word(s: &[u8], c: Cursor) -> Scanned<Context>
     requires { Inside s.now c }
-    ensures { Reads b_word s.now c result.context result.cursor }
+    ensures { Reads b_word s.now c result.value result.cursor }
 {
     let b = then_word(s, c, b"b");
-    let w = then_either_word(s, b, b"ody", b"anner");
-    let cursor = w.cursor;
-    if w.first {
-        return ContextAt {
-            context: Context::Body,
-            cursor,
-        };
-    }
-    ContextAt {
-        context: Context::Banner,
-        cursor,
-    }
+    then_either_keyword(s, b, b"ody", Context::Body, b"anner", Context::Banner)
 }
 
 // `packet`, `uri`, `header`, `body`, `banner`, `host` or `file`.
-pub fn then_context(s: &[u8], c: Cursor) -> ContextAt
+pub fn then_context(s: &[u8], c: Cursor) -> Scanned<Context>
     requires { Inside s.now c }
-    ensures { Reads context_word s.now c result.context result.cursor }
+    ensures { Reads context_word s.now c result.value result.cursor }
 {
     if next_is_letter(s, c, b'p') {
-        return ContextAt {
-            context: Context::Packet,
-            cursor: then_word(s, c, b"packet"),
-        };
+        return then_keyword(s, c, b"packet", Context::Packet);
     }
     if next_is_letter(s, c, b'u') {
-        return ContextAt {
-            context: Context::Uri,
-            cursor: then_word(s, c, b"uri"),
-        };
+        return then_keyword(s, c, b"uri", Context::Uri);
     }
     if next_is_letter(s, c, b'h') {
         return then_h_word(s, c);
@@ -209,8 +115,5 @@ pub fn then_context(s: &[u8], c: Cursor) -> ContextAt
     if next_is_letter(s, c, b'b') {
         return then_b_word(s, c);
     }
-    ContextAt {
-        context: Context::File,
-        cursor: then_word(s, c, b"file"),
-    }
+    then_keyword(s, c, b"file", Context::File)
 }
