@@ -10,111 +10,72 @@ ghost use Rattle.scan_cursors.specs.Reads.{Inside, Reads};
 ghost use Rattle.read_operators.specs.Operators.{size_order, masked};
 
 use definitions::table::{Operator, Order};
-use scan_cursors::Cursor;
-use scan_pieces::numbers::Numeric;
-use scan_steps::literals::{next_is, then_literal, then_spaces};
+use scan_cursors::{Cursor, Scanned};
+use scan_steps::literals::{next_is, then_literal, then_literal_as, then_spaces};
 use scan_steps::numbers::then_numeral;
 
-// An order, and where scanning stands after it.
-#[derive(Clone, Copy)]
-pub struct OrderAt {
-    pub order: Order,
-    pub cursor: Cursor,
-}
-
-// An operator, and where scanning stands after it.
-#[derive(Clone, Copy)]
-pub struct OperatorAt {
-    pub operator: Operator,
-    pub cursor: Cursor,
-}
-
 // Optional `<` or `>`.
-pub fn then_order(s: &[u8], c: Cursor) -> OrderAt
+pub fn then_order(s: &[u8], c: Cursor) -> Scanned<Order>
     requires { Inside s.now c }
-    ensures { Reads (opt Equal less_or_greater) s.now c result.order result.cursor }
+    ensures { Reads (opt Equal less_or_greater) s.now c result.value result.cursor }
 {
     if next_is(s, c, b'<') {
-        return OrderAt {
-            order: Order::Less,
-            cursor: then_literal(s, c, b'<'),
-        };
+        return then_literal_as(s, c, b'<', Order::Less);
     }
     if next_is(s, c, b'>') {
-        return OrderAt {
-            order: Order::Greater,
-            cursor: then_literal(s, c, b'>'),
-        };
+        return then_literal_as(s, c, b'>', Order::Greater);
     }
-    OrderAt {
-        order: Order::Equal,
+    Scanned {
+        value: Order::Equal,
         cursor: c,
     }
 }
 
 // Optional `<`, `>` or `=`.
-pub fn then_size_order(s: &[u8], c: Cursor) -> OrderAt
+pub fn then_size_order(s: &[u8], c: Cursor) -> Scanned<Order>
     requires { Inside s.now c }
-    ensures { Reads size_order s.now c result.order result.cursor }
+    ensures { Reads size_order s.now c result.value result.cursor }
 {
     if next_is(s, c, b'<') {
-        return OrderAt {
-            order: Order::Less,
-            cursor: then_literal(s, c, b'<'),
-        };
+        return then_literal_as(s, c, b'<', Order::Less);
     }
     if next_is(s, c, b'>') {
-        return OrderAt {
-            order: Order::Greater,
-            cursor: then_literal(s, c, b'>'),
-        };
+        return then_literal_as(s, c, b'>', Order::Greater);
     }
     if next_is(s, c, b'=') {
-        return OrderAt {
-            order: Order::Equal,
-            cursor: then_literal(s, c, b'='),
-        };
+        return then_literal_as(s, c, b'=', Order::Equal);
     }
-    OrderAt {
-        order: Order::Equal,
+    Scanned {
+        value: Order::Equal,
         cursor: c,
     }
 }
 
 // One operator, or the other with `=`.
-fn then_or_equal(s: &[u8], c: Cursor, alone: Operator, equal: Operator) -> OperatorAt
+fn then_or_equal(s: &[u8], c: Cursor, alone: Operator, equal: Operator) -> Scanned<Operator>
     requires { Inside s.now c }
-    ensures { Reads (opt alone (literal_as 61 equal)) s.now c result.operator result.cursor }
+    ensures { Reads (opt alone (literal_as 61 equal)) s.now c result.value result.cursor }
 {
     if next_is(s, c, b'=') {
-        return OperatorAt {
-            operator: equal,
-            cursor: then_literal(s, c, b'='),
-        };
+        return then_literal_as(s, c, b'=', equal);
     }
-    OperatorAt {
-        operator: alone,
+    Scanned {
+        value: alone,
         cursor: c,
     }
 }
 
 // One of `= != < > <= >=`.
-pub fn then_comparison(s: &[u8], c: Cursor) -> OperatorAt
+pub fn then_comparison(s: &[u8], c: Cursor) -> Scanned<Operator>
     requires { Inside s.now c }
-    ensures { Reads comparison s.now c result.operator result.cursor }
+    ensures { Reads comparison s.now c result.value result.cursor }
 {
     if next_is(s, c, b'=') {
-        return OperatorAt {
-            operator: Operator::Equal,
-            cursor: then_literal(s, c, b'='),
-        };
+        return then_literal_as(s, c, b'=', Operator::Equal);
     }
     if next_is(s, c, b'!') {
         let not = then_literal(s, c, b'!');
-        return OperatorAt {
-            operator: Operator::Unequal,
-            cursor: then_literal(s, not, b'='),
-        };
+        return then_literal_as(s, not, b'=', Operator::Unequal);
     }
     if next_is(s, c, b'<') {
         let less = then_literal(s, c, b'<');
@@ -125,7 +86,7 @@ pub fn then_comparison(s: &[u8], c: Cursor) -> OperatorAt
 }
 
 // Optional `&` and a mask up to a limit, which is the full mask.
-pub fn then_mask(s: &[u8], c: Cursor, limit: u64) -> Numeric
+pub fn then_mask(s: &[u8], c: Cursor, limit: u64) -> Scanned<u64>
     requires { Inside s.now c × (limit < number_cap) }
     ensures { Reads (masked limit) s.now c result.value result.cursor × (result.value ≤ limit) }
 {
@@ -133,13 +94,12 @@ pub fn then_mask(s: &[u8], c: Cursor, limit: u64) -> Numeric
         let and = then_literal(s, c, b'&');
         let from = then_spaces(s, and);
         let n = then_numeral(s, from, limit);
-        let after = n.cursor;
-        return Numeric {
-            value: n.value,
-            cursor: then_spaces(s, after),
+        return Scanned {
+            cursor: then_spaces(s, n.cursor),
+            ..n
         };
     }
-    Numeric {
+    Scanned {
         value: limit,
         cursor: c,
     }

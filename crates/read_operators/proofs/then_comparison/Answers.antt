@@ -1,15 +1,15 @@
-use Rattle.scan_cursors.proofs.Readings.{fmap_reads, preceded_reads}
+use Rattle.scan_cursors.proofs.Readings.{preceded_reads}
 use Rattle.scan_cursors.proofs.Choices.{first_reads, second_reads}
 use Rattle.read_operators.proofs.then_comparison.Goals as goal
 
 pub returns-then-next_is : goal.returns-then-next_is
-returns-then-next_is c = first_reads c.next_is.ensures c.if-next_is.true (fmap_reads _ c.then_literal.ensures)
+returns-then-next_is c = first_reads c.next_is.ensures c.if-next_is.true c.then_literal_as.ensures
 
 pub returns-then-next_is-2 : goal.returns-then-next_is-2
 returns-then-next_is-2 c =
     let i = c.requires in
     second_reads c.next_is.ensures c.if-next_is.false
-    (first_reads c.next_is-2.ensures c.if-next_is-2.true (preceded_reads i c.then_literal-not.ensures (fmap_reads _ c.then_literal-then-next_is-2.ensures)))
+    (first_reads c.next_is-2.ensures c.if-next_is-2.true (preceded_reads i c.then_literal-not.ensures c.then_literal_as-then-next_is-2.ensures))
 
 pub returns-then-next_is-3 : goal.returns-then-next_is-3
 returns-then-next_is-3 c =

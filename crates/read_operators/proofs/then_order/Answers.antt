@@ -1,18 +1,18 @@
-use Rattle.scan_cursors.proofs.Readings.{fmap_reads, pure_reads}
+use Rattle.scan_cursors.proofs.Readings.{pure_reads}
 use Rattle.scan_cursors.proofs.Choices.{first_reads, second_reads, row_reads}
 use Rattle.read_operators.proofs.then_order.Goals as goal
 
 pub returns-then-next_is : goal.returns-then-next_is
 returns-then-next_is c =
     let i = c.requires in
-    row_reads i (first_reads c.next_is.ensures c.if-next_is.true (fmap_reads _ c.then_literal.ensures))
+    row_reads i (first_reads c.next_is.ensures c.if-next_is.true c.then_literal_as.ensures)
 
 pub returns-then-next_is-2 : goal.returns-then-next_is-2
 returns-then-next_is-2 c =
     let i = c.requires in
     row_reads i
     (second_reads c.next_is.ensures c.if-next_is.false
-    (first_reads c.next_is-2.ensures c.if-next_is-2.true (fmap_reads _ c.then_literal-then-next_is-2.ensures)))
+    (first_reads c.next_is-2.ensures c.if-next_is-2.true c.then_literal_as-then-next_is-2.ensures))
 
 pub returns : goal.returns
 returns c =
