@@ -10,7 +10,7 @@ use mathlib.Core.List.Memᴰ.{head as here}
 use mathlib.Core.List.Memᴰ.{not-nil}
 use mathlib.Core.List.Memᴰ.{tail as there}
 use mathlib.Core.List.{List, [], ◌∷◌, ◌++◌, Memᴰ as Mem}
-use mathlib.Core.List.Memᴰ.{cases_cons}
+use mathlib.Core.List.Memᴰ.{cases_cons, eq_of_singleton}
 use Prim.Native.Nat.{ℕ}
 use lib.ListN.{length}
 use Rattle.forms.proofs.Bools.{by_cases}
@@ -88,12 +88,8 @@ fields_of (item.Pattern p) = p.context ∷ []
 
 -- ---- one item
 
--- the one field that there is
-only : (c x : Context) → Mem c (x ∷ []) → c ≡ x
-only c x m = ⊎_elim (λ e. e) (λ n. absurd (not-nil n)) (cases_cons m)
-
 absent_first : (v : View) (x c : Context) (b : Bool) → Mem c (x ∷ []) → v.present c ≡ false → (v.present x && b) ≡ false
-absent_first v x c b m e = let f : v.present x ≡ false = ap v.present (sym (only c x m)) ∙ e in rw f
+absent_first v x c b m e = let f : v.present x ≡ false = ap v.present (sym (eq_of_singleton m)) ∙ e in rw f
 
 absent_test : (v : View) (it : Item) (al : List Address) (l : Option Match) (c : Context) → Mem c (fields_tested it l) → v.present c ≡ false
     → test_holds v it al l ≡ false

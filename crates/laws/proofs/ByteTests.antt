@@ -2,15 +2,15 @@
 -- (`byte_test_exactly`); so past the end none holds, `!` as little as the others (`byte_test_past`). Of a field's bytes it depends on those that it reads alone
 -- (`byte_test_reads`), and `little` changes nothing with one (`little_alone`). Document 02, T-01.
 use Rattle.std.specs.Prelude.{Option}
-use mathlib.Core.Path.{◌≡◌, refl, sym, ap, ◌∙◌}
+use mathlib.Core.Path.{◌≡◌, refl, ap}
 use mathlib.Core.Logic.{◌↔◌}
-use mathlib.Core.Bool.{Bool, true, false, not, ◌&&◌, false≢true}
+use mathlib.Core.Bool.{Bool, true, false, not, ◌&&◌}
 use mathlib.Core.List.{List, [], ◌∷◌}
 use Prim.Native.Nat.{ℕ, ◌+◌, ◌≤◌, ◌<◌}
 use native.Mathlib.Omega.{arith}
 use lib.ListN.{length, take, drop}
 use lib.Dec.{eqb, leb}
-use borrow.Author.Tests.{eqb-true, eq-eqb, ne_eqb, leb-true, le-leb, ltb-true, lt-ltb}
+use borrow.Author.Tests.{eqb-true, eqb-false, not-true, eq-eqb, ne_eqb, leb-true, le-leb, ltb-true, lt-ltb}
 use Rattle.forms.proofs.Bools.{by_cases, both_left, both_right}
 use Rattle.definitions.specs.declared.table.ByteOperator.{ByteOperator}
 use Rattle.definitions.specs.declared.table.ByteOperator.TheVariants.{Greater, Less, Equal, Unequal}
@@ -30,14 +30,11 @@ Stands Less x n = x < n
 Stands Equal x n = x ≡ n
 Stands Unequal x n = x ≡ n → ⊥
 
-unequal : (x n : ℕ) → not (eqb x n) ≡ true → x ≡ n → ⊥
-unequal x n e q = false≢true (ap not (sym (eq-eqb x n q)) ∙ e)
-
 stands : (o : ByteOperator) (x n : ℕ) → (operator_holds (compared_by o) x n ≡ true) ↔ Stands o x n
 stands Greater x n = (λ e. ltb-true n x e, λ h. lt-ltb n x h)
 stands Less x n = (λ e. ltb-true x n e, λ h. lt-ltb x n h)
 stands Equal x n = (λ e. eqb-true x n e, λ h. eq-eqb x n h)
-stands Unequal x n = (λ e. unequal x n e, λ h. ap not (ne_eqb x n h))
+stands Unequal x n = (λ e. eqb-false x n (not-true (eqb x n) e), λ h. ap not (ne_eqb x n h))
 
 -- ---- one test
 

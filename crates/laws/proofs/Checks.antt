@@ -2,11 +2,12 @@
 -- one of the tests' refusals. By cases on the tests.
 use Rattle.std.specs.Prelude.{Result, Ok, Err}
 use mathlib.Core.Path.{◌≡◌, refl, sym, subst}
-use mathlib.Core.Bool.{Bool, true, false, ◌||◌, false≢true}
+use mathlib.Core.Bool.{Bool, true, false, false≢true}
 use mathlib.Core.List.{List, [], ◌∷◌}
 use Prim.Native.Nat.{ℕ}
 use lib.Dec.{eqb}
 use borrow.Author.Tests.{eqb-true}
+pub use Rattle.std.proofs.lemmas.Bool.{or_parts as neither}
 use Rattle.definitions.specs.declared.answers.Refusal.{Refusal}
 use Rattle.definitions.specs.Lists.{any?, all?}
 use Rattle.definitions.specs.Refusals.{number_of, check_number, refuse_if, and_then}
@@ -34,10 +35,6 @@ else_same (Err r) d d' f = refl
 pub else_fine : (c d : Result Unit Refusal) → and_then c d ≡ Ok tt → (c ≡ Ok tt) × (d ≡ Ok tt)
 else_fine (Ok tt) d e = (refl, e)
 else_fine (Err r) d e = no_fine r e
-
-pub neither : (a b : Bool) → (a || b) ≡ false → (a ≡ false) × (b ≡ false)
-neither true b e = let z : false ≡ true = cc in absurd (false≢true z)
-neither false b e = (refl, e)
 
 -- ---- which numbers there are
 

@@ -4,7 +4,7 @@
 use Rattle.std.specs.Prelude.{Option, None}
 use mathlib.Core.Path.{◌≡◌, refl, sym, ap, ◌∙◌, subst}
 use mathlib.Core.Logic.{⊎_elim, ◌↔◌}
-use mathlib.Core.Bool.{Bool, true, false, ◌&&◌, false≢true}
+use mathlib.Core.Bool.{Bool, true, false, false≢true}
 use mathlib.Core.List.{List, [], ◌∷◌, ◌++◌, map, nil≢cons, cons≢nil, head-eq_of_cons-eq, tail-eq_of_cons-eq, Memᴰ as Mem}
 use mathlib.Core.List.Memᴰ.{cases_cons}
 use mathlib.Core.List.Memᴰ.{head as here}
@@ -14,9 +14,11 @@ use mathlib.Core.List.Memᴰ.{append_cases}
 use mathlib.Core.List.Memᴰ.{append_left}
 use mathlib.Core.List.Memᴰ.{cast as mem-cast}
 use mathlib.Core.List.Memᴰ.{append_right}
+use mathlib.Core.List.Memᴰ.{map as map_mem, of_map}
 use Prim.Native.Nat.{ℕ}
 use native.Mathlib.Omega.{arith}
 use lib.ListN.{length}
+use Rattle.std.proofs.lemmas.Bool.{and_parts, and_from}
 use Rattle.definitions.specs.declared.packets.Direction.{Direction}
 use Rattle.definitions.specs.declared.table.Pattern.{Pattern}
 use Rattle.definitions.specs.declared.table.Table.{Table}
@@ -33,23 +35,7 @@ use Rattle.laws.proofs.LexOrder.{lex_less-same, lex_less-head}
 use Rattle.laws.proofs.Rising.{Rises, rises_append, Rising, rising_once}
 use Rattle.laws.proofs.PatternStarts.{starts_in_lem, starts_of_lem, starts_rise}
 
-both : (a b : Bool) → (a && b) ≡ true → (a ≡ true) × (b ≡ true)
-both true b e = (refl, e)
-both false b e = absurd (false≢true e)
-
-pair : (a b : Bool) → a ≡ true → b ≡ true → (a && b) ≡ true
-pair true b e f = f
-pair false b e f = absurd (false≢true e)
-
 -- ---- membership in the lists of the definitions
-
-map_in : (s : Start) (q : List Start) (l : List (List Start)) → Mem q (map (λ (u : List Start). s ∷ u) l) → (v : List Start) × (q ≡ s ∷ v) × Mem v l
-map_in s q [] m = absurd (not-nil m)
-map_in s q (u ∷ l) m = ⊎_elim (λ p. (u, p, here refl)) (λ n. let r = map_in s q l n in (r.0, r.1, there r.2)) (cases_cons m)
-
-map_of_lem : (s : Start) (q : List Start) (l : List (List Start)) → Mem q l → Mem (s ∷ q) (map (λ (u : List Start). s ∷ u) l)
-map_of_lem s q [] m = absurd (not-nil m)
-map_of_lem s q (u ∷ l) m = ⊎_elim (λ p. here (ap (λ (w : List Start). s ∷ w) p)) (λ n. there (map_of_lem s q l n)) (cases_cons m)
 
 spread_in : (f : Start → List (List Start)) (ss : List Start) (q : List Start) → Mem q (spread f ss)
     → (s : Start) × (v : List Start) × (q ≡ s ∷ v) × Mem s ss × Mem v (f s)
@@ -57,7 +43,7 @@ unfolding spread
 spread_in f [] q m = absurd (not-nil m)
 spread_in f (s ∷ ss) q m =
     ⊎_elim
-    (λ n. let r = map_in s q (f s) n in (s, r.0, r.1, here refl, r.2))
+    (λ n. let r = of_map (λ (u : List Start). s ∷ u) (f s) n in (s, r.0, sym r.2, here refl, r.1))
     (λ n. let r = spread_in f ss q n in (r.0, r.1, r.2, there r.3, r.4))
     (append_cases (map (λ (u : List Start). s ∷ u) (f s)) m)
 
@@ -66,7 +52,7 @@ unfolding spread
 spread_of f [] s q m n = absurd (not-nil m)
 spread_of f (x ∷ ss) s q m n =
     ⊎_elim
-    (λ e. mem-cast (ap (λ (y : Start). y ∷ q) e) (append_left (spread f ss) (map_of_lem x q (f x) (subst (λ (y : Start). Mem q (f y)) e n))))
+    (λ e. mem-cast (ap (λ (y : Start). y ∷ q) e) (append_left (spread f ss) (map_mem (λ (u : List Start). x ∷ u) (subst (λ (y : Start). Mem q (f y)) e n))))
     (λ k. append_right (map (λ (u : List Start). x ∷ u) (f x)) (spread_of f ss s q k n))
     (cases_cons m)
 
@@ -102,13 +88,13 @@ module _ (v : View) where
       → (v.present p.context ≡ true) × ((x : Start) → lies_in v p b l x ≡ false)
   unfolding unmatched_holds
   nowhere_holds_in p b l e =
-      let w = both (v.present p.context) (none? (starts v p b l)) e in
+      let w = and_parts (v.present p.context) (none? (starts v p b l)) e in
       (w.0, absent_in p b l w.1)
 
   nowhere_holds_of : (p : Pattern) (b : List ℕ) (l : Option Match) → v.present p.context ≡ true → ((x : Start) → lies_in v p b l x ≡ false)
       → unmatched_holds v p b l ≡ true
   unfolding unmatched_holds
-  nowhere_holds_of p b l e h = pair (v.present p.context) (none? (starts v p b l)) e (absent_of p b l h)
+  nowhere_holds_of p b l e h = and_from (v.present p.context) (none? (starts v p b l)) e (absent_of p b l h)
 
   -- the list of placements holds exactly those that meet the items
   pub placements_meet : (ws : List Constraint) (l : Option Match) (q : List Start) → Mem q (placements v ws l) → Meets v ws l q
@@ -158,8 +144,8 @@ rising_map : (s : Start) (l : List (List Start)) → Rising l → Rising (map (�
 rising_map s [] h = tt
 rising_map s (p ∷ l) h = (
   λ q m.
-      let r = map_in s q l m in
-      subst (λ (w : List Start). lex_less (s ∷ p) w ≡ true) (sym r.1) (lex_less-same s p r.0 (h.0 r.0 r.2)),
+      let r = of_map (λ (u : List Start). s ∷ u) l m in
+      subst (λ (w : List Start). lex_less (s ∷ p) w ≡ true) r.2 (lex_less-same s p r.0 (h.0 r.0 r.1)),
   rising_map s l h.1,
 )
 
@@ -172,9 +158,9 @@ rising_spread f (s ∷ ss) r h =
   where
     later : (x y : List Start) → Mem x (map (λ (u : List Start). s ∷ u) (f s)) → Mem y (spread f ss) → lex_less x y ≡ true
     later x y n k =
-        let u = map_in s x (f s) n in
+        let u = of_map (λ (q : List Start). s ∷ q) (f s) n in
         let w = spread_in f ss y k in
-        subst (λ (z : List Start). lex_less z y ≡ true) (sym u.1)
+        subst (λ (z : List Start). lex_less z y ≡ true) u.2
         (subst (λ (z : List Start). lex_less (s ∷ u.0) z ≡ true) (sym w.2) (lex_less-head s w.0 u.0 w.1 (r.0 w.0 w.3)))
 
 rising_only : (t : Bool) (l : List (List Start)) → Rising l → Rising (only_if t l)

@@ -3,9 +3,10 @@
 use Rattle.std.specs.Prelude.{None}
 use mathlib.Core.Path.{◌≡◌, refl, sym, ap, subst, ◌∙◌}
 use mathlib.Core.Bool.{Bool}
-use mathlib.Core.List.{List, [], ◌∷◌, ◌++◌, map}
-use Prim.Native.Nat.{ℕ, zero, suc, ◌-◌}
+use mathlib.Core.List.{List, [], ◌∷◌, ◌++◌, map, map-append}
+use Prim.Native.Nat.{ℕ, suc, ◌-◌}
 use lib.ListN.{length, length-map, replicate}
+use lib.LanesLaws.{map-replicate}
 use lib.Dec.{eqb}
 use Rattle.forms.specs.Form.{Form, fmap, Means}
 use Rattle.forms.proofs.Bools.{by_cases}
@@ -111,13 +112,9 @@ slots_renewed (Test it al ∷ es) = ap (λ sls. renewed_slot (slot_of it al) ∷
 slots_renewed (Pattern n b ∷ es) = rw (modifiers_kept es (bare n (length b)), slots_renewed es)
 slots_renewed (Modified m ∷ es) = slots_renewed es
 
-room_kept : (k : ℕ) → map renewed_slot (replicate k no_slot) ≡ replicate k no_slot
-room_kept zero = refl
-room_kept (suc k) = ap (λ sls. no_slot ∷ sls) (room_kept k)
-
 padded_renewed : (sls : List Slot) (k : ℕ) → map renewed_slot (sls ++ replicate k no_slot) ≡ map renewed_slot sls ++ replicate k no_slot
-padded_renewed [] k = room_kept k
-padded_renewed (sl ∷ sls) k = ap (λ rest. renewed_slot sl ∷ rest) (padded_renewed sls k)
+padded_renewed sls k =
+    map-append renewed_slot sls (replicate k no_slot) ∙ ap (λ rest. map renewed_slot sls ++ rest) (map-replicate renewed_slot k no_slot)
 
 -- THE TABLE OF RENEWED VALUES IS THE RENEWED TABLE
 pub renewed_options : (room : ℕ) (es : List OptionValue) → table_of room (map renewed_value es) ≡ renewed (table_of room es)
@@ -170,16 +167,12 @@ occurrence_kept es (Test it al) = rw (count_kept (λ k. eqb k 3) es)
 occurrence_kept es (Pattern n b) = rw (count_kept (λ k. eqb k 4) es)
 occurrence_kept es (Modified m) = rw (count_kept (λ k. eqb k 4) es, latest_kept es [])
 
-renewed_end : (es : List OptionValue) (e : OptionValue) → map renewed_value (es ++ (e ∷ [])) ≡ map renewed_value es ++ (renewed_value e ∷ [])
-renewed_end [] e = refl
-renewed_end (d ∷ es) e = ap (λ (xs : List OptionValue). renewed_value d ∷ xs) (renewed_end es e)
-
 -- EACH MAY STAND WHERE IT STOOD
 pub renewed_occurrences : {before es : List OptionValue} → Occurrences before es → Occurrences (map renewed_value before) (map renewed_value es)
 renewed_occurrences none = none
 renewed_occurrences (Occurrences.more {before} {es} {e} c o) =
     Occurrences.more (occurrence_kept before e ∙ c)
-    (subst (λ (b : List OptionValue). Occurrences b (map renewed_value es)) (renewed_end before e) (renewed_occurrences o))
+    (subst (λ (b : List OptionValue). Occurrences b (map renewed_value es)) (map-append renewed_value before (e ∷ [])) (renewed_occurrences o))
 
 patterns_kept : (sls : List Slot) → patterns_of (map renewed_slot sls) ≡ patterns_of sls
 unfolding patterns_of
@@ -218,4 +211,4 @@ former_occurrences before [] o = none
 former_occurrences before (e ∷ es) (Occurrences.more c o) =
     Occurrences.more (sym (occurrence_kept before e) ∙ c)
     (former_occurrences (before ++ (e ∷ [])) es
-    (subst (λ (b : List OptionValue). Occurrences b (map renewed_value es)) (sym (renewed_end before e)) o))
+    (subst (λ (b : List OptionValue). Occurrences b (map renewed_value es)) (sym (map-append renewed_value before (e ∷ []))) o))

@@ -10,6 +10,7 @@ use native.Mathlib.Omega.{arith}
 use lib.ListN.{length, length-append, get_or, take}
 use lib.Dec.{leb}
 use lib.Bits.{bit_and, and_mask}
+use Rattle.std.proofs.lemmas.List.{take-map}
 use borrow.Author.Tests.{leb-true}
 use Rattle.forms.specs.Bytes.{text}
 use Rattle.forms.proofs.Bools.{by_cases, both_left, both_right}
@@ -129,11 +130,6 @@ module _ (v : View) (id : v.header.id ≤ max_word) where
 
 -- ---- the table
 
-take_renewed : (n : ℕ) (sls : List Slot) → take n (map renewed_slot sls) ≡ map renewed_slot (take n sls)
-take_renewed zero sls = refl
-take_renewed (suc n) [] = refl
-take_renewed (suc n) (sl ∷ sls) = ap (λ xs. renewed_slot sl ∷ xs) (take_renewed n sls)
-
 -- the id is two of the packet's bytes
 byte_at : (k : ℕ) (p : List ℕ) (i : ℕ) → all? (λ (b : ℕ). leb b max_byte) p ≡ true → get_or (take k p) i 0 ≤ max_byte
 unfolding all?
@@ -155,7 +151,7 @@ pub renewed_matches : (t : Table) (p decoded : List ℕ) (m : FieldMap) (dir : D
 unfolding listed renewed items_of
 renewed_matches t p decoded m dir h =
     let v = view_of p decoded m in
-    let same = ap (λ sls. constraints sls t.bytes) (take_renewed t.count t.items) ∙ renewed_constraints (slots_of t) t.bytes in
+    let same = ap (λ sls. constraints sls t.bytes) (take-map renewed_slot t.count t.items) ∙ renewed_constraints (slots_of t) t.bytes in
     ap (only_if (head_holds t v dir))
     (ap (λ ws. placements v ws None) same ∙ same_placements v (id_word (total_length p) p h) (constraints (slots_of t) t.bytes) None)
 
@@ -243,7 +239,7 @@ renewed_longer t =
     let slots = slot_options (slots_of t) t.bytes in
     let others = slot_options (take t.count (map renewed_slot t.items)) t.bytes in
     let longer : length (options_text others) ≡ length (options_text slots) + 2 * ip_id_uses t =
-    ap (λ sls. length (options_text (slot_options sls t.bytes))) (take_renewed t.count t.items) ∙ slots_longer (slots_of t) t.bytes in
+    ap (λ sls. length (options_text (slot_options sls t.bytes))) (take-map renewed_slot t.count t.items) ∙ slots_longer (slots_of t) t.bytes in
     let a = framed_length (head_options t) slots in
     let b = framed_length (head_options t) others in
     b ∙ (omega (arith, longer) ∙ ap (λ n. n + 2 * ip_id_uses t) (sym a))

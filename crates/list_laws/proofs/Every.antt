@@ -4,16 +4,11 @@ use mathlib.Core.Bool.{Bool, true, false}
 use mathlib.Core.List.{List, [], ◌∷◌}
 use Prim.Native.Nat.{ℕ, zero, suc, ◌+◌, ◌≤◌, ◌<◌}
 use native.Mathlib.Omega.{arith}
-use native.Mathlib.Numerals.{add-one}
 use lib.ListN.{length, get_or, take, drop, drop_of_length-le}
-use lib.Seq.{drop-cons}
+pub use Rattle.std.proofs.lemmas.List.{drop_more as drop_here}
 use Rattle.forms.proofs.Bools.{both_left, both_right}
 use Rattle.definitions.specs.Lists.{all?}
 use Rattle.list_laws.proofs.Firsts.{first_here, first_out}
-
--- the element at a place, and those after it
-pub drop_here : {A : Type 0} (l : List A) (i : ℕ) (d : A) → i < length l → drop i l ≡ get_or l i d ∷ drop (i + 1) l
-drop_here l i d h = rw add-one (drop-cons l i d h)
 
 module _ {A : Type 0} (f : A → Bool) where
   all_on : (x : A) (a b : List A) → a ≡ x ∷ b → f x ≡ true → all? f a ≡ all? f b

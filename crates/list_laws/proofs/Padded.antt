@@ -4,9 +4,8 @@ use mathlib.Core.Path.{◌≡◌, sym, ap, ◌∙◌}
 use mathlib.Core.List.{List, [], ◌∷◌, ◌++◌, append-nil, append_assoc}
 use Prim.Native.Nat.{ℕ, suc, ◌+◌, ◌-◌, ◌≤◌, ◌<◌}
 use native.Mathlib.Omega.{arith}
-use native.Mathlib.Numerals.{add-one}
-use lib.ListN.{length, get_or, take, drop, set, replicate, length-append, length-drop, length-set, length-replicate, replicate-append-replicate, get_or-append}
-use lib.Seq.{sets, append_snoc, set-append_seam, set-append_left, take-suc, length-take-le, get_or-drop}
+use lib.ListN.{length, get_or, set, replicate, length-append, length-set, length-replicate, replicate-append-replicate, get_or-append}
+use lib.Seq.{sets, append_snoc, set-append_seam, set-append_left}
 use Rattle.definitions.specs.Lists.{padded}
 
 module _ {A : Type 0} (n : ℕ) (x : A) where
@@ -49,15 +48,3 @@ module _ {A : Type 0} (n : ℕ) (x : A) where
 
   pub padded_holds : (l : List A) → length (padded n x l) ≡ n → length l ≤ n
   padded_holds l e = omega (arith, e, padded_length l)
-
--- one byte more of a part of a list
-pub padded_part : (n : ℕ) (s : List ℕ) (from i : ℕ) → i < n → from + i < length s
-    → set (padded n 0 (take i (drop from s))) i (get_or s (from + i) 0) ≡ padded n 0 (take (i + 1) (drop from s))
-padded_part n s from i h g =
-    let m : i < length (drop from s) = omega (arith, length-drop from s) in
-    let e : length (take i (drop from s)) ≡ i = length-take-le i (drop from s) (omega arith) in
-    let more : take (i + 1) (drop from s) ≡ take i (drop from s) ++ (get_or s (from + i) 0 ∷ []) =
-    rw add-one (take-suc (drop from s) i 0 m ∙ rw (get_or-drop from s i 0)) in
-    sym
-    (ap (λ (l : List ℕ). padded n 0 l) more
-    ∙ padded_one n 0 (take i (drop from s)) (get_or s (from + i) 0) (omega (arith, e)) ∙ rw e)
