@@ -1,8 +1,9 @@
 // What stands around the options of a text: its front, the dashes of an option, and how reading an option ends.
 #![tactic(auto)]
 
-ghost use Rattle.std.specs.Prelude.{◌≡◌, ◌<◌, length, drop};
+ghost use Rattle.std.specs.Prelude.{◌≡◌, ◌<◌, ◌≤◌, ◌↔◌, IsTrue, length, drop};
 ghost use Rattle.forms.specs.Bytes.{run};
+ghost use Rattle.definitions.specs.Limits.{document_limits};
 ghost use Rattle.definitions.specs.Options.{printable};
 ghost use Rattle.definitions.specs.Reading.{dashes};
 ghost use Rattle.read_frame.specs.Framing.{is_opened, Fronts, ended_by};
@@ -27,39 +28,28 @@ fn printable_run(s: &[u8]) -> usize
 fn is_opened(s: &[u8]) -> bool
     ensures { result ≡ is_opened s.now }
 {
-    let w = b"F-SBID(";
-    if s.len() < OPENING_BYTES {
-        return false;
-    }
-    let mut i = 0;
-    while i < OPENING_BYTES {
-        if s[i] != w[i] {
-            return false;
-        }
-        i += 1;
-    }
-    true
+    s.starts_with(b"F-SBID(")
+}
+
+// Whether a text may have so many bytes.
+fn is_text_length(len: usize) -> bool
+    ensures { IsTrue result ↔ ((1 ≤ len) × (len ≤ document_limits.text)) }
+{
+    (1..=TEXT_BYTES).contains(&len)
 }
 
 // The refusals before the options, in their order: length, bytes, `F-SBID(`.
 pub fn front_of(s: &[u8]) -> Result<(), TextRefusal>
     ensures { Fronts s.now result }
 {
-    let len = s.len();
-    if len == 0 {
-        return Err(TextRefusal {
-            refusal: Refusal::TextLength,
-            place: 0,
-        });
-    }
-    if TEXT_BYTES < len {
+    if !is_text_length(s.len()) {
         return Err(TextRefusal {
             refusal: Refusal::TextLength,
             place: 0,
         });
     }
     let run = printable_run(s);
-    if run < len {
+    if run < s.len() {
         return Err(TextRefusal {
             refusal: Refusal::TextByte,
             place: run,
@@ -79,13 +69,7 @@ pub fn dashes_at(s: &[u8], at: usize) -> bool
     requires { at < length s.now }
     ensures { result ≡ dashes (drop at s.now) }
 {
-    if s[at] == b'-' {
-        let next = at + 1;
-        if next < s.len() {
-            return s[next] == b'-';
-        }
-    }
-    false
+    s[at..].starts_with(b"--")
 }
 
 // A cursor that goes on is the place after the option; a broken limit is 7 at its place, a form that failed 6 where it did.

@@ -1,12 +1,15 @@
--- Each `return` is a law of the one or two bytes that were looked at.
-use Rattle.read_frame.proofs.Dashes.{dashes_both, dashes_one, dashes_none}
+-- The library compares the front of what stands from the place on with `--`.
+use mathlib.Core.Path.{ap, ◌∙◌}
+use Prim.Native.Nat.{◌-◌}
+use lib.ListN.{length, take, drop}
+use borrow.Author.Rules.{part_to_end}
+use Rattle.forms.specs.Bytes.{text}
+use Rattle.definitions.specs.Reading.{dashes}
+use Rattle.read_frame.proofs.Fronts.{same_front}
 use Rattle.read_frame.proofs.dashes_at.Goals as goal
 
-pub returns-then-next-s : goal.returns-then-next-s
-returns-then-next-s c = dashes_both _ _ c.requires c.if-s-at-eq45.true c.if-next-s.true
-
-pub returns-else-next-s : goal.returns-else-next-s
-returns-else-next-s c = dashes_one _ _ c.requires c.if-s-at-eq45.true c.if-next-s.false
-
-pub returns-else-s-at-eq45 : goal.returns-else-s-at-eq45
-returns-else-s-at-eq45 c = dashes_none _ _ c.requires c.if-s-at-eq45.false
+pub returns : goal.returns
+returns c =
+    let s = c.args.s.now in
+    let at = c.args.at in
+    c.starts_with.ensures.value ∙ same_front (text "--") (take 2 (take (length s - at) (drop at s))) ∙ ap dashes (part_to_end s at)
