@@ -1,2 +1,3 @@
--- An item by its kind.
+-- An item by its kind, and a test of every element.
 pub mod ByKind
+pub mod Every

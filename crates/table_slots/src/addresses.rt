@@ -13,28 +13,12 @@ pub fn addresses_fit(list: [Address; ADDRESSES], n: usize) -> bool
     requires { n ≤ max_addresses }
     ensures { result ≡ all? address_fits (take n list) }
 {
-    let mut i = 0;
-    while i < n {
-        let a = list[i];
-        if !address_fits(a) {
-            return false;
-        }
-        i += 1;
-    }
-    true
+    list[..n].iter().all(|a| address_fits(*a))
 }
 
 // A slot's addresses are not in use, from a place on.
 pub fn addresses_unused(list: [Address; ADDRESSES], from: usize) -> bool
     ensures { result ≡ all? address_unused (drop from list) }
 {
-    let mut i = from;
-    while i < ADDRESSES {
-        let a = list[i];
-        if !address_unused(a) {
-            return false;
-        }
-        i += 1;
-    }
-    true
+    list.iter().skip(from).all(|a| address_unused(*a))
 }

@@ -16,46 +16,34 @@ use definitions::table::{Item, Slot};
 fn address_count(it: Item) -> usize
     ensures { result ≡ address_count (kind_of it) }
 {
-    let Item::Address(a) = it else {
-        return 0;
-    };
-    a.count
+    match it {
+        Item::Address(a) => a.count,
+        _ => 0,
+    }
 }
 
 // A slot in use.
+#[tactic(auto, using(crate::proofs::ByKind::few_addresses_lem))]
 pub fn slot_fits(slot: Slot) -> bool
     ensures { result ≡ slot_fits slot }
 {
-    let it = slot.item;
-    if !item_fits(it) {
+    if !item_fits(slot.item) {
         return false;
     }
-    let list = slot.addresses;
-    let n = address_count(it);
-    if !addresses_fit(list, n) {
-        return false;
-    }
-    addresses_unused(list, n)
+    let n = address_count(slot.item);
+    addresses_fit(slot.addresses, n) && addresses_unused(slot.addresses, n)
 }
 
 // No item.
 fn is_unused(it: Item) -> bool
     ensures { result ≡ is_unused (kind_of it) }
 {
-    let Item::Unused = it else {
-        return false;
-    };
-    true
+    matches!(it, Item::Unused)
 }
 
 // A slot that is not in use.
 pub fn slot_unused(slot: Slot) -> bool
     ensures { result ≡ slot_unused slot }
 {
-    let it = slot.item;
-    if !is_unused(it) {
-        return false;
-    }
-    let list = slot.addresses;
-    addresses_unused(list, 0)
+    is_unused(slot.item) && addresses_unused(slot.addresses, 0)
 }

@@ -1,29 +1,14 @@
--- The loop keeps whether all from its place on are unused (`rest_on`); one that is not decides.
-use mathlib.Core.Path.{sym, ◌∙◌}
-use Prim.Native.Nat.{◌-◌, ◌≤◌, ◌<◌}
-use native.Mathlib.Omega.{arith}
-use lib.ListN.{length}
-use borrow.Author.Tests.{not-true, not-false}
+-- What the library says of a test of every element, over those after the first.
+use Rattle.std.proofs.Common.{◌∙◌, rules, tests}
+use Rattle.std.proofs.lemmas.Iterator.{YieldsList-from_slice}
+use Rattle.std.proofs.lemmas.Iterator.Adapters.{YieldsList-from_skip}
+use Rattle.std.proofs.lemmas.Iterator.Search.{all_from_yields_List}
 use Rattle.definitions.specs.WellFormed.{address_unused}
-use Rattle.list_laws.proofs.Every.{rest_on, rest_not, rest_out}
+use Rattle.table_slots.proofs.Every.{every_is}
 use Rattle.table_slots.proofs.addresses.addresses_unused.Goals as goal
-
-pub returns-then-not-address_unused : goal.returns-then-not-address_unused
-returns-then-not-address_unused c =
-    let args = c.args in
-    let loop = c.loop-i in
-    let inside : loop.i < length args.list = omega arith in
-    sym (rest_not address_unused _ args.list loop.i loop.invariant _ inside (sym c.address_unused.ensures ∙ not-true _ c.if-not-address_unused.true-raw))
-
-pub loop-i-preserved : goal.loop-i-preserved
-loop-i-preserved c =
-    let args = c.args in
-    let loop = c.loop-i in
-    let inside : loop.i < length args.list = omega arith in
-    rest_on address_unused _ args.list loop.i loop.invariant _ inside (sym c.address_unused.ensures ∙ not-false _ c.if-not-address_unused.false-raw)
 
 pub returns : goal.returns
 returns c =
-    let args = c.args in
-    let out : length args.list ≤ c.loop-i.i = omega arith in
-    sym (rest_out address_unused _ args.list c.loop-i.i c.loop-i.invariant out)
+    all_from_yields_List address_unused _ _ _ c.all.ensures.ran
+    (YieldsList-from_skip c.args.from (YieldsList-from_slice c.args.list (search rules)) (search rules)) (λ x b q k. search (rules, tests))
+    ∙ every_is address_unused _
