@@ -3,8 +3,7 @@ use Rattle.std.specs.Prelude.{Option, Some, None}
 use mathlib.Core.Path.{◌≡◌, refl, sym, ap, ◌∙◌}
 use mathlib.Core.Bool.{true, false, false≢true, not, ◌&&◌, and-false}
 use mathlib.Core.List.{List, [], ◌∷◌}
-use Prim.Native.Nat.{ℕ, ◌+◌, ◌-◌, ◌≤◌, ◌<◌}
-use lib.ListN.{length, take, drop}
+use Prim.Native.Nat.{ℕ}
 use Rattle.forms.specs.Bytes.{text, run}
 use Rattle.forms.proofs.Bools.{by_cases}
 use Rattle.definitions.specs.declared.table.Context.{Context}
@@ -14,7 +13,6 @@ use Rattle.definitions.specs.Fields.{present}
 use Rattle.definitions.specs.Lists.{same_bytes}
 use Rattle.definitions.specs.Parts.{find, contains, part_before, part_after, parts}
 use Rattle.line_parts.proofs.Delimiters.{after_empty}
-use Rattle.line_parts.proofs.PartsFrom.{parts_from, from_start, from_step, from_end}
 use Rattle.line_parts.proofs.Results.{failed_test, parsed_test, parsed_value}
 use Rattle.line_fields.specs.FieldMaps.{field_named, no_fields, with_field, is_span, line_span, is_field, insert_field, are_fields, map_from, is_map, map_of}
 use Rattle.line_fields.specs.FieldMaps.{parsed_span, parsed_field, parsed_fields, parsed_map}
@@ -77,27 +75,24 @@ module _ (m : FieldMap) (e : List ℕ) (es : List (List ℕ)) where
   fields_on n t =
       rw (parsed_test Some None apart (is_field m e) (insert_field m e) n t, parsed_value Some None apart same (is_field m e) (insert_field m e) n t)
 
--- what is still to come: the fields from a place on, after those that made the map m
-abbrev pub Inserting : List ℕ → FieldMap → ℕ → Type 0
-Inserting s m at = parsed_fields no_fields (parts 44 s) ≡ parsed_fields m (parts_from 44 s at)
+-- the fields es are still to come, after those that made the map m
+abbrev pub Inserting : List ℕ → FieldMap → List (List ℕ) → Type 0
+Inserting s m es = parsed_fields no_fields (parts 44 s) ≡ parsed_fields m es
 
-pub inserting_start : (s : List ℕ) (m : FieldMap) → m ≡ no_fields → Inserting s m 0
-inserting_start s m e = ap (parsed_fields no_fields) (from_start 44 s) ∙ ap (λ (x : FieldMap). parsed_fields x (parts_from 44 s 0)) (sym e)
+pub inserting_start : (s : List ℕ) (m : FieldMap) (es : List (List ℕ)) → m ≡ no_fields → es ≡ parts 44 s → Inserting s m es
+inserting_start s m es e f = rw (e, f)
 
-module _ (s : List ℕ) (m : FieldMap) (at : ℕ) (k : Inserting s m at) where
-  module _ (h : at ≤ length s) (e : List ℕ) (q : e ≡ part_before 44 (take (length s - at) (drop at s))) (a : Option FieldMap) (p : a ≡ parsed_field m e) where
-    next : parsed_fields no_fields (parts 44 s) ≡ parsed_fields m (e ∷ parts_from 44 s (at + (length e + 1)))
-    next = k ∙ ap (parsed_fields m) (from_step 44 s at h e q)
-
+module _ (s : List ℕ) (m : FieldMap) (es : List (List ℕ)) (k : Inserting s m es) where
+  module _ (e : List ℕ) (rest : List (List ℕ)) (q : es ≡ e ∷ rest) (a : Option FieldMap) (p : a ≡ parsed_field m e) where
     pub inserting_halt : a ≡ None → None ≡ parsed_fields no_fields (parts 44 s)
-    inserting_halt f = sym (next ∙ fields_halt m e (parts_from 44 s (at + (length e + 1))) (sym p ∙ f))
+    inserting_halt f = sym (k ∙ ap (parsed_fields m) q ∙ fields_halt m e rest (sym p ∙ f))
 
-    pub inserting_on : (n : FieldMap) → a ≡ Some n → Inserting s n (at + (length e + 1))
-    inserting_on n t = next ∙ fields_on m e (parts_from 44 s (at + (length e + 1))) n (sym p ∙ t)
+    pub inserting_on : (n : FieldMap) → a ≡ Some n → Inserting s n rest
+    inserting_on n t = k ∙ ap (parsed_fields m) q ∙ fields_on m e rest n (sym p ∙ t)
 
-  pub inserting_out : length s < at → Some m ≡ parsed_fields no_fields (parts 44 s)
+  pub inserting_out : es ≡ [] → Some m ≡ parsed_fields no_fields (parts 44 s)
   unfolding parsed_fields are_fields map_from
-  inserting_out h = sym (k ∙ ap (parsed_fields m) (from_end 44 s at h))
+  inserting_out q = sym (k ∙ ap (parsed_fields m) q)
 
 -- ---- the map
 

@@ -41,11 +41,8 @@ fn parse_fields(s: &[u8]) -> Option<FieldMap>
     ensures { result ≡ parsed_fields no_fields (parts 44 s.now) }
 {
     let mut m = no_fields();
-    let mut at = 0;
-    while at <= s.len() {
-        let e = part_before(&s[at..], b',');
+    for e in s.split(|b| *b == b',') {
         m = insert_field(m, e)?;
-        at += e.len() + 1;
     }
     Some(m)
 }

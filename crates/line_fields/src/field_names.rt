@@ -1,6 +1,5 @@
 // A field by its name, and the map with its span.
 ghost use Rattle.std.specs.Prelude.{◌≡◌};
-ghost use Rattle.definitions.specs.declared.table.Context.TheVariants as context;
 ghost use Rattle.line_fields.specs.FieldMaps.{no_fields, field_named, with_field};
 
 use definitions::packets::{FieldMap, Span};
@@ -46,54 +45,17 @@ pub fn no_fields() -> FieldMap
     }
 }
 
-// The map with another uri, and so for each field.
-fn with_uri(m: FieldMap, f: Option<Span>) -> FieldMap
-    ensures { result ≡ with_field m context.Uri f }
-{
-    FieldMap { uri: f, ..m }
-}
-
-fn with_header(m: FieldMap, f: Option<Span>) -> FieldMap
-    ensures { result ≡ with_field m context.Header f }
-{
-    FieldMap { header: f, ..m }
-}
-
-fn with_body(m: FieldMap, f: Option<Span>) -> FieldMap
-    ensures { result ≡ with_field m context.Body f }
-{
-    FieldMap { body: f, ..m }
-}
-
-fn with_banner(m: FieldMap, f: Option<Span>) -> FieldMap
-    ensures { result ≡ with_field m context.Banner f }
-{
-    FieldMap { banner: f, ..m }
-}
-
-fn with_host(m: FieldMap, f: Option<Span>) -> FieldMap
-    ensures { result ≡ with_field m context.Host f }
-{
-    FieldMap { host: f, ..m }
-}
-
-fn with_file(m: FieldMap, f: Option<Span>) -> FieldMap
-    ensures { result ≡ with_field m context.File f }
-{
-    FieldMap { file: f, ..m }
-}
-
 // The map with a field's span; the payload is in no map.
 pub fn with_field(m: FieldMap, c: Context, f: Option<Span>) -> FieldMap
     ensures { result ≡ with_field m c f }
 {
     match c {
         Context::Packet => m,
-        Context::Uri => with_uri(m, f),
-        Context::Header => with_header(m, f),
-        Context::Body => with_body(m, f),
-        Context::Banner => with_banner(m, f),
-        Context::Host => with_host(m, f),
-        Context::File => with_file(m, f),
+        Context::Uri => FieldMap { uri: f, ..m },
+        Context::Header => FieldMap { header: f, ..m },
+        Context::Body => FieldMap { body: f, ..m },
+        Context::Banner => FieldMap { banner: f, ..m },
+        Context::Host => FieldMap { host: f, ..m },
+        Context::File => FieldMap { file: f, ..m },
     }
 }

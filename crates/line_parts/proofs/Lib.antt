@@ -1,4 +1,5 @@
--- Laws of the parts of a line, over any delimiter; and of a parser's answer.
+-- Laws of the parts of a line, over any delimiter, of a loop over them, and of a parser's answer.
 pub mod Delimiters
 pub mod PartsFrom
 pub mod Results
+pub mod Splits

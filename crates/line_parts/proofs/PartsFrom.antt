@@ -24,7 +24,7 @@ ltb_suc a b =
 abbrev rest : ℕ → List ℕ → List (List ℕ)
 rest d l = if contains d l then parts d (part_after d l) else []
 
-parts_step : (d : ℕ) (l : List ℕ) → parts d l ≡ part_before d l ∷ rest d l
+pub parts_step : (d : ℕ) (l : List ℕ) → parts d l ≡ part_before d l ∷ rest d l
 unfolding parts contains part_before part_after find run
 parts_step d [] = refl
 parts_step d (b ∷ l) =
