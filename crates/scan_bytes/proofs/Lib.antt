@@ -1,4 +1,3 @@
--- Classes, runs and sums of digits.
-pub mod Tests
-pub mod Cases
+-- Runs and sums of digits.
+pub mod Prefixes
 pub mod Saturation

@@ -1,4 +1,6 @@
 // Bytes and the classes that forms name.
+#![tactic(auto, using(std::proofs::lemmas::Bool::Decides::nat_tests), unfolding(forms::specs::Form::has))]
+
 ghost use Rattle.std.specs.Prelude.{◌≡◌};
 ghost use Rattle.forms.specs.Form.{has};
 ghost use Rattle.forms.specs.Bytes.{between};
@@ -21,69 +23,33 @@ pub enum Class {
 pub fn is_between(low: u8, high: u8, b: u8) -> bool
     ensures { result ≡ between low high b }
 {
-    if low <= b { b <= high } else { false }
+    low <= b && b <= high
 }
 
 fn is_hex(b: u8) -> bool
     ensures { result ≡ has (class_of HexDigit) b }
 {
-    if is_between(b'0', b'9', b) {
-        return true;
-    }
-    if is_between(b'A', b'F', b) {
-        return true;
-    }
-    is_between(b'a', b'f', b)
+    matches!(b, b'0'..=b'9' | b'A'..=b'F' | b'a'..=b'f')
 }
 
 fn is_quotable(b: u8) -> bool
     ensures { result ≡ has (class_of Quotable) b }
 {
-    if is_between(b' ', b'!', b) {
-        return true;
-    }
-    if is_between(b'#', b':', b) {
-        return true;
-    }
-    is_between(b'<', b'~', b)
+    matches!(b, b' '..=b'!' | b'#'..=b':' | b'<'..=b'~')
 }
 
 // Whether the byte stands for itself in a pattern.
 pub fn is_plain(b: u8) -> bool
     ensures { result ≡ has plain_bytes b }
 {
-    if is_between(b' ', b'!', b) {
-        return true;
-    }
-    if is_between(b'#', b'9', b) {
-        return true;
-    }
-    if is_between(b'<', b'[', b) {
-        return true;
-    }
-    if is_between(b']', b'{', b) {
-        return true;
-    }
-    is_between(b'}', b'~', b)
+    matches!(b, b' '..=b'!' | b'#'..=b'9' | b'<'..=b'[' | b']'..=b'{' | b'}'..=b'~')
 }
 
 // A letter, a digit, `_` or `.`.
 fn is_name_byte(b: u8) -> bool
     ensures { result ≡ has (class_of NameByte) b }
 {
-    if is_between(b'A', b'Z', b) {
-        return true;
-    }
-    if is_between(b'a', b'z', b) {
-        return true;
-    }
-    if is_between(b'0', b'9', b) {
-        return true;
-    }
-    if is_between(b'_', b'_', b) {
-        return true;
-    }
-    is_between(b'.', b'.', b)
+    matches!(b, b'A'..=b'Z' | b'a'..=b'z' | b'0'..=b'9' | b'_' | b'.')
 }
 
 // Whether a byte is of a class.
@@ -91,7 +57,7 @@ pub fn in_class(k: Class, b: u8) -> bool
     ensures { result ≡ has (class_of k) b }
 {
     match k {
-        Class::Space => is_between(b' ', b' ', b),
+        Class::Space => b == b' ',
         Class::Digit => is_between(b'0', b'9', b),
         Class::HexDigit => is_hex(b),
         Class::Quotable => is_quotable(b),
@@ -104,11 +70,5 @@ pub fn in_class(k: Class, b: u8) -> bool
 pub fn in_case(y: u8, b: u8) -> bool
     ensures { result ≡ has (case_class y) b }
 {
-    if is_between(y, y, b) {
-        return true;
-    }
-    if is_between(b'a', b'z', y) {
-        return is_between(y - 32, y - 32, b);
-    }
-    false
+    b == y || matches!(y, b'a'..=b'z') && b == y - 32
 }

@@ -11,13 +11,5 @@ pub fn run_of(s: &[u8], at: usize, k: Class) -> usize
     requires { at ≤ length s.now }
     ensures { result ≡ at + run (has (class_of k)) (drop at s.now) }
 {
-    let mut i = at;
-    while i < s.len() {
-        let b = s[i];
-        if !in_class(k, b) {
-            return i;
-        }
-        i += 1;
-    }
-    i
+    at + s[at..].iter().take_while(move |b| in_class(k, **b)).count()
 }
