@@ -1,47 +1,29 @@
 -- Options that may stand one after the other are few: at most 16 tests and 8 patterns, and at most 8 addresses each. By induction on the options, each
 -- of which was not refused after those before it.
-use Rattle.std.specs.Prelude.{Result, Ok}
+use Rattle.std.specs.Prelude.{Ok}
 use mathlib.Core.Path.{◌≡◌, refl, ap, ◌∙◌}
-use mathlib.Core.Bool.{Bool, true, false, ◌||◌}
+use mathlib.Core.Bool.{Bool, true, ◌||◌}
 use mathlib.Core.List.{List, [], ◌∷◌, ◌++◌}
 use Prim.Native.Nat.{◌+◌, ◌≤◌}
 use native.Mathlib.Omega.{arith}
 use lib.ListN.{length, length-append}
 use lib.Dec.{ltb, leb}
 use borrow.Author.Tests.{le-leb, leb-false, ltb-false}
-use Rattle.forms.proofs.Bools.{by_cases}
-use Rattle.forms.proofs.Sound.{never}
-use Rattle.definitions.specs.declared.answers.Refusal.{Refusal}
 use Rattle.definitions.specs.declared.answers.Refusal.TheVariants as refusal
 use Rattle.definitions.specs.Limits.{max_patterns, max_tests, max_addresses}
 use Rattle.definitions.specs.Lists.{all?, keep, count}
 use Rattle.definitions.specs.OptionValues.{OptionValue, Name, Protocol, Flow, Test, Pattern, Modified}
 use Rattle.definitions.specs.Tables.{slots_in}
-use Rattle.definitions.specs.Refusals.{refuse_if}
 use Rattle.definitions.specs.Occurrences.{is_test, is_pattern, occurrence_check}
 use Rattle.definitions.specs.Grammar.{Occurrences, none}
+use Rattle.laws.proofs.Keep.{keep_append}
+use Rattle.laws.proofs.Checks.{refuse_fine, neither}
 use Rattle.roundtrip.proofs.AllTests.{all_none, all_more}
 
 -- ---- counts of lists put together
 
-module _ {A : Type 0} (f : A → Bool) where
-  keep_append : (xs ys : List A) → keep f (xs ++ ys) ≡ keep f xs ++ keep f ys
-  unfolding keep
-  keep_append [] ys = refl
-  keep_append (x ∷ xs) ys = by_cases (f x) (λ t. rw (t, keep_append xs ys)) (λ t. rw (t, keep_append xs ys))
-
-  pub count_append : (xs ys : List A) → count f (xs ++ ys) ≡ count f xs + count f ys
-  count_append xs ys = ap length (keep_append xs ys) ∙ length-append (keep f xs) (keep f ys)
-
--- ---- what is not due
-
-pub not_refused : (b : Bool) (r : Refusal) (d : Result Unit Refusal) → refuse_if b r d ≡ Ok tt → b ≡ false
-not_refused true r d e = never (cc)
-not_refused false r d e = refl
-
-pub neither : (a b : Bool) → (a || b) ≡ false → (a ≡ false) × (b ≡ false)
-neither true b e = never (cc)
-neither false b e = (refl, e)
+pub count_append : {A : Type 0} (f : A → Bool) (xs ys : List A) → count f (xs ++ ys) ≡ count f xs + count f ys
+count_append f xs ys = ap length (keep_append f xs ys) ∙ length-append (keep f xs) (keep f ys)
 
 abbrev pub few_addresses : OptionValue → Bool
 few_addresses (Name n) = true
@@ -79,7 +61,7 @@ few (Occurrences.more {before} {es} {e = Protocol p} d s) = one_more before es (
 few (Occurrences.more {before} {es} {e = Flow f} d s) = one_more before es (Flow f) (λ h. omega arith) (λ h. omega arith) refl (few s)
 few (Occurrences.more {before} {es} {e = Test it al} d s) =
     let n = neither (ltb max_addresses (length al)) (leb max_tests (count is_test before))
-    (not_refused (ltb max_addresses (length al) || leb max_tests (count is_test before)) refusal.CountExceeded (Ok tt) d) in
+    (refuse_fine (ltb max_addresses (length al) || leb max_tests (count is_test before)) refusal.CountExceeded (Ok tt) d).0 in
     one_more before es (Test it al) (λ h. omega (arith, leb-false max_tests (count is_test before) n.1)) (λ h. omega arith)
     (le-leb (length al) max_addresses (ltb-false max_addresses (length al) n.0)) (few s)
 few (Occurrences.more {before} {es} {e = Pattern n b} d s) =
@@ -87,7 +69,7 @@ few (Occurrences.more {before} {es} {e = Pattern n b} d s) =
     (λ h. omega (
       arith,
       leb-false max_patterns (count is_pattern before)
-          (not_refused (leb max_patterns (count is_pattern before)) refusal.CountExceeded (Ok tt) d),
+          (refuse_fine (leb max_patterns (count is_pattern before)) refusal.CountExceeded (Ok tt) d).0,
     )) refl (few s)
 few (Occurrences.more {before} {es} {e = Modified m} d s) = one_more before es (Modified m) (λ h. omega arith) (λ h. omega arith) refl (few s)
 

@@ -26,7 +26,8 @@ use Rattle.definitions.specs.Grammar.{OptionsBy, OptionsText, close, space, Occu
 use Rattle.definitions.specs.WellFormed.{is_zero, name_fits, slot_unused, items_fit, bytes_of, bytes_fit, well_formed}
 use Rattle.syntax.proofs.UsablePatterns.{test_only, patterns_counted}
 use Rattle.roundtrip.proofs.AllTests.{both, all_none, all_more, all_head, all_tail, all_replicate}
-use Rattle.roundtrip.proofs.Counts.{neither, few_tests, few_patterns, few_addresses_lem, slots_counted}
+use Rattle.laws.proofs.Checks.{neither}
+use Rattle.roundtrip.proofs.Counts.{few_tests, few_patterns, few_addresses_lem, slots_counted}
 use Rattle.roundtrip.proofs.Fits.{option_fits, pattern_length}
 use Rattle.roundtrip.proofs.Rows.{option_fits_lem}
 use Rattle.roundtrip.proofs.Slots.{slots_fit_lem, bytes_fit_lem, lengths_in}

@@ -46,7 +46,7 @@ passed_over s (b ∷ x) l at located =
     passed_over s x l (at + 1) located ∙ ap (λ n. options at_letter s l 0 n located) e
 
 -- an option's text is read, and the loop goes on after it
-pub option_taken : {x : List ℕ} {e : OptionValue} → OptionText x e → (s : List ℕ) (at : ℕ) (l : List ℕ) (located : List Located) → drop at s ≡ x ++ l
+option_taken : {x : List ℕ} {e : OptionValue} → OptionText x e → (s : List ℕ) (at : ℕ) (l : List ℕ) (located : List Located) → drop at s ≡ x ++ l
     → occurrence_check (option_values_of located) e ≡ Ok tt
     → options at_letter s (x ++ l) 0 at located ≡ options at_letter s l 0 (at + length x) (joined located at e)
 unfolding options same_bytes
