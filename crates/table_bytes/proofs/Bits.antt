@@ -1,16 +1,15 @@
 -- Bits gathered from bytes are none where each byte is zero.
 use mathlib.Core.Path.{◌≡◌, refl, sym, ◌∙◌}
 use mathlib.Core.Bool.{Bool, true, false, ◌&&◌, and-true, and_assoc}
-use mathlib.Core.List.{List}
-use Prim.Native.Nat.{ℕ, ◌+◌, ◌≤◌, ◌<◌}
+use mathlib.Core.List.{List, [], ◌∷◌}
+use Prim.Native.Nat.{ℕ}
 use native.Mathlib.Omega.{arith}
 use lib.Bits.{bit_or, or_add_and, and_le_l, and_le_r}
 use lib.Dec.{eqb}
-use lib.ListN.{length, get_or, drop, drop_of_length-le}
 use borrow.Author.Tests.{eqb-true, eqb-false, eq-eqb, ne_eqb}
 use Rattle.definitions.specs.Lists.{all?}
 use Rattle.definitions.specs.WellFormed.{is_zero}
-use Rattle.list_laws.proofs.Every.{drop_here}
+use Rattle.std.specs.List.{fold}
 
 pub no_bits : (a b : ℕ) → eqb (bit_or a b) 0 ≡ (eqb a 0 && eqb b 0)
 no_bits a b = go (eqb a 0) refl (eqb b 0) refl
@@ -20,12 +19,9 @@ no_bits a b = go (eqb a 0) refl (eqb b 0) refl
     go true e false f = ne_eqb (bit_or a b) 0 (λ z. eqb-false b 0 f (omega (arith, or_add_and a b, and_le_l a b, and_le_r a b, z)))
     go false e t f = ne_eqb (bit_or a b) 0 (λ z. eqb-false a 0 e (omega (arith, or_add_and a b, and_le_l a b, and_le_r a b, z)))
 
--- the loop's step and its end, where r is what it has to find out
-module _ (r : Bool) (s : List ℕ) (bits i : ℕ) (e : r ≡ (eqb bits 0 && all? is_zero (drop i s))) where
-  pub gather_on : i < length s → r ≡ (eqb (bit_or bits (get_or s i 0)) 0 && all? is_zero (drop (i + 1) s))
-  unfolding all?
-  gather_on h = e ∙ rw (drop_here s i 0 h, no_bits bits (get_or s i 0)) (sym (and_assoc (eqb bits 0) (is_zero (get_or s i 0)) (all? is_zero (drop (i + 1) s))))
-
-  pub gather_out : length s ≤ i → r ≡ eqb bits 0
-  unfolding all?
-  gather_out h = e ∙ rw (drop_of_length-le s {i = i} h) (and-true (eqb bits 0))
+-- all of them gathered
+pub gathered : (bits : ℕ) (s : List ℕ) → eqb (fold bit_or bits s) 0 ≡ (eqb bits 0 && all? is_zero s)
+unfolding all?
+gathered bits [] = sym (and-true (eqb bits 0))
+gathered bits (b ∷ s) =
+    gathered (bit_or bits b) s ∙ rw (no_bits bits b) (and_assoc (eqb bits 0) (is_zero b) (all? is_zero s))

@@ -1,2 +1,3 @@
--- What the loops over bytes keep.
+-- Bits gathered from bytes, and a test of every element.
 pub mod Bits
+pub mod Every

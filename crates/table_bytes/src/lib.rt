@@ -15,13 +15,7 @@ use scan_bytes::bytes::{Class, in_class};
 fn zero_from(s: &[u8], from: usize) -> bool
     ensures { result ≡ all? is_zero (drop from s.now) }
 {
-    let mut bits: u8 = 0;
-    let mut i = from;
-    while i < s.len() {
-        bits = bits | s[i];
-        i += 1;
-    }
-    bits == 0
+    s.iter().skip(from).fold(0, |bits, b| bits | *b) == 0
 }
 
 // The first bytes may all stand in a name.
@@ -29,39 +23,20 @@ fn quotable_to(s: &[u8], n: usize) -> bool
     requires { n ≤ length s.now }
     ensures { result ≡ all? (has quotable) (take n s.now) }
 {
-    let mut i = 0;
-    while i < n {
-        if !in_class(Class::Quotable, s[i]) {
-            return false;
-        }
-        i += 1;
-    }
-    true
+    s[..n].iter().all(|b| in_class(Class::Quotable, *b))
 }
 
 // 1 to 64 bytes that may stand in a name, and zeros after them.
+#[tactic(auto, unfolding(definitions::specs::WellFormed::name_fits))]
 pub fn name_fits(name: [u8; NAME_BYTES], len: usize) -> bool
     ensures { result ≡ name_fits name len }
 {
-    if len < 1 {
-        return false;
-    }
-    if NAME_BYTES < len {
-        return false;
-    }
-    let all = &name[..];
-    if !quotable_to(all, len) {
-        return false;
-    }
-    zero_from(all, len)
+    (1..=NAME_BYTES).contains(&len) && quotable_to(&name, len) && zero_from(&name, len)
 }
 
 // So many bytes are in use, and the room after them is zero.
 pub fn room_fits(s: &[u8], used: usize) -> bool
     ensures { result ≡ (leb used (length s.now) && (all? (λ (b : ℕ). leb b max_byte) (take used s.now) && all? is_zero (drop used s.now))) }
 {
-    if s.len() < used {
-        return false;
-    }
-    zero_from(s, used)
+    used <= s.len() && zero_from(s, used)
 }

@@ -1,29 +1,13 @@
--- The loop keeps whether all of the first may stand in a name (`first_on`); one that may not decides.
-use mathlib.Core.Path.{sym, ◌∙◌}
-use Prim.Native.Nat.{◌-◌}
-use native.Mathlib.Omega.{arith}
-use borrow.Author.Tests.{not-true, not-false}
+-- What the library says of a test of every element, over the first of them.
+use Rattle.std.proofs.Common.{◌∙◌, rules, tests}
+use Rattle.std.proofs.lemmas.Iterator.{YieldsList-from_slice}
+use Rattle.std.proofs.lemmas.Iterator.Search.{all_from_yields_List}
 use Rattle.forms.specs.Form.{has}
 use Rattle.definitions.specs.Forms.{quotable}
-use Rattle.list_laws.proofs.Every.{first_on, first_not, first_all}
+use Rattle.table_bytes.proofs.Every.{every_is}
 use Rattle.table_bytes.proofs.quotable_to.Goals as goal
 
-pub returns-then-not-in_class : goal.returns-then-not-in_class
-returns-then-not-in_class c =
-    let args = c.args in
-    let loop = c.loop-i in
-    sym (first_not (has quotable) _ args.s.now args.n loop.i loop.invariant.1 _ c.loop-i-test.true
-    c.requires (sym c.in_class.ensures ∙ not-true _ c.if-not-in_class.true-raw))
-
-pub loop-i-preserved : goal.loop-i-preserved
-loop-i-preserved c =
-    let args = c.args in
-    let loop = c.loop-i in (
-      omega arith,
-      first_on (has quotable) _ args.s.now args.n loop.i loop.invariant.1 _ c.loop-i-test.true
-          c.requires (sym c.in_class.ensures ∙ not-false _ c.if-not-in_class.false-raw),
-    )
-
 pub returns : goal.returns
-returns c = sym (first_all (has quotable) _ c.args.s.now c.args.n c.loop-i.i
-    c.loop-i.invariant.1 c.loop-i-test.false)
+returns c =
+    all_from_yields_List (has quotable) _ _ _ c.all.ensures.ran (YieldsList-from_slice _ c.iter.ensures.rest) (λ x b q k. search (rules, tests))
+    ∙ every_is (has quotable) _
