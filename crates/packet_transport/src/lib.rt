@@ -19,45 +19,36 @@ pub fn protocol_of(d: &[u8]) -> u8
 fn left_after(d: &[u8]) -> usize
     ensures { result ≡ length (after_header d.now) }
 {
-    let header = header_length(d);
-    if d.len() < header {
-        0
-    } else {
-        d.len() - header
-    }
+    d.len().saturating_sub(header_length(d))
 }
 
 // The TCP header's offset field, in words.
+#[tactic(auto, using(packet_header::proofs::Widths::be_drop))]
 fn tcp_words(d: &[u8]) -> u8
     ensures { (result ≡ tcp_words d.now) × (result ≤ 15) }
 {
-    let header = header_length(d);
-    be8(d, header + 12) / 16
+    be8(d, header_length(d) + 12) / 16
 }
 
 // The length of the transport header: TCP's own, 8 bytes for UDP and ICMP, none for other protocols.
 pub fn transport_length(d: &[u8]) -> usize
     ensures { (result ≡ transport_length d.now) × (result ≤ 60) }
 {
-    let protocol = protocol_of(d);
-    if protocol == TCP {
-        let words = tcp_words(d);
-        return (words as usize) * 4;
+    match protocol_of(d) {
+        TCP => usize::from(tcp_words(d)) * 4,
+        UDP | ICMP => 8,
+        _ => 0,
     }
-    if (protocol == UDP) | (protocol == ICMP) {
-        return 8;
-    }
-    0
 }
 
 // The port at a place after the IP header; 0 where the protocol has none.
+#[tactic(auto, using(packet_header::proofs::Widths::be_drop))]
 pub fn port_at(d: &[u8], at: usize) -> u16
     requires { at ≤ 2 }
     ensures { result ≡ port_at d.now at }
 {
     if has_ports(protocol_of(d)) {
-        let header = header_length(d);
-        be16(d, header + at)
+        be16(d, header_length(d) + at)
     } else {
         0
     }
@@ -68,18 +59,16 @@ fn tcp_short(d: &[u8]) -> bool
 {
     let left = left_after(d);
     let words = tcp_words(d);
-    let length = (words as usize) * 4;
-    (left < 20) | ((words < 5) | (left < length))
+    left < 20 || words < 5 || left < usize::from(words) * 4
 }
 
 // 34: the transport header does not fit into the datagram, or TCP's is too short.
 pub fn transport_short(d: &[u8]) -> bool
     ensures { result ≡ transport_short d.now }
 {
-    let protocol = protocol_of(d);
-    if protocol == TCP {
-        return tcp_short(d);
+    match protocol_of(d) {
+        TCP => tcp_short(d),
+        UDP | ICMP => left_after(d) < 8,
+        _ => false,
     }
-    let left = left_after(d);
-    ((protocol == UDP) | (protocol == ICMP)) & (left < 8)
 }
