@@ -24,6 +24,7 @@ pub fn start_number(s: Start) -> u64
 }
 
 // Whether one start comes before another.
+#[tactic(auto, unfolding(definitions::specs::Starts::start_before))]
 pub fn start_before(a: Start, b: Start) -> bool
     ensures { result ≡ start_before a b }
 {
@@ -31,10 +32,11 @@ pub fn start_before(a: Start, b: Start) -> bool
 }
 
 // Whether two starts are the same.
+#[tactic(auto, unfolding(definitions::specs::Starts::same_start))]
 pub fn same_start(a: Start, b: Start) -> bool
     ensures { result ≡ same_start a b }
 {
-    a.at == b.at
+    a == b
 }
 
 // The text of a start: its number in decimal.
