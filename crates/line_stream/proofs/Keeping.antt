@@ -1,14 +1,14 @@
 -- A part more of a line: kept as far as the buffer has room; what is kept stays the first bytes of the line.
 use Rattle.std.specs.Prelude.{if◌then◌else◌}
 use mathlib.Core.Path.{◌≡◌, refl, sym, ap, ◌∙◌}
-use mathlib.Core.List.{List, [], ◌∷◌, ◌++◌}
+use mathlib.Core.List.{List, [], ◌∷◌, ◌++◌, append_assoc}
 use Prim.Native.Nat.{ℕ, zero, suc, ◌+◌, ◌-◌, ◌≤◌, ◌<◌}
 use native.Mathlib.Omega.{arith}
 use native.Mathlib.Nat.{le_refl}
-use native.Mathlib.Numerals.{add-one}
 use lib.Dec.{ltb, leb}
-use lib.ListN.{length, get_or, take, set, length-append, length-set}
-use lib.Seq.{take-nil, take_all, take-append-le, take-suc, take-suc-set, length-take-le, set_out, sets, length-sets}
+use lib.ListN.{length, take, drop, set, length-append, length-set}
+use lib.Seq.{take-nil, take_all, take-append-le, take-suc-set, length-take-le, set_out, sets, sets-eq, length-sets, drop-drop}
+use borrow.Rule.Slice.PartMut.{put_mid}
 use borrow.Author.Tests.{le-ltb, ltb-true, ltb-false, leb-true, leb-false}
 use Rattle.forms.proofs.Bools.{by_cases}
 use Rattle.write_bytes.specs.Clipped.{at_most}
@@ -57,58 +57,9 @@ sets_fitting line n k [] h = ap (sets line n) (take-nil k)
 sets_fitting line n zero (b ∷ part) h = sym (sets_past line n (b ∷ part) (omega (arith, h)))
 sets_fitting line n (suc k) (b ∷ part) h = sets_fitting (set line n b) (suc n) k part (omega (arith, h, length-set line n b))
 
-sets_one : (line : List ℕ) (n : ℕ) (part : List ℕ) (b : ℕ) → sets line n (part ++ (b ∷ [])) ≡ set (sets line n part) (n + length part) b
-sets_one line n [] b = let e : n + 0 ≡ n = omega arith in ap (λ (k : ℕ). set line k b) (sym e)
-sets_one line n (x ∷ part) b =
-    let e : suc n + length part ≡ n + suc (length part) = omega arith in
-    sets_one (set line n x) (suc n) part b ∙ ap (λ (k : ℕ). set (sets (set line n x) (suc n) part) k b) e
-
--- ---- the loop over a part
-
--- so many of the bytes that have room stand in the buffer
-pub record Copied (line₀ part line : List ℕ) (len first n i : ℕ) : Type 0 where
-  pub from : first ≡ at_most len (length line₀)
-  pub all : n ≡ at_most (length line₀ - first) (length part)
-  pub some : i ≤ n
-  pub is : line ≡ sets line₀ first (take i part)
-
-pub copied_none : {line part : List ℕ} {len first n : ℕ} → first ≡ at_most len (length line) → n ≡ at_most (length line - first) (length part)
-    → Copied line part line len first n 0
-copied_none e is = record { from = e; all = is; some = omega arith; is = refl }
-
 at_most_n : (n most : ℕ) → at_most n most ≤ n
 unfolding at_most
 at_most_n n most = by_cases (leb n most) (λ t. rw t (le_refl n)) (λ f. rw f (omega (arith, leb-false n most f)))
-
-module _ {line₀ part line : List ℕ} {len first n i : ℕ} (s : Copied line₀ part line len first n i) where
-  most : n ≤ length part
-  most = omega (arith, s.all, at_most_le (length line₀ - first) (length part))
-
-  pub copied_room : first + n ≤ length line₀
-  copied_room =
-      omega (arith, s.from, at_most_le len (length line₀), s.all, at_most_n (length line₀ - first) (length part))
-
-  same : length line ≡ length line₀
-  same = ap length s.is ∙ length-sets line₀ first (take i part)
-
-  pub copied_within : i < n → (i < length part) × (first + i < length line)
-  copied_within h = (omega (arith, h, most), omega (arith, h, copied_room, same))
-
-  pub copied_one : i < n → Copied line₀ part (set line (first + i) (get_or part i 0)) len first n (i + 1)
-  copied_one h =
-      let few : i < length part = (copied_within h).0 in
-      let long : length (take i part) ≡ i = length-take-le i part (omega (arith, few)) in
-      record {
-        from = s.from;
-        all = s.all;
-        some = omega (arith, h);
-        is =
-            ap (λ (l : List ℕ). set l (first + i) (get_or part i 0)) s.is
-            ∙ ap (λ (k : ℕ). set (sets line₀ first (take i part)) (first + k) (get_or part i 0)) (sym long)
-            ∙ sym (sets_one line₀ first (take i part) (get_or part i 0))
-            ∙ ap (sets line₀ first) (sym (take-suc part i 0 few))
-            ∙ ap (λ (k : ℕ). sets line₀ first (take k part)) (sym (add-one i));
-      }
 
 -- the buffer, from a place that is past its end or not
 clipped_start : (line : List ℕ) (len : ℕ) (part : List ℕ) → sets line (at_most len (length line)) part ≡ sets line len part
@@ -139,19 +90,36 @@ clipped_sum len n room =
     let none : room - room ≡ 0 = omega arith in
     rw (most_full len room (omega (arith, leb-false len room w)), none, most_of 0 n (omega arith)) (omega arith))))
 
-pub copied_all : {line₀ part line : List ℕ} {len first n i : ℕ} → Copied line₀ part line len first n i → n ≤ i → Keeps line₀ line len part (first + n)
-copied_all {line₀ = line₀} {part = part} {len = len} {first = first} {n = n} {i = i} s h =
-    let e : i ≡ n = omega (arith, h, s.some) in
-    record {
-      kept =
-          s.is
-          ∙ ap (λ (k : ℕ). sets line₀ first (take k part)) e
-          ∙ ap (sets line₀ first) (sym (taken_most (length line₀ - first) part refl s.all))
-          ∙ sets_fitting line₀ first (length line₀ - first) part (omega arith)
-          ∙ ap (λ (k : ℕ). sets line₀ k part) s.from
-          ∙ clipped_start line₀ len part;
-      long = rw (s.all, s.from) (clipped_sum len (length part) (length line₀));
-    }
+-- bytes that have room take the place of those there
+sets_part : (line : List ℕ) (at : ℕ) {k : ℕ} (l : List ℕ) {m : List ℕ} → at + length l ≤ length line → k ≡ length l → m ≡ l
+    → put_mid at k line m ≡ sets line at l
+sets_part line at {k = k} l h e d =
+    let rest = ap (λ (j : ℕ). drop j (drop at line)) e ∙ drop-drop (length l) at line in
+    ap (λ (x : List ℕ). take at line ++ (x ++ drop k (drop at line))) d
+    ∙ ap (λ (x : List ℕ). take at line ++ (l ++ x)) rest
+    ∙ sym (append_assoc (take at line) l (drop (at + length l) line))
+    ∙ sym (sets-eq l line at h)
+
+module _ (line part : List ℕ) (len : ℕ) {first n : ℕ} (from : first ≡ at_most len (length line)) (all : n ≡ at_most (length line - first) (length part)) where
+  pub part_within : n ≤ length part
+  part_within = omega (arith, all, at_most_le (length line - first) (length part))
+
+  pub part_room : first + n ≤ length line
+  part_room = omega (arith, from, at_most_le len (length line), all, at_most_n (length line - first) (length part))
+
+  -- so many of the bytes that have room stand in the buffer
+  pub part_kept : {k : ℕ} {m : List ℕ} → k ≡ n → m ≡ take n part → Keeps line (put_mid first k line m) len part (first + n)
+  part_kept e d =
+      let long : length (take n part) ≡ n = length-take-le n part part_within in
+      record {
+        kept =
+            sets_part line first (take n part) (omega (arith, long, part_room)) (e ∙ sym long) d
+            ∙ ap (sets line first) (sym (taken_most (length line - first) part refl all))
+            ∙ sets_fitting line first (length line - first) part (omega (arith, part_room))
+            ∙ ap (λ (k : ℕ). sets line k part) from
+            ∙ clipped_start line len part;
+        long = rw (all, from) (clipped_sum len (length part) (length line));
+      }
 
 pub keeps_length : {line line' part : List ℕ} {len r : ℕ} → Keeps line line' len part r → length line' ≡ length line
 keeps_length {line = line} {part = part} {len = len} k = ap length k.kept ∙ length-sets line len part

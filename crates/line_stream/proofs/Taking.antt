@@ -1,19 +1,16 @@
 -- What the steps are made of: a line is taken, the next one is, and the last one waits.
-use mathlib.Core.Path.{◌≡◌, refl, sym, ap, subst, ◌∙◌}
+use mathlib.Core.Path.{◌≡◌, refl, sym, subst, ◌∙◌}
 use mathlib.Core.Bool.{Bool, true, false, true≢false}
 use mathlib.Core.List.{List, ◌++◌}
 use Prim.Native.Nat.{ℕ, ◌+◌, ◌-◌, ◌≤◌, ◌<◌}
 use native.Mathlib.Omega.{arith}
 use lib.Dec.{ltb}
 use lib.ListN.{length, take, drop}
-use lib.Seq.{length-take-le}
 use borrow.Author.Tests.{lt-ltb, le-ltb}
 use Rattle.forms.specs.Bytes.{text}
 use Rattle.definitions.specs.Canonical.{decimal}
 use Rattle.write_bytes.specs.Puts.{Puts}
-use Rattle.write_bytes.specs.Clipped.{at_most}
 use Rattle.write_bytes.proofs.Putting.{none_put}
-use Rattle.write_bytes.proofs.Clipping.{at_most_le, taken_most}
 use Rattle.line_stream.specs.declared.Begun.{Begun}
 use Rattle.line_stream.specs.declared.Fed.{Fed}
 use Rattle.line_stream.specs.declared.Feeding.{Feeding}
@@ -73,16 +70,13 @@ module _ (line : List ℕ) (b : Begun) where
   abbrev last : ℕ → Bool → Feeding
   last at w = record { fed = record { taken = 0; put = 0; begun = b }; at = at; waits = w }
 
-  lasts_if : {out out' : List ℕ} {len at : ℕ} (w : Bool) → len ≡ at_most b.len (length line) → w ≡ ltb 0 len → Puts out 0 (line_opening w b.number) out' at
+  lasts_if : {out out' : List ℕ} {at : ℕ} (w : Bool) → w ≡ ltb 0 (length (take b.len line)) → Puts out 0 (line_opening w b.number) out' at
       → Lasts line out out' b (last at w)
-  lasts_if {len = len} {at = at} w e t p =
-      let few : len ≤ length line = omega (arith, e, at_most_le b.len (length line)) in
-      let long : length (take b.len line) ≡ len = ap length (taken_most b.len line refl e) ∙ length-take-le len line few in
-      record { next = at; opened = rw (long, sym t) p; is = rw (long, sym t) }
+  lasts_if {at = at} w t p = record { next = at; opened = rw (sym t) p; is = rw (sym t) }
 
-  pub lasts_none : {out : List ℕ} {len : ℕ} → len ≡ at_most b.len (length line) → len ≡ 0 → Lasts line out out b (last 0 false)
-  lasts_none {len = len} e z = lasts_if false e (sym (le-ltb 0 len (omega (arith, z)))) none_put
+  pub lasts_none : {out : List ℕ} → length (take b.len line) ≡ 0 → Lasts line out out b (last 0 false)
+  lasts_none z = lasts_if false (sym (le-ltb 0 (length (take b.len line)) (omega (arith, z)))) none_put
 
-  pub lasts_line : {out out' : List ℕ} {len at : ℕ} → len ≡ at_most b.len (length line) → (len ≡ 0 → ⊥)
-      → Puts out 0 (decimal b.number ++ text "\t") out' at → Lasts line out out' b (last at true)
-  lasts_line {len = len} e z p = lasts_if true e (sym (lt-ltb 0 len (omega (arith, z)))) p
+  pub lasts_line : {out out' : List ℕ} {at : ℕ} → (length (take b.len line) ≡ 0 → ⊥) → Puts out 0 (decimal b.number ++ text "\t") out' at
+      → Lasts line out out' b (last at true)
+  lasts_line z p = lasts_if true (sym (lt-ltb 0 (length (take b.len line)) (omega (arith, z)))) p

@@ -36,9 +36,6 @@ pub struct Feeding {
     pub waits: bool,
 }
 
-// The largest number of a line.
-const MAX_NUMBER: u64 = 18446744073709551615;
-
 // Line number, tab: what stands before an answer.
 fn open_line(out: &mut [u8], at: usize, number: u64) -> usize
     ensures { Puts out.old at (decimal number ++ text "\t") out.new result }
@@ -58,14 +55,14 @@ pub fn end_line(out: &mut [u8], at: usize) -> usize
 fn has_room(place: usize, len: usize) -> bool
     ensures { result ≡ has_room place len }
 {
-    if place < COUNTED { place <= len } else { false }
+    place < COUNTED && place <= len
 }
 
 // The number of the next line; the largest stays.
 pub fn next_number(n: u64) -> u64
     ensures { result ≡ next_number n }
 {
-    if n < MAX_NUMBER { n + 1 } else { n }
+    n.saturating_add(1)
 }
 
 // The place of the first LF from a place on, or the end.
@@ -81,11 +78,7 @@ fn keep_part(line: &mut [u8], len: usize, part: &[u8]) -> usize
 {
     let first = at_most(len, line.len());
     let n = at_most(line.len() - first, part.len());
-    let mut i = 0;
-    while i < n {
-        line[first + i] = part[i];
-        i += 1;
-    }
+    line[first..first + n].copy_from_slice(&part[..n]);
     first + n
 }
 
@@ -94,7 +87,7 @@ pub fn kept<'a>(line: &'a [u8], begun: Begun) -> &'a [u8]
     ensures { result.now ≡ take begun.len line.now }
 {
     let len = at_most(begun.len, line.len());
-    &line[0..len]
+    &line[..len]
 }
 
 // Takes the bytes from a place on up to the next LF, or to the end. At an LF the line waits for its answer.
@@ -111,15 +104,13 @@ fn take_line(
 {
     let end = lf_from(input, from);
     let len = keep_part(line, begun.len, &input[from..end]);
-    let number = begun.number;
-    let begun = Begun { number, len };
     let fed = Fed {
         taken: end,
         put: place,
-        begun,
+        begun: Begun { len, ..begun },
     };
     if end < input.len() {
-        let at = open_line(out, place, number);
+        let at = open_line(out, place, begun.number);
         return Feeding {
             fed,
             at,
@@ -147,8 +138,10 @@ pub fn next_line(input: &[u8], line: &mut [u8], out: &mut [u8], fed: Fed, at: us
 {
     let place = end_line(out, at);
     if has_room(place, out.len()) {
-        let number = next_number(fed.begun.number);
-        let begun = Begun { number, len: 0 };
+        let begun = Begun {
+            number: next_number(fed.begun.number),
+            len: 0,
+        };
         return take_line(input, fed.taken + 1, line, out, place, begun);
     }
     Feeding {
@@ -162,21 +155,19 @@ pub fn next_line(input: &[u8], line: &mut [u8], out: &mut [u8], fed: Fed, at: us
 pub fn last_line(line: &[u8], out: &mut [u8], begun: Begun) -> Feeding
     ensures { Lasts line.now out.old out.new begun result }
 {
-    let len = at_most(begun.len, line.len());
-    let number = begun.number;
     let fed = Fed {
         taken: 0,
         put: 0,
         begun,
     };
-    if len == 0 {
+    if kept(line, begun).is_empty() {
         return Feeding {
             fed,
             at: 0,
             waits: false,
         };
     }
-    let at = open_line(out, 0, number);
+    let at = open_line(out, 0, begun.number);
     Feeding {
         fed,
         at,
