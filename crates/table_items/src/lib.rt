@@ -34,25 +34,18 @@ pub fn none_passed(used: usize) -> Passed
 fn may_follow(w: Passed, p: Pattern) -> bool
     ensures { result ≡ may_follow w p }
 {
-    if w.left < p.len {
-        return false;
-    }
-    let last = w.last;
-    is_usable(last, p)
+    p.len <= w.left && is_usable(w.last, p)
 }
 
 // A slot that holds what it may; a pattern in it may follow those passed.
 pub fn may_pass(w: Passed, slot: Slot) -> bool
     ensures { result ≡ may_pass w slot }
 {
-    if !slot_fits(slot) {
-        return false;
-    }
-    let it = slot.item;
-    let Item::Pattern(p) = it else {
-        return true;
-    };
-    may_follow(w, p)
+    slot_fits(slot)
+        && match slot.item {
+            Item::Pattern(p) => may_follow(w, p),
+            _ => true,
+        }
 }
 
 // One slot more.
@@ -60,16 +53,13 @@ pub fn past_item(w: Passed, slot: Slot) -> Passed
     requires { Passable w slot }
     ensures { result ≡ past_item w slot }
 {
-    let it = slot.item;
-    let Item::Pattern(p) = it else {
+    let Item::Pattern(p) = slot.item else {
         return w;
     };
-    let last = w.last;
-    let next = last_after(last, p);
     Passed {
         patterns: w.patterns + 1,
         left: w.left - p.len,
-        last: next,
+        last: last_after(w.last, p),
     }
 }
 
@@ -78,12 +68,5 @@ pub fn ends_well(w: Passed, count: usize) -> bool
     requires { w.patterns ≤ count }
     ensures { result ≡ ends_well w count }
 {
-    let patterns = w.patterns;
-    if PATTERNS < patterns {
-        return false;
-    }
-    if TESTS < count - patterns {
-        return false;
-    }
-    w.left == 0
+    w.patterns <= PATTERNS && count - w.patterns <= TESTS && w.left == 0
 }
