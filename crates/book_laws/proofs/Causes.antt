@@ -107,14 +107,16 @@ module _ (lim : Limits) (book : List ℕ) where
 -- ---- lines
 
 -- a refusal of some lines, of which n stand before
-lines_within : (lim : Limits) (n last : ℕ) (ls : List (List ℕ)) (r : Refusal) (line : ℕ) → n ≤ max_rules → judge_lines lim n last ls ≡ Err (record { refusal = r; line = line })
+lines_within : (lim : Limits) (n last : ℕ) (ls : List (List ℕ)) (r : Refusal) (line : ℕ) → n ≤ max_rules
+    → judge_lines lim n last ls ≡ Err (record { refusal = r; line = line })
     → (n < line) × (line ≤ n + length ls) × (line ≤ suc max_rules)
 unfolding judge_lines
 lines_within lim n last [] r line few e = absurd (accepted_not n r line e)
 lines_within lim n last (l ∷ ls) r line few e =
     go (line_check lim (suc n) last l) refl e (λ m k. lines_within lim (suc n) (rule_number l) ls r line m k)
   where
-    go : (d : Result Unit Refusal) → line_check lim (suc n) last l ≡ d → unless_line d (suc n) (judge_lines lim (suc n) (rule_number l) ls) ≡ Err (record { refusal = r; line = line })
+    go : (d : Result Unit Refusal) → line_check lim (suc n) last l ≡ d
+        → unless_line d (suc n) (judge_lines lim (suc n) (rule_number l) ls) ≡ Err (record { refusal = r; line = line })
         → (suc n ≤ max_rules → judge_lines lim (suc n) (rule_number l) ls ≡ Err (record { refusal = r; line = line })
         → (suc n < line) × (line ≤ suc n + length ls) × (line ≤ suc max_rules))
         → (n < line) × (line ≤ n + length (l ∷ ls)) × (line ≤ suc max_rules)
@@ -130,7 +132,8 @@ pub refused_line_lem : (lim : Limits) (book : List ℕ) (r : Refusal) (line : �
 unfolding judge
 refused_line_lem lim book r line e = go (ltb max_book (length book)) e
   where
-    go : (b : Bool) → (if b then Err (record { refusal = refusal.BookLength; line = 0 }) else judge_lines lim 0 0 (book_lines book)) ≡ Err (record { refusal = r; line = line })
+    go : (b : Bool)
+        → (if b then Err (record { refusal = refusal.BookLength; line = 0 }) else judge_lines lim 0 0 (book_lines book)) ≡ Err (record { refusal = r; line = line })
         → ((r ≡ refusal.BookLength) × (line ≡ 0)) ⊎ ((0 < line) × (line ≤ length (book_lines book)) × (line ≤ suc max_rules))
     go true k =
         let z : ◌≡◌ {A = BookRefusal} (record { refusal = refusal.BookLength; line = 0 }) (record { refusal = r; line = line }) = cc in

@@ -52,12 +52,14 @@ module _ (lim : Limits) (p decoded : List ℕ) (dir : Direction) (m : FieldMap) 
 
   -- ---- of a list of rules whose numbers rise
 
-  pub none_decides : (rs : List Rule) → ((r : Rule) → Mem r rs → decides lim p decoded dir m r ≡ false) → decided lim p decoded dir m rs ≡ Ok (record { action = Hold; rule = 0 })
+  pub none_decides : (rs : List Rule) → ((r : Rule) → Mem r rs → decides lim p decoded dir m r ≡ false)
+      → decided lim p decoded dir m rs ≡ Ok (record { action = Hold; rule = 0 })
   unfolding decided
   none_decides [] f = refl
   none_decides (r ∷ rs) f = rw (f r (here refl)) (none_decides rs (λ s n. f s (there n)))
 
-  lowest_decides : (last : ℕ) (rs : List Rule) → Rises last rs → (r : Rule) → Lowest rs r → decided lim p decoded dir m rs ≡ Ok (record { action = r.action; rule = r.number })
+  lowest_decides : (last : ℕ) (rs : List Rule) → Rises last rs → (r : Rule) → Lowest rs r
+      → decided lim p decoded dir m rs ≡ Ok (record { action = r.action; rule = r.number })
   unfolding decided Rises
   lowest_decides last [] h r w = absurd (not-nil w.listed)
   lowest_decides last (x ∷ rs) h r w =
@@ -113,7 +115,8 @@ module _ (lim : Limits) (p decoded : List ℕ) (dir : Direction) (m : FieldMap) 
 
   -- ---- of a book
 
-  pub refused_alone : (book : List ℕ) (r : Refusal) (line : ℕ) → judge lim book ≡ Err (record { refusal = r; line = line }) → decision lim p decoded dir m book ≡ Err (record { refusal = r; line = line })
+  pub refused_alone : (book : List ℕ) (r : Refusal) (line : ℕ) → judge lim book ≡ Err (record { refusal = r; line = line })
+      → decision lim p decoded dir m book ≡ Err (record { refusal = r; line = line })
   unfolding decision
   refused_alone book r line e = rw e
 
@@ -123,7 +126,7 @@ module _ (lim : Limits) (p decoded : List ℕ) (dir : Direction) (m : FieldMap) 
     by_rules = rw accepted
 
     pub decides_exactly : (a : Action) (k : ℕ)
-        → (decision lim p decoded dir m book ≡ Ok (record { action = a; rule = (suc k) }))
+        → (decision lim p decoded dir m book ≡ Ok (record { action = a; rule = suc k }))
         ↔ ((r : Rule) × Lowest (rules_of book) r × (r.action ≡ a) × (r.number ≡ suc k))
     decides_exactly a k = (
       (λ e. ⊎_elim

@@ -10,7 +10,8 @@ use Rattle.definitions.specs.Books.{judge}
 use Rattle.compare_laws.specs.Comparisons.{read_rules, rules_output, refused_output, compare_output}
 
 module _ (lim : Limits) (first second : List ℕ) where
-  pub first_refused : (r : Refusal) (line : ℕ) → judge lim first ≡ Err (record { refusal = r; line = line }) → compare_output lim first second ≡ refused_output (text "first\t") r line
+  pub first_refused : (r : Refusal) (line : ℕ) → judge lim first ≡ Err (record { refusal = r; line = line })
+      → compare_output lim first second ≡ refused_output (text "first\t") r line
   unfolding compare_output
   first_refused r line e = rw e
 

@@ -106,7 +106,8 @@ pub compare_most : (lim : Limits) (first second : List ℕ) → length (compare_
 unfolding compare_output
 compare_most lim first second = go (judge lim first) (judge lim second) refl refl
   where
-    go : (j k : Result ℕ BookRefusal) → judge lim first ≡ j → judge lim second ≡ k → length (output_if j k (read_rules lim first) (read_rules lim second)) ≤ 2048
+    go : (j k : Result ℕ BookRefusal) → judge lim first ≡ j → judge lim second ≡ k
+        → length (output_if j k (read_rules lim first) (read_rules lim second)) ≤ 2048
     go (Err e') k e f = refused_short lim first (text "first\t") e'.refusal e'.line (omega arith) e
     go (Ok n) (Err e') e f = refused_short lim second (text "second\t") e'.refusal e'.line (omega arith) f
     go (Ok n) (Ok m) e f =

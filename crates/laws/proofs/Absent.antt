@@ -267,7 +267,8 @@ module _ (t : Table) (sl : Slot) (c : Context) (inUse : Mem sl (slots_of t)) (lo
 abbrev Among : List Constraint → Context → Type 0
 Among us x = (p : Pattern) × (b : List ℕ) × Mem (matched p b) us × (x ≡ p.context)
 
-last_among : (us : List Constraint) (l : Option Match) → (at_context true (last_after_all us l) ≡ at_context true l) ⊎ Among us (at_context true (last_after_all us l))
+last_among : (us : List Constraint) (l : Option Match)
+    → (at_context true (last_after_all us l) ≡ at_context true l) ⊎ Among us (at_context true (last_after_all us l))
 unfolding last_after_all
 last_among [] l = inl refl
 last_among (matched p b ∷ us) l =

@@ -55,7 +55,8 @@ among_more (x ∷ k) l n h e = go (eqb n x) refl (among l x) refl (λ u w. among
 abbrev pub CheckAmong : List ℕ → Result Unit Refusal → Type 0
 CheckAmong l d = among l (check_number d) ≡ true
 
-pub refuse_among : (l : List ℕ) (b : Bool) (r : Refusal) (d : Result Unit Refusal) → among l (number_of r) ≡ true → CheckAmong l d → CheckAmong l (refuse_if b r d)
+pub refuse_among : (l : List ℕ) (b : Bool) (r : Refusal) (d : Result Unit Refusal) → among l (number_of r) ≡ true → CheckAmong l d
+    → CheckAmong l (refuse_if b r d)
 refuse_among l b r d e f = refuse_by (CheckAmong l) b r d e f
 
 pub else_among : (l : List ℕ) (c d : Result Unit Refusal) → CheckAmong l c → CheckAmong l d → CheckAmong l (and_then c d)

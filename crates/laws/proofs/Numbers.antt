@@ -98,7 +98,8 @@ pub read_told : (s : List ℕ) {r : Reading} → r ≡ read document_limits s
     → (r ≡ read document_limits s) × (read_numbers r.outcome ≡ read_in_numbers document_limits s)
 read_told s e = (e, ap (λ (x : Reading). read_numbers x.outcome) e)
 
-pub write_told : (t : Table) (out : List ℕ) {r : Result ℕ Refusal} → r ≡ writes document_limits t out → write_numbers r ≡ write_in_numbers document_limits t (length out)
+pub write_told : (t : Table) (out : List ℕ) {r : Result ℕ Refusal} → r ≡ writes document_limits t out
+    → write_numbers r ≡ write_in_numbers document_limits t (length out)
 write_told t out e = ap write_numbers e ∙ write_numbers_lem document_limits t out
 
 pub packet_told : (p decoded : List ℕ) {r : Result PacketHeader Refusal} → r ≡ packet_answer p decoded

@@ -81,7 +81,8 @@ options_if : (n : ℕ) (b : Bool) (x y : Options) → OptionsFit n x → Options
 options_if n true x y hx hy = hx
 options_if n false x y hx hy = hy
 
-unless_fit : (n : ℕ) (d : Result Unit Refusal) (at : ℕ) (k : Options) → CheckAmong read_causes d → at ≤ n → OptionsFit n k → OptionsFit n (unless_refused d at k)
+unless_fit : (n : ℕ) (d : Result Unit Refusal) (at : ℕ) (k : Options) → CheckAmong read_causes d → at ≤ n → OptionsFit n k
+    → OptionsFit n (unless_refused d at k)
 unless_fit n (Ok tt) at k e l h = h
 unless_fit n (Err r) at k e l h = (e, l)
 

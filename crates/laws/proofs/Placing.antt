@@ -140,7 +140,8 @@ module _ (s : List ℕ) (P Q : Placing) where
 
   -- 6 by one placing is 6 by the other, and there is an option whose form fails
   abbrev pub FormCause : ℕ → Result Unit TextRefusal → Type 0
-  FormCause p o = (dash : ℕ) × (q : ℕ) × OptionAnswers s dash (listed (Failed q)) × (p ≡ P.form dash q) × (o ≡ Err (record { refusal = refusal.Form; place = (Q.form dash q) }))
+  FormCause p o = (dash : ℕ) × (q : ℕ) × OptionAnswers s dash (listed (Failed q)) × (p ≡ P.form dash q)
+      × (o ≡ Err (record { refusal = refusal.Form; place = Q.form dash q }))
 
   form_of : {o o' : Result Unit TextRefusal} → Outcomes o o' → (p : ℕ) → o ≡ Err (record { refusal = refusal.Form; place = p }) → FormCause p o'
   form_of accepts p e = never (cc)
@@ -151,14 +152,15 @@ module _ (s : List ℕ) (P Q : Placing) where
       let y : placed_anew refusal.Form ≡ false = subst (λ x. placed_anew x ≡ false) z w in
       never (cc)
 
-  pub form_cause : (lim : Limits) (p : ℕ) → (read_placing P lim s).outcome ≡ Err (record { refusal = refusal.Form; place = p }) → FormCause p (read_placing Q lim s).outcome
+  pub form_cause : (lim : Limits) (p : ℕ) → (read_placing P lim s).outcome ≡ Err (record { refusal = refusal.Form; place = p })
+      → FormCause p (read_placing Q lim s).outcome
   form_cause lim p e = form_of (readings lim).1 p e
 
   -- 7 by one placing is 7 by the other, and there is an option of which a limit is broken
   abbrev pub LimitCause : ℕ → Result Unit TextRefusal → Type 0
   LimitCause p o =
       (dash : ℕ) × (q : ℕ) × (next : ℕ) × OptionAnswers s dash (listed (OutOfRange q next)) × (p ≡ P.limit dash q)
-      × (o ≡ Err (record { refusal = refusal.Limit; place = (Q.limit dash q) }))
+      × (o ≡ Err (record { refusal = refusal.Limit; place = Q.limit dash q }))
 
   limit_of : {o o' : Result Unit TextRefusal} → Outcomes o o' → (p : ℕ) → o ≡ Err (record { refusal = refusal.Limit; place = p }) → LimitCause p o'
   limit_of accepts p e = never (cc)
@@ -169,5 +171,6 @@ module _ (s : List ℕ) (P Q : Placing) where
       let y : placed_anew refusal.Limit ≡ false = subst (λ x. placed_anew x ≡ false) z w in
       never (cc)
 
-  pub limit_cause : (lim : Limits) (p : ℕ) → (read_placing P lim s).outcome ≡ Err (record { refusal = refusal.Limit; place = p }) → LimitCause p (read_placing Q lim s).outcome
+  pub limit_cause : (lim : Limits) (p : ℕ) → (read_placing P lim s).outcome ≡ Err (record { refusal = refusal.Limit; place = p })
+      → LimitCause p (read_placing Q lim s).outcome
   limit_cause lim p e = limit_of (readings lim).1 p e

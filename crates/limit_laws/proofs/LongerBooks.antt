@@ -49,7 +49,8 @@ unfolding line_check
 line_checked lim n last l = refl
 
 -- a line that passes is refused by its text alone
-passes_by : (n last : ℕ) (l : List ℕ) (c : Result Unit Refusal) → line_by n last l c ≡ Ok tt → (c ≡ Ok tt) × ((d : Result Unit Refusal) → line_by n last l d ≡ d)
+passes_by : (n last : ℕ) (l : List ℕ) (c : Result Unit Refusal) → line_by n last l c ≡ Ok tt
+    → (c ≡ Ok tt) × ((d : Result Unit Refusal) → line_by n last l d ≡ d)
 passes_by n last l c e =
     let x = refuse_fine (ltb max_rules n) refusal.RuleCount _ e in
     let y = refuse_fine (not (is_rule l)) refusal.RuleForm _ x.1 in
@@ -85,7 +86,8 @@ module _ (a b : Limits) (h : Raised a b) where
 
   line_same : (n last : ℕ) (l : List ℕ) → length (rule_source l) ≤ a.text → line_check b n last l ≡ line_check a n last l
   line_same n last l short =
-      line_checked b n last l ∙ ap (λ (o : Result Unit TextRefusal). line_by n last l (text_check o)) (outcome_same (rule_source l) short) ∙ sym (line_checked a n last l)
+      line_checked b n last l ∙ ap (λ (o : Result Unit TextRefusal). line_by n last l (text_check o)) (outcome_same (rule_source l) short)
+      ∙ sym (line_checked a n last l)
 
   line_read : (n last : ℕ) (l : List ℕ) → line_check a n last l ≡ Ok tt → IsRead (rule_of l)
   unfolding rule_of
@@ -99,7 +101,7 @@ module _ (a b : Limits) (h : Raised a b) where
   lines_accepted n last [] k e = e
   lines_accepted n last (l ∷ ls) k e =
       let w = passed_line (line_check a (suc n) last l) (suc n) k _ e in
-      let c : line_check b (suc n) last l ≡ (Ok tt) = line_same (suc n) last l (line_read (suc n) last l w.0).short ∙ w.0 in
+      let c : line_check b (suc n) last l ≡ Ok tt = line_same (suc n) last l (line_read (suc n) last l w.0).short ∙ w.0 in
       rw c (lines_accepted (suc n) (rule_number l) ls k w.1)
 
   lines_read : (n last : ℕ) (ls : List (List ℕ)) (k : ℕ) → judge_lines a n last ls ≡ Ok k → (r : Rule) → Mem r (map rule_of ls) → IsRead r
@@ -120,7 +122,7 @@ module _ (a b : Limits) (h : Raised a b) where
       by_cases (ltb a.text (length (rule_source l)))
       (λ t. let c : line_check a (suc n) last l ≡ Err refusal.TextLength = line_checked a (suc n) last l ∙ p.1 _ ∙ longer_refused (rule_source l) t in
       rw (t, c))
-      (λ f. let c : line_check a (suc n) last l ≡ (Ok tt) =
+      (λ f. let c : line_check a (suc n) last l ≡ Ok tt =
       sym (line_same (suc n) last l (ltb-false a.text (length (rule_source l)) f)) ∙ w.0 in
       rw (f, c) (lines_formerly (suc n) (rule_number l) ls k w.1))
 

@@ -14,7 +14,8 @@ use Rattle.replay_laws.specs.Traces.{is_trace_line, trace_record}
 use Rattle.replay_laws.specs.Replays.{bad, outcome_by, outcome, trace_output, refused_output, output_if, replay_output}
 
 module _ (lim : Limits) (book : List ℕ) where
-  pub refused_alone : (r : Refusal) (line : ℕ) → judge lim book ≡ Err (record { refusal = r; line = line }) → (input : List ℕ) → replay_output lim book input ≡ refused_output r line
+  pub refused_alone : (r : Refusal) (line : ℕ) → judge lim book ≡ Err (record { refusal = r; line = line }) → (input : List ℕ)
+      → replay_output lim book input ≡ refused_output r line
   unfolding replay_output
   refused_alone r line e input = ap (λ (j : Result ℕ BookRefusal). output_if j lim (rules_of book) input) e
 

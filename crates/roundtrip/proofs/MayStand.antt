@@ -95,7 +95,7 @@ module _ (tests patterns : ℕ) (rest : List OptionValue) where
       let e = i.pattern_count_lem in
       let l = latest_modifier before [] m in
       let j = passed (modifier_number m) before i in
-      let f : occurrence_check before (Modified m) ≡ (Ok tt) =
+      let f : occurrence_check before (Modified m) ≡ Ok tt =
       rw (ne_eqb (count is_pattern before) 0 (λ z. omega (arith, z, e, i.some)), none_again m (latest [] before) i.low) in
       Occurrences.more f
       (k (before ++ (Modified m ∷ []))
@@ -154,7 +154,7 @@ module _ (rest : List OptionValue) (k : (before : List OptionValue) → PatternB
   unfolding occurrence_check keep
   test_stands it al r =
       let a = leb-true (length al) max_addresses (all_head few_addresses (Test it al) rest r.addresses) in
-      let f : occurrence_check before (Test it al) ≡ (Ok tt) =
+      let f : occurrence_check before (Test it al) ≡ Ok tt =
       rw (le-ltb max_addresses (length al) a, lt-leb max_tests (count is_test before) (omega (arith, r.tests))) in
       Occurrences.more f
       (k (before ++ (Test it al ∷ []))
@@ -174,7 +174,7 @@ module _ (rest : List OptionValue) (k : (before : List OptionValue) → PatternB
       let cp = count_append is_pattern before (e ∷ []) in
       let dt = count_append is_test ms rest in
       let dp = count_append is_pattern ms rest in
-      let f : occurrence_check before e ≡ (Ok tt) = rw (lt-leb max_patterns (count is_pattern before) (omega (arith, r.patterns))) in
+      let f : occurrence_check before e ≡ Ok tt = rw (lt-leb max_patterns (count is_pattern before) (omega (arith, r.patterns))) in
       let i : After (count is_test before) (count is_pattern before + 1) 0 (before ++ (e ∷ [])) = record {
         test_count = omega (arith, ct);
         pattern_count_lem = omega (arith, cp);
