@@ -1,5 +1,5 @@
 -- The items that the search has gone over: tests and negated patterns that hold leave the answer to the items after them.
-use Rattle.std.specs.Prelude.{Option}
+use Rattle.std.specs.Prelude.{Option, None}
 use mathlib.Core.Path.{◌≡◌, refl, sym, ap, ◌∙◌}
 use mathlib.Core.Bool.{Bool, true, false}
 use mathlib.Core.List.{List, [], ◌∷◌}
@@ -18,8 +18,6 @@ use Rattle.definitions.specs.Tests.{test_holds}
 use Rattle.definitions.specs.Placements.{Constraint, matched, unmatched, tested, constraints, unmatched_holds, placements}
 use Rattle.fields.specs.Seen.{seen}
 use Rattle.match_items.specs.Bounds.{Bounded}
-use Rattle.search_state.specs.declared.outcomes.Outcome.{Outcome}
-use Rattle.search_state.specs.Outcomes.{nothing}
 use Rattle.search_state.specs.Choosing.{answer}
 use Rattle.search_state.specs.declared.input.SearchInput.{SearchInput}
 use Rattle.definitions.specs.declared.packets.Match.{Match}
@@ -43,7 +41,7 @@ module _ (b : List ℕ) (from n : ℕ) where
   rest_is = take_all (length b - (from + n)) (drop (from + n) b) (omega (arith, length-drop (from + n) b)) ∙ sym (drop-drop n from b)
 
 -- what the search answers for some items wanted
-abbrev pub found : SearchInput → List ℕ → List ℕ → Option Match → Placement → Bool → List Constraint → Outcome
+abbrev pub found : SearchInput → List ℕ → List ℕ → Option Match → Placement → Bool → List Constraint → Option Placement
 found q s d l chosen on-bound ws = answer chosen on-bound (drop chosen.count q.bound) (placements (seen q.header s d q.map) ws l)
 
 -- what is known at each turn: the items from the k-th up to the i-th are gone over, and of the pattern bytes b those up to `from`; the items from the i-th on
@@ -75,7 +73,7 @@ module _ {q : SearchInput} {k : ℕ} {b s d : List ℕ} {l : Option Match} {chos
   left = drop from b
 
   -- after the last item
-  pub gone_out : q.count ≤ i → (r : Outcome) → r ≡ answer chosen on-bound passed ([] ∷ []) → r ≡ found q s d l chosen on-bound (constraints (items_left q k) b)
+  pub gone_out : q.count ≤ i → (r : Option Placement) → r ≡ answer chosen on-bound passed ([] ∷ []) → r ≡ found q s d l chosen on-bound (constraints (items_left q k) b)
   gone_out h r e =
       let none = ap (λ (sls : List Slot). found q s d l chosen on-bound (constraints sls left)) (stepping.left_out q i h) in
       e ∙ sym (g.same ∙ none ∙ stepping.after_last view l chosen on-bound passed left)
@@ -107,9 +105,9 @@ module _ {q : SearchInput} {k : ℕ} {b s d : List ℕ} {l : Option Match} {chos
             same = test-first ∙ stepping.test_yes view l chosen on-bound passed (constraints sls left) sl.item sl.addresses (sym e ∙ n);
           }
 
-      pub stop-test : t ≡ false → (r : Outcome) → r ≡ nothing → r ≡ found q s d l chosen on-bound (constraints (items_left q k) b)
-      stop-test n r h =
-          h ∙ sym (test-first ∙ stepping.test_no view l chosen on-bound passed (constraints sls left) sl.item sl.addresses (sym e ∙ n))
+      pub stop-test : t ≡ false → None ≡ found q s d l chosen on-bound (constraints (items_left q k) b)
+      stop-test n =
+          sym (test-first ∙ stepping.test_no view l chosen on-bound passed (constraints sls left) sl.item sl.addresses (sym e ∙ n))
 
     module _ {p : Pattern} (e : sl.item ≡ item.Pattern p) where
       pub pattern-inside : from + p.len ≤ length b
@@ -122,7 +120,7 @@ module _ {q : SearchInput} {k : ℕ} {b s d : List ℕ} {l : Option Match} {chos
         pub pattern-trying : Trying sls (rest_of b (from + p.len)) p (own_of b from p.len) s d l chosen
         pattern-trying = rw (own_is b from p.len, rest_is b from p.len) (stepping.ready_placed all sl sls here left s d l chosen g.ready p e n)
 
-        pub placed_first : (r : Outcome) → r ≡ found q s d l chosen on-bound (matched p (own_of b from p.len) ∷ constraints sls (rest_of b (from + p.len)))
+        pub placed_first : (r : Option Placement) → r ≡ found q s d l chosen on-bound (matched p (own_of b from p.len) ∷ constraints sls (rest_of b (from + p.len)))
             → r ≡ found q s d l chosen on-bound (constraints (items_left q k) b)
         placed_first r h =
             (rw (own_is b from p.len, rest_is b from p.len) at h)
@@ -153,5 +151,5 @@ module _ {q : SearchInput} {k : ℕ} {b s d : List ℕ} {l : Option Match} {chos
                   ∙ stepping.nowhere_yes view l chosen on-bound passed (constraints sls rest) p own (sym holds ∙ y));
             }
 
-        pub stop-nowhere : t ≡ false → (r : Outcome) → r ≡ nothing → r ≡ found q s d l chosen on-bound (constraints (items_left q k) b)
-        stop-nowhere y r z = z ∙ sym (nowhere-first ∙ stepping.nowhere_no view l chosen on-bound passed (constraints sls rest) p own (sym holds ∙ y))
+        pub stop-nowhere : t ≡ false → None ≡ found q s d l chosen on-bound (constraints (items_left q k) b)
+        stop-nowhere y = sym (nowhere-first ∙ stepping.nowhere_no view l chosen on-bound passed (constraints sls rest) p own (sym holds ∙ y))

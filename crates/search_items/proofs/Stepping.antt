@@ -1,5 +1,5 @@
 -- One item more: what is wanted of the items left, what the search rests on after it, and what it answers.
-use Rattle.std.specs.Prelude.{Option}
+use Rattle.std.specs.Prelude.{Option, None}
 use mathlib.Core.Path.{◌≡◌, refl, ap, ◌∙◌}
 use mathlib.Core.Bool.{Bool, true, false}
 use mathlib.Core.List.{List, [], ◌∷◌}
@@ -26,7 +26,6 @@ use Rattle.definitions.proofs.OtherItems.{other_kind}
 use Rattle.list_laws.proofs.Firsts.{first_here, first_out}
 use Rattle.match_windows.specs.Spans.{size_bound}
 use Rattle.match_items.specs.Bounds.{Bounded}
-use Rattle.search_state.specs.Outcomes.{nothing}
 use Rattle.search_state.specs.Choosing.{push, answer}
 use Rattle.search_state.proofs.Answering.{answer_nothing}
 use Rattle.search_state.specs.declared.input.SearchInput.{SearchInput}
@@ -164,7 +163,7 @@ module _ (v : View) (l : Option Match) (chosen : Placement) (on-bound : Bool) (q
     unfolding placements
     test_yes h = rw h
 
-    pub test_no : test_holds v it al l ≡ false → answer chosen on-bound q (placements v (tested it al ∷ ws) l) ≡ nothing
+    pub test_no : test_holds v it al l ≡ false → answer chosen on-bound q (placements v (tested it al ∷ ws) l) ≡ None
     unfolding placements
     test_no h = rw h (answer_nothing chosen on-bound q)
 
@@ -174,7 +173,7 @@ module _ (v : View) (l : Option Match) (chosen : Placement) (on-bound : Bool) (q
     unfolding placements
     nowhere_yes h = rw h
 
-    pub nowhere_no : unmatched_holds v p b l ≡ false → answer chosen on-bound q (placements v (unmatched p b ∷ ws) l) ≡ nothing
+    pub nowhere_no : unmatched_holds v p b l ≡ false → answer chosen on-bound q (placements v (unmatched p b ∷ ws) l) ≡ None
     unfolding placements
     nowhere_no h = rw h (answer_nothing chosen on-bound q)
 

@@ -1,5 +1,6 @@
 -- The trial of a pattern's starts: from its window's first start worth a try on, each with the items left.
-use Rattle.std.specs.Prelude.{Option}
+use Rattle.std.specs.Prelude.{Option, None, Some}
+use Rattle.std.specs.Option.{is_some}
 use mathlib.Core.Path.{◌≡◌, sym, ap, ◌∙◌}
 use mathlib.Core.Bool.{Bool, true, false, ◌&&◌}
 use mathlib.Core.List.{List, [], ◌∷◌, map}
@@ -26,8 +27,6 @@ use Rattle.match_patterns.proofs.Listing.{places_window}
 use Rattle.match_patterns.proofs.FirstStart.{first_reached, first_passes}
 use Rattle.fields.specs.Seen.{seen}
 use Rattle.match_items.proofs.Placing.{starts_present}
-use Rattle.search_state.specs.declared.outcomes.Outcome.{Outcome}
-use Rattle.search_state.specs.Outcomes.{nothing}
 use Rattle.search_state.specs.Choosing.{push, answer, found_or, start_from}
 use Rattle.search_state.specs.declared.input.SearchInput.{SearchInput}
 use Rattle.definitions.specs.declared.packets.Match.{Match}
@@ -45,10 +44,10 @@ module _ (header : PacketHeader) (s d : List ℕ) (m : FieldMap) (p : Pattern) (
   unfolding starts lies_in
   starts_absent e = keep_none (lies_in (seen header s d m) p own l) (starts_to (length (field_of s d m p.context))) (λ x. rw e)
 
-  pub try_absent : (q : List Start) (t : Bool) → t ≡ present m p.context → t ≡ false → (r : Outcome) → r ≡ nothing
-      → r ≡ answer chosen on-bound q (placements (seen header s d m) (matched p own ∷ ws) l)
+  pub try_absent : (q : List Start) (t : Bool) → t ≡ present m p.context → t ≡ false
+      → None ≡ answer chosen on-bound q (placements (seen header s d m) (matched p own ∷ ws) l)
   unfolding placements spread
-  try_absent q t e n r h = rw (starts_absent (sym e ∙ n)) (h ∙ sym (answer_nothing chosen on-bound q))
+  try_absent q t e n = rw (starts_absent (sym e ∙ n)) (sym (answer_nothing chosen on-bound q))
 
   module _ (f : List ℕ) (w : Window) (sp : Spans p l (length f) w) (q : f ≡ field_of s d m p.context) (t : Bool) (g : t ≡ present m p.context)
       (n : t ≡ true) where
@@ -71,11 +70,11 @@ from_ahead on-bound b x at e t = let z : at ≡ max b.at x = e ∙ ap (λ (y : B
 -- ---- one turn, and the end
 
 module _ (chosen : Placement) (on-bound : Bool) (ss : List Start) (f : Start → List (List Start)) (h : ℕ → Bool) (at to : ℕ) where
-  try_done : (q : List Start) → to ≤ at → (r z : Outcome) → r ≡ nothing → z ≡ answer chosen on-bound q (spread f (starts_from h at to)) → r ≡ z
+  try_done : (q : List Start) → to ≤ at → (z : Option Placement) → z ≡ answer chosen on-bound q (spread f (starts_from h at to)) → None ≡ z
   unfolding spread
-  try_done q l r z e i =
-      let none : answer chosen on-bound q (spread f (starts_from h at to)) ≡ nothing = rw (starts_out h at to l) (answer_nothing chosen on-bound q) in
-      e ∙ sym (i ∙ none)
+  try_done q l z i =
+      let none : answer chosen on-bound q (spread f (starts_from h at to)) ≡ None = rw (starts_out h at to l) (answer_nothing chosen on-bound q) in
+      sym (i ∙ none)
 
   try_no : (q : List Start) → h at ≡ false
       → answer chosen on-bound q (spread f (starts_from h at to)) ≡ answer chosen on-bound q (spread f (starts_from h (at + 1) to))
@@ -93,7 +92,7 @@ module _ (chosen : Placement) (on-bound : Bool) (ss : List Start) (f : Start →
 
 -- a start that lies was tried with the items left, whose placements after a last positive pattern are those of g
 tried : (chosen : Placement) (on-bound : Bool) (ss : List Start) (g : Option Match → List (List Start)) (la : Start → Option Match) (h : ℕ → Bool) (at to : ℕ)
-    (s : Start) (next : Option Match) (ws : Placement) (st : Bool) (x : Outcome)
+    (s : Start) (next : Option Match) (ws : Placement) (st : Bool) (x : Option Placement)
     → at < to → h at ≡ true → chosen.count < length ss → (on-bound ≡ true → (get_or ss chosen.count (start_at 0)).at ≤ at) → s ≡ start_at at
     → next ≡ la s → ws ≡ push chosen s → st ≡ (on-bound && same_start (get_or ss chosen.count (start_at 0)) s) → x ≡ answer ws st (drop ws.count ss) (g next)
     → answer chosen on-bound (drop chosen.count ss) (spread (λ (y : Start). g (la y)) (starts_from h at to))
@@ -103,19 +102,21 @@ tried chosen on-bound ss g la h at to s next ws st x l e k a is en ew es ex =
     let y : x ≡ answer (push chosen (start_at at)) (on-bound && same_start b (start_at at)) (drop (chosen.count + 1) ss) (g (la (start_at at))) =
     ex ∙ rw (ew, es, en, is) in
     try_yes chosen on-bound ss (λ (z : Start). g (la z)) h at to l e k a
-    ∙ ap (λ (z : Outcome). found_or z (answer chosen on-bound (drop chosen.count ss) (spread (λ (u : Start). g (la u)) (starts_from h (at + 1) to)))) (sym y)
+    ∙ ap (λ (z : Option Placement). found_or z (answer chosen on-bound (drop chosen.count ss) (spread (λ (u : Start). g (la u)) (starts_from h (at + 1) to)))) (sym y)
 
 -- a first answer that is there, and one that is not
-or_found : (x y z : Outcome) → z ≡ found_or x y → x.found ≡ true → x ≡ z
-or_found x y z e t = sym (e ∙ rw t)
+or_found : (x y z : Option Placement) → z ≡ found_or x y → is_some x ≡ true → x ≡ z
+or_found (Some h) y z e t = sym e
+or_found None y z e t = cc
 
-or_missing : (x y z : Outcome) → z ≡ found_or x y → x.found ≡ false → z ≡ y
-or_missing x y z e t = e ∙ rw t
+or_missing : (x y z : Option Placement) → z ≡ found_or x y → is_some x ≡ false → z ≡ y
+or_missing (Some h) y z e t = cc
+or_missing None y z e t = e
 
 -- ---- the starts that are tried
 
 -- what the search answers over the starts from `at` on that pass a test, each with the items left, which want ws
-abbrev over : SearchInput → List ℕ → List ℕ → Option Match → Placement → Bool → List Constraint → Pattern → (ℕ → Bool) → ℕ → ℕ → Outcome
+abbrev over : SearchInput → List ℕ → List ℕ → Option Match → Placement → Bool → List Constraint → Pattern → (ℕ → Bool) → ℕ → ℕ → Option Placement
 over q s d l chosen on-bound ws p h to at =
     answer chosen on-bound (drop chosen.count q.bound)
     (spread (λ (x : Start). placements (seen q.header s d q.map) ws (last_after l p x)) (starts_from h at to))
@@ -174,8 +175,8 @@ module _ {q : SearchInput} {k : ℕ} {rest s d : List ℕ} {l : Option Match} {c
   pub end_small : at < to → at + p.len < size_bound
   end_small h = omega (arith, o.inside at h, o.small)
 
-  pub tried_out : to ≤ at → (r : Outcome) → r ≡ nothing → r ≡ found q s d l chosen on-bound (matched p own ∷ ws)
-  tried_out h r e = try_done chosen on-bound q.bound (λ (x : Start). left_after (last_after l p x)) stands at to passed_by h r _ e o.same
+  pub tried_out : to ≤ at → None ≡ found q s d l chosen on-bound (matched p own ∷ ws)
+  tried_out h = try_done chosen on-bound q.bound (λ (x : Start). left_after (last_after l p x)) stands at to passed_by h _ o.same
 
   -- the starts after this one decide
   one_further : found q s d l chosen on-bound (matched p own ∷ ws) ≡ over q s d l chosen on-bound ws p stands to (at + 1)
@@ -204,17 +205,17 @@ module _ {q : SearchInput} {k : ℕ} {rest s d : List ℕ} {l : Option Match} {c
       chosen-ready = ready_next (items_left q (k + 1)) rest p own s d l chosen o.trying x next ac chosen_small en ea
 
       -- with the answer r of the items left after it
-      module _ (lies : stands at ≡ true) {st : Bool} {r : Outcome} (es : st ≡ (on-bound && same_start (get_or q.bound chosen.count (start_at 0)) x))
+      module _ (lies : stands at ≡ true) {st : Bool} {r : Option Placement} (es : st ≡ (on-bound && same_start (get_or q.bound chosen.count (start_at 0)) x))
           (er : r ≡ found q s d next ac st ws) where
         this-or : found q s d l chosen on-bound (matched p own ∷ ws) ≡ found_or r (over q s d l chosen on-bound ws p stands to (at + 1))
         this-or =
             o.same
             ∙ tried chosen on-bound q.bound left_after (last_after l p) stands at to x next ac st r more lies o.room o.ahead is en ea es er
 
-        pub tried-found : r.found ≡ true → r ≡ found q s d l chosen on-bound (matched p own ∷ ws)
+        pub tried-found : is_some r ≡ true → r ≡ found q s d l chosen on-bound (matched p own ∷ ws)
         tried-found e = or_found r _ _ this-or e
 
-        pub tried-vain : r.found ≡ false → Tried q k rest s d l chosen on-bound p own f to (at + 1)
+        pub tried-vain : is_some r ≡ false → Tried q k rest s d l chosen on-bound p own f to (at + 1)
         tried-vain e = one_further (or_missing r _ _ this-or e)
 
 -- what is known at each turn: besides, where a start is left to try, the bytes stand at `at`

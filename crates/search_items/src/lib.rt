@@ -19,7 +19,6 @@ use match_starts::start_at;
 use match_windows::starts::window;
 use search_state::chosen::{finish, last_after, start_from, still_on_bound, with_start};
 use search_state::input::SearchInput;
-use search_state::outcomes::{Outcome, no_match};
 
 // The first placement of the items from k on, after the starts chosen; where `on_bound`, the first after those to pass. `bytes` are the pattern
 // bytes from item k's on, `last` is the last positive pattern before it.
@@ -33,29 +32,29 @@ pub fn from_item<'a>(
     last: Option<Match>,
     chosen: Placement,
     on_bound: bool,
-) -> Outcome
+) -> Option<Placement>
     requires { (input.count ≤ max_items) × ReadyItems (items_left input k) bytes.now payload.now decoded.now last chosen }
     ensures { result ≡ answer chosen on_bound (drop chosen.count input.bound) (placements (seen input.header payload.now decoded.now input.map) (constraints (items_left input k) bytes.now) last) }
 {
-    let count = input.count;
-    let header = input.header;
-    let map = input.map;
-    let mut i = k;
     // The pattern bytes from item i's on begin here.
     let mut from = 0;
-    while i < count {
+    for i in k..input.count {
         let slot = input.items[i];
-        let item = slot.item;
-        let Item::Pattern(p) = item else {
-            let addresses = slot.addresses;
-            if !test_holds(header, payload, decoded, map, item, addresses, last) {
-                return no_match();
+        let Item::Pattern(p) = slot.item else {
+            if !test_holds(
+                input.header,
+                payload,
+                decoded,
+                input.map,
+                slot.item,
+                slot.addresses,
+                last,
+            ) {
+                return None;
             }
-            i += 1;
             continue;
         };
-        let n = p.len;
-        let to = from + n;
+        let to = from + p.len;
         let own = &bytes[from..to];
         if !p.negated {
             let rest = &bytes[to..];
@@ -64,11 +63,10 @@ pub fn from_item<'a>(
             );
         }
         // A negated pattern moves no reference.
-        if !negated_holds(payload, decoded, map, p, own, last) {
-            return no_match();
+        if !negated_holds(payload, decoded, input.map, p, own, last) {
+            return None;
         }
         from = to;
-        i += 1;
     }
     finish(chosen, on_bound)
 }
@@ -86,35 +84,29 @@ fn try_starts<'a>(
     last: Option<Match>,
     chosen: Placement,
     on_bound: bool,
-) -> Outcome
+) -> Option<Placement>
     requires { (k < input.count) × (input.count ≤ max_items) × Trying (items_left input (k + 1)) rest.now p own.now payload.now decoded.now last chosen }
     ensures { result ≡ answer chosen on_bound (drop chosen.count input.bound) (placements (seen input.header payload.now decoded.now input.map) (matched p own.now ∷ constraints (items_left input (k + 1)) rest.now) last) }
 {
-    let map = input.map;
-    let c = p.context;
-    if !is_present(map, c) {
-        return no_match();
+    if !is_present(input.map, p.context) {
+        return None;
     }
-    let f = field_of(payload, decoded, map, c);
+    let f = field_of(payload, decoded, input.map, p.context);
     let w = window(p, last, f.len());
-    let j = chosen.count;
-    let bound = input.bound;
-    let b = bound[j];
-    let nocase = p.nocase;
-    let to = w.to;
+    let b = input.bound[chosen.count];
     let first = start_from(on_bound, b, w.from);
-    let mut at = next_start(nocase, own, f, first, to);
-    while at < to {
+    // No range: next_start passes many places at once.
+    let mut at = next_start(p.nocase, own, f, first, w.to);
+    while at < w.to {
         let s = start_at(at);
         let next = last_after(last, p, s);
         let more = with_start(chosen, s);
         let still = still_on_bound(on_bound, s, b);
-        let x = from_item(input, k + 1, rest, payload, decoded, next, more, still);
-        let is_found = x.found;
-        if is_found {
-            return x;
+        let found = from_item(input, k + 1, rest, payload, decoded, next, more, still);
+        if found.is_some() {
+            return found;
         }
-        at = next_start(nocase, own, f, at + 1, to);
+        at = next_start(p.nocase, own, f, at + 1, w.to);
     }
-    no_match()
+    None
 }

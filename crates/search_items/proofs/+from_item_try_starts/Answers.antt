@@ -1,5 +1,5 @@
 -- The loop of from_item goes over the items up to the first pattern to be placed; try_starts tries that pattern's starts.
-use mathlib.Core.Path.{◌≡◌}
+use mathlib.Core.Path.{◌≡◌, sym, ◌∙◌}
 use native.Mathlib.Omega.{arith}
 use Prim.Native.Nat.{◌+◌}
 use lib.ListN.{length}
@@ -18,7 +18,7 @@ use Rattle.search_items.proofs.+from_item_try_starts.Goals as goal
 
 pub from_item-returns-then-not-test_holds : goal.from_item-returns-then-not-test_holds
 from_item-returns-then-not-test_holds t c =
-    stop-test c.loop-i.invariant c.loop-i-test.true c.in_default.not-Pattern c.test_holds.ensures c.if-not-test_holds.true c.no_match.result c.no_match.ensures
+    stop-test c.loop-i.invariant c.loop-i-test.true c.in_default.not-Pattern c.test_holds.ensures c.if-not-test_holds.true
 
 pub from_item-loop-i-preserved-in_default : goal.from_item-loop-i-preserved-in_default
 from_item-loop-i-preserved-in_default t c =
@@ -44,7 +44,6 @@ pub from_item-returns-then-not-negated_holds : goal.from_item-returns-then-not-n
 from_item-returns-then-not-negated_holds t c =
     let holds = c.negated_holds.ensures c.args.input.header in
     stop-nowhere c.loop-i.invariant c.loop-i-test.true c.in-Pattern.is (not-false _ c.if-not-p.false) holds c.if-not-negated_holds.true
-    c.no_match-then-not-negated_holds.result c.no_match-then-not-negated_holds.ensures
 
 pub from_item-loop-i-preserved : goal.from_item-loop-i-preserved
 from_item-loop-i-preserved t c =
@@ -59,7 +58,7 @@ try_starts-returns-then-not-is_present t c =
     let x = c.args in
     let ws = constraints (items_left x.input (x.k + 1)) x.rest.now in
     try_absent x.input.header x.payload.now x.decoded.now x.input.map x.p x.own.now x.last ws x.chosen x.on_bound _
-    c.is_present.result c.is_present.ensures c.if-not-is_present.true c.no_match.result c.no_match.ensures
+    c.is_present.result c.is_present.ensures c.if-not-is_present.true
 
 pub try_starts-loop-at-init : goal.try_starts-loop-at-init
 try_starts-loop-at-init t c =
@@ -77,18 +76,18 @@ try_starts-loop-at-init t c =
 pub try_starts-last_after-next-requires : goal.try_starts-last_after-next-requires
 try_starts-last_after-next-requires t c = chosen_small c.loop-at.invariant.tried c.loop-at-test.true c.start_at-s.ensures
 
-pub try_starts-from_item-x-requires : goal.try_starts-from_item-x-requires
-try_starts-from_item-x-requires t c =
+pub try_starts-from_item-found-requires : goal.try_starts-from_item-found-requires
+try_starts-from_item-found-requires t c =
     let o = c.loop-at.invariant.tried in
     let ready = chosen-ready o c.loop-at-test.true c.start_at-s.ensures c.last_after-next.ensures c.with_start-more.ensures in
     (omega (arith, c.decreases, o.few.0), (o.few.1, ready))
 
-pub try_starts-returns-then-is_found : goal.try_starts-returns-then-is_found
-try_starts-returns-then-is_found t c =
+pub try_starts-returns-then-is_some : goal.try_starts-returns-then-is_some
+try_starts-returns-then-is_some t c =
     let l = c.loop-at.invariant in
     let more = c.loop-at-test.true in
     tried-found l.tried more c.start_at-s.ensures c.last_after-next.ensures c.with_start-more.ensures (l.lies more)
-    c.still_on_bound-still.ensures c.from_item-x.ensures c.if-is_found.true
+    c.still_on_bound-still.ensures c.from_item-found.ensures (sym c.is_some.ensures ∙ c.if-is_some.true)
 
 pub try_starts-next_start-at-requires-in-loop-at : goal.try_starts-next_start-at-requires-in-loop-at
 try_starts-next_start-at-requires-in-loop-at t c = own_fits c.loop-at.invariant.tried
@@ -102,8 +101,8 @@ try_starts-loop-at-preserved t c =
     let more = c.loop-at-test.true in
     reached
     (tried-vain l.tried more c.start_at-s.ensures c.last_after-next.ensures c.with_start-more.ensures (l.lies more)
-    c.still_on_bound-still.ensures c.from_item-x.ensures c.if-is_found.false)
+    c.still_on_bound-still.ensures c.from_item-found.ensures (sym c.is_some.ensures ∙ c.if-is_some.false))
     c.next_start-at-in-loop-at.ensures
 
 pub try_starts-returns : goal.try_starts-returns
-try_starts-returns t c = tried_out c.loop-at.invariant.tried c.loop-at-test.false c.no_match-2.result c.no_match-2.ensures
+try_starts-returns t c = tried_out c.loop-at.invariant.tried c.loop-at-test.false

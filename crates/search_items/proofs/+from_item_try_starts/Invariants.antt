@@ -14,11 +14,8 @@ decreases-try_starts l = (l.input.count - l.k) + (l.input.count - l.k)
 abbrev pub invariant-from_item-loop-i : goal.invariant-from_item-loop-i
 invariant-from_item-loop-i l = Gone l.input l.k l.bytes l.payload l.decoded l.last l.chosen l.on_bound l.i l.from
 
-abbrev pub decreases-from_item-loop-i : goal.decreases-from_item-loop-i
-decreases-from_item-loop-i l = l.count - l.i
-
 abbrev pub invariant-try_starts-loop-at : goal.invariant-try_starts-loop-at
-invariant-try_starts-loop-at l = Reached l.input l.k l.rest l.payload l.decoded l.last l.chosen l.on_bound l.p l.own l.f l.to l.at
+invariant-try_starts-loop-at l = Reached l.input l.k l.rest l.payload l.decoded l.last l.chosen l.on_bound l.p l.own l.f l.w.to l.at
 
 abbrev pub decreases-try_starts-loop-at : goal.decreases-try_starts-loop-at
-decreases-try_starts-loop-at l = l.to - l.at
+decreases-try_starts-loop-at l = l.w.to - l.at
