@@ -13,10 +13,8 @@ fn none_in_group(s: &[u8], at: usize, b: u8) -> bool
     ensures { result ≡ leb 32 (find b (drop at s.now)) }
 {
     let mut none = true;
-    let mut k = 0;
-    while k < GROUP {
-        none = none & (s[at + k] != b);
-        k += 1;
+    for x in &s[at..at + GROUP] {
+        none &= *x != b;
     }
     none
 }
@@ -30,6 +28,7 @@ fn past_groups(s: &[u8], from: usize, b: u8) -> usize
     }
     let last = s.len() - GROUP;
     let mut i = from;
+    // The last place is the answer, and a `for` in steps would not tell it.
     while i <= last {
         if !none_in_group(s, i, b) {
             return i;
@@ -43,12 +42,11 @@ fn past_groups(s: &[u8], from: usize, b: u8) -> usize
 pub fn find_from(s: &[u8], from: usize, b: u8) -> usize
     ensures { result ≡ from + find b (drop from s.now) }
 {
-    let mut i = past_groups(s, from, b);
-    while i < s.len() {
+    let near = past_groups(s, from, b);
+    for i in near..s.len() {
         if s[i] == b {
             return i;
         }
-        i += 1;
     }
-    i
+    near.max(s.len())
 }
