@@ -1,3 +1,4 @@
--- Bits gathered from bytes, and a test of every element.
+-- Bits gathered from bytes, a test of every element, and the elements from a place on.
 pub mod Bits
 pub mod Every
+pub mod Rest

@@ -15,7 +15,8 @@ use scan_bytes::bytes::{Class, in_class};
 fn zero_from(s: &[u8], from: usize) -> bool
     ensures { result ≡ all? is_zero (drop from s.now) }
 {
-    s.iter().skip(from).fold(0, |bits, b| bits | *b) == 0
+    let rest = &s[from.min(s.len())..];
+    rest.iter().fold(0, |bits, b| bits | *b) == 0
 }
 
 // The first bytes may all stand in a name.
