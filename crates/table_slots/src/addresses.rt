@@ -20,5 +20,6 @@ pub fn addresses_fit(list: [Address; ADDRESSES], n: usize) -> bool
 pub fn addresses_unused(list: [Address; ADDRESSES], from: usize) -> bool
     ensures { result ≡ all? address_unused (drop from list) }
 {
-    list.iter().skip(from).all(|a| address_unused(*a))
+    let rest = &list[from.min(ADDRESSES)..];
+    rest.iter().all(|a| address_unused(*a))
 }
