@@ -5,4 +5,4 @@ use Rattle.read_options.proofs.modifiers.context_option.Goals as goal
 
 pub returns : goal.returns
 unfolding option_value_of
-returns c = (valued_reads c.requires c.gap_at-c.ensures (fmap_reads _ c.then_context-w.ensures) c.then_closing-cursor.ensures, tt)
+returns c = (valued_reads c.requires c.gap_at-c.ensures (fmap_reads _ c.then_context-w.ensures) c.then_closing.ensures, tt)

@@ -10,7 +10,7 @@ returns c =
     let minus = c.then_optional_literal-minus.ensures in
     let number = c.then_number-n.ensures.0 in
     let value = fmap_reads _ (pair_reads c.gap_at-c.ensures.1.inside minus (pair_reads minus.inside number c.then_directed-r.ensures)) in (
-      rw (c.signed_of-offset.ensures, signed_kept c.then_number-n.result.value c.then_number-n.ensures.1 c.then_optional_literal-minus.result.yes)
-          (valued_reads c.requires c.gap_at-c.ensures value c.then_closing-cursor.ensures),
+      rw (c.signed_of.ensures, signed_kept c.then_number-n.result.value c.then_number-n.ensures.1 c.then_optional_literal-minus.result.value)
+          (valued_reads c.requires c.gap_at-c.ensures value c.then_closing.ensures),
       tt,
     )
