@@ -8,4 +8,4 @@ unfolding option_value_of
 returns c =
     let number = c.then_number-n.ensures.0 in
     let value = fmap_reads _ (pair_reads c.gap_at-c.ensures.1.inside number c.then_comma_word-m.ensures) in
-    (valued_reads c.requires c.gap_at-c.ensures value c.then_closing-cursor.ensures, tt)
+    (valued_reads c.requires c.gap_at-c.ensures value c.then_closing.ensures, tt)

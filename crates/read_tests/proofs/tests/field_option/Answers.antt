@@ -9,4 +9,4 @@ returns c =
     let mask = c.then_mask-m.ensures.0 in
     let operator = terminated_reads mask.inside c.then_comparison-o.ensures c.then_spaces-c.ensures.1 in
     let value = fmap_reads _ (pair_reads c.gap_at-c.ensures.1.inside mask (pair_reads mask.inside operator c.then_numeral-n.ensures.0)) in
-    (valued_reads c.requires.0 c.gap_at-c.ensures value c.then_closing-cursor.ensures, tt)
+    (valued_reads c.requires.0 c.gap_at-c.ensures value c.then_closing.ensures, tt)

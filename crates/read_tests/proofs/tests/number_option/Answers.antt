@@ -8,4 +8,4 @@ pub returns : goal.returns
 unfolding option_value_of
 returns c =
     let value = fmap_reads _ c.then_number-n.ensures.0 in
-    (rw c.number_item.ensures (valued_reads c.requires.0 c.gap_at-c.ensures value c.then_closing-cursor.ensures), tt)
+    (rw c.number_item.ensures (valued_reads c.requires.0 c.gap_at-c.ensures value c.then_closing.ensures), tt)

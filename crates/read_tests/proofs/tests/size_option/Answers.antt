@@ -9,4 +9,4 @@ returns c =
     let order = c.then_size_order-o.ensures in
     let number = c.then_number-n.ensures.0 in
     let value = fmap_reads _ (pair_reads c.gap_at-c.ensures.1.inside order (pair_reads order.inside number c.then_size_field-f.ensures)) in
-    (valued_reads c.requires c.gap_at-c.ensures value c.then_closing-cursor.ensures, tt)
+    (valued_reads c.requires c.gap_at-c.ensures value c.then_closing.ensures, tt)

@@ -7,4 +7,4 @@ pub returns : goal.returns
 unfolding option_value_of
 returns c =
     let value = fmap_reads _ (pair_reads c.gap_at-c.ensures.1.inside c.then_order-o.ensures c.then_number-n.ensures.0) in
-    (valued_reads c.requires c.gap_at-c.ensures value c.then_closing-cursor.ensures, tt)
+    (valued_reads c.requires c.gap_at-c.ensures value c.then_closing.ensures, tt)
