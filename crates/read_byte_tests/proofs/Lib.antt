@@ -1,3 +1,3 @@
 -- Byte counts among the numbers; what the next byte tells.
 pub mod Counts
-pub mod Flags
+pub mod FlagWords

@@ -12,56 +12,38 @@ ghost use Rattle.read_byte_tests.specs.Parts.{number_in, sign_of, operator_next}
 
 use definitions::limits::{MAX_BYTE, MAX_LONG, MAX_WORD};
 use definitions::table::{ByteOperator, ByteTest, Item, Width};
-use read_value::{Value, Valued};
-use scan_cursors::{Cursor, limited};
+use read_value::Value;
+use scan_cursors::{Cursor, Scanned, limited};
 use scan_pieces::literals::gap_at;
-use scan_pieces::numbers::Numeric;
-use scan_steps::literals::{next_is, then_closing, then_literal};
+use scan_steps::literals::{next_is, then_closing, then_literal, then_literal_as};
 use scan_steps::numbers::{then_number, then_numeral};
 use scan_steps::words::{then_comma_word, then_either_word};
 
-// A width, and where scanning stands after it.
+// Whether `relative` and `little` stood there.
 #[derive(Clone, Copy)]
-pub struct WidthAt {
-    pub width: Width,
-    pub cursor: Cursor,
-}
-
-// An operator, and where scanning stands after it.
-#[derive(Clone, Copy)]
-pub struct ByteOperatorAt {
-    pub operator: ByteOperator,
-    pub cursor: Cursor,
-}
-
-// Whether `relative` and `little` stood there, and where scanning stands.
-#[derive(Clone, Copy)]
-pub struct FlagsAt {
+pub struct Flags {
     pub relative: bool,
     pub little: bool,
-    pub cursor: Cursor,
 }
 
 fn is_byte_count(n: u64) -> bool
     ensures { result ≡ is_byte_count n }
 {
-    (n == 1) | ((n == 2) | (n == 4))
+    matches!(n, 1 | 2 | 4)
 }
 
 fn width_of(n: u64) -> Width
     ensures { result ≡ width_of n }
 {
-    if n == 1 {
-        return Width::One;
+    match n {
+        1 => Width::One,
+        2 => Width::Two,
+        _ => Width::Four,
     }
-    if n == 2 {
-        return Width::Two;
-    }
-    Width::Four
 }
 
 // A number up to a limit, in decimal, or where it may be so in hex: one function for all three of them, which keeps the option's body small.
-fn then_part(s: &[u8], c: Cursor, hex: bool, limit: u64) -> Numeric
+fn then_part(s: &[u8], c: Cursor, hex: bool, limit: u64) -> Scanned<u64>
     requires { Inside s.now c × (limit < number_cap) }
     ensures { Reads (number_in hex limit) s.now c result.value result.cursor × (result.value ≤ limit) }
 {
@@ -73,17 +55,15 @@ fn then_part(s: &[u8], c: Cursor, hex: bool, limit: u64) -> Numeric
 }
 
 // A byte count; another number is told by its first digit, as one beyond its limit is.
-fn then_width(s: &[u8], c: Cursor) -> WidthAt
+fn then_width(s: &[u8], c: Cursor) -> Scanned<Width>
     requires { Inside s.now c }
-    ensures { Reads width s.now c result.width result.cursor }
+    ensures { Reads width s.now c result.value result.cursor }
 {
     let n = then_part(s, c, false, MAX_BYTE);
-    let count = n.value;
-    let after = n.cursor;
-    let kept = is_byte_count(count);
-    let cursor = limited(c, kept, after);
-    let width = width_of(count);
-    WidthAt { width, cursor }
+    Scanned {
+        value: width_of(n.value),
+        cursor: limited(c, is_byte_count(n.value), n.cursor),
+    }
 }
 
 // The operator whose byte stands there; if none does, it is the last that must.
@@ -114,88 +94,80 @@ fn sign_of(o: ByteOperator) -> u8
 }
 
 // One of `>`, `<`, `=`, `!`.
-fn then_byte_operator(s: &[u8], c: Cursor) -> ByteOperatorAt
+fn then_byte_operator(s: &[u8], c: Cursor) -> Scanned<ByteOperator>
     requires { Inside s.now c }
-    ensures { Reads byte_comparison s.now c result.operator result.cursor }
+    ensures { Reads byte_comparison s.now c result.value result.cursor }
 {
     let operator = operator_next(s, c);
-    let sign = sign_of(operator);
-    let cursor = then_literal(s, c, sign);
-    ByteOperatorAt { operator, cursor }
+    then_literal_as(s, c, sign_of(operator), operator)
 }
 
 // `relative` with optional `,little`, or `little`.
-fn then_flag_words(s: &[u8], c: Cursor) -> FlagsAt
+fn then_flag_words(s: &[u8], c: Cursor) -> Scanned<Flags>
     requires { Inside s.now c }
-    ensures { Reads flag_words s.now c (result.relative, result.little) result.cursor }
+    ensures { Reads flag_words s.now c (result.value.relative, result.value.little) result.cursor }
 {
     let word = then_either_word(s, c, b"relative", b"little");
-    let after = word.cursor;
-    if word.first {
-        let little = then_comma_word(s, after, b"little");
-        let cursor = little.cursor;
-        return FlagsAt {
-            relative: true,
-            little: little.yes,
-            cursor,
+    if word.value {
+        let little = then_comma_word(s, word.cursor, b"little");
+        return Scanned {
+            value: Flags {
+                relative: true,
+                little: little.value,
+            },
+            cursor: little.cursor,
         };
     }
-    FlagsAt {
-        relative: false,
-        little: true,
-        cursor: after,
+    Scanned {
+        value: Flags {
+            relative: false,
+            little: true,
+        },
+        cursor: word.cursor,
     }
 }
 
 // Optional `,relative`, and with or without it optional `,little`.
-fn then_flags(s: &[u8], c: Cursor) -> FlagsAt
+fn then_flags(s: &[u8], c: Cursor) -> Scanned<Flags>
     requires { Inside s.now c }
-    ensures { Reads flags s.now c (result.relative, result.little) result.cursor }
+    ensures { Reads flags s.now c (result.value.relative, result.value.little) result.cursor }
 {
     if next_is(s, c, b',') {
         let comma = then_literal(s, c, b',');
         return then_flag_words(s, comma);
     }
-    FlagsAt {
-        relative: false,
-        little: false,
+    Scanned {
+        value: Flags {
+            relative: false,
+            little: false,
+        },
         cursor: c,
     }
 }
 
 // The option byte_test.
-pub fn byte_option(s: &[u8], at: usize) -> Valued
+pub fn byte_option(s: &[u8], at: usize) -> Scanned<Value>
     requires { at ≤ length s.now }
     ensures { Reads byte_form s.now (Parsed at) (option_value_of s.now result.value [] []) result.cursor × Plain result.value }
 {
     let c = gap_at(s, at);
     let w = then_width(s, c);
-    let c = w.cursor;
-    let c = then_literal(s, c, b',');
+    let c = then_literal(s, w.cursor, b',');
     let o = then_byte_operator(s, c);
-    let c = o.cursor;
-    let c = then_literal(s, c, b',');
+    let c = then_literal(s, o.cursor, b',');
     let v = then_part(s, c, true, MAX_LONG);
-    let c = v.cursor;
-    let c = then_literal(s, c, b',');
+    let c = then_literal(s, v.cursor, b',');
     let n = then_part(s, c, false, MAX_WORD);
-    let c = n.cursor;
-    let f = then_flags(s, c);
-    let c = f.cursor;
-    let cursor = then_closing(s, c);
-    let width = w.width;
-    let operator = o.operator;
-    let value = v.value as u32;
-    let offset = n.value as u16;
-    Valued {
+    let f = then_flags(s, n.cursor);
+    Scanned {
         value: Value::Test(Item::Byte(ByteTest {
-            width,
-            operator,
-            value,
-            offset,
-            relative: f.relative,
-            little: f.little,
+            width: w.value,
+            operator: o.value,
+            value: v.value as u32,
+            offset: n.value as u16,
+            relative: f.value.relative,
+            little: f.value.little,
         })),
-        cursor,
+        cursor: then_closing(s, f.cursor),
     }
 }

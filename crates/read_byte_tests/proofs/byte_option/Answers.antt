@@ -13,4 +13,4 @@ returns c =
     let offset = c.then_part-n.ensures.0 in
     let parts = pair_reads i width (pair_reads width.inside operator (pair_reads operator.inside value (pair_reads value.inside offset
     c.then_flags-f.ensures))) in
-    (valued_reads c.requires c.gap_at-c.ensures (fmap_reads _ parts) c.then_closing-cursor.ensures, tt)
+    (valued_reads c.requires c.gap_at-c.ensures (fmap_reads _ parts) c.then_closing.ensures, tt)

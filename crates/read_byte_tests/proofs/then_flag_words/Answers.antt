@@ -1,4 +1,4 @@
-use Rattle.read_byte_tests.proofs.Flags.{relative_reads, little_reads}
+use Rattle.read_byte_tests.proofs.FlagWords.{relative_reads, little_reads}
 use Rattle.read_byte_tests.proofs.then_flag_words.Goals as goal
 
 pub returns-then-word : goal.returns-then-word

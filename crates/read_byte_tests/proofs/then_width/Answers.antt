@@ -5,5 +5,5 @@ use Rattle.read_byte_tests.proofs.Counts.{count_small}
 use Rattle.read_byte_tests.proofs.then_width.Goals as goal
 
 pub returns : goal.returns
-returns c = rw (c.width_of-width.ensures, c.limited-cursor.ensures, c.is_byte_count-kept.ensures)
+returns c = rw (c.width_of.ensures, c.limited.ensures, c.is_byte_count.ensures)
     (fmap_reads width_of (narrow_reads count_small c.requires c.then_part-n.ensures.0))

@@ -4,7 +4,8 @@ use mathlib.Core.Bool.{Bool, true, false}
 use mathlib.Core.List.{List, [], ◌∷◌}
 use Prim.Native.Nat.{ℕ}
 use Rattle.forms.specs.Bytes.{text}
-use Rattle.forms.specs.Pieces.{or, literal, keyword}
+use Rattle.forms.specs.Pieces.{or, literal_as, keyword}
+use Rattle.definitions.specs.declared.table.ByteOperator.{ByteOperator}
 use Rattle.forms.proofs.Bools.{by_cases}
 use Rattle.definitions.specs.Forms.{comma, byte_comparison, flag_words}
 use Rattle.scan_bytes.specs.Classes.{case_class}
@@ -29,13 +30,15 @@ module _ {s : List ℕ} {c d : Cursor} {t v : Bool} (i : Inside s c) (e : t ≡ 
   little_reads y = second_reads e y (keyword_says (text "little") false (false, true) i (second_told e y r))
 
 -- the byte of the operator that is told is the one that must stand
-pub operator_reads : (s : List ℕ) (c : Cursor) {d : Cursor} → Reads (literal (sign_of (operator_next s c))) s c (sign_of (operator_next s c)) d
-    → Reads byte_comparison s c (operator_next s c) d
+pub operator_reads : (s : List ℕ) (c : Cursor) {d : Cursor} {v : ByteOperator} → Reads (literal_as (sign_of (operator_next s c)) (operator_next s c)) s c v d
+    → Reads byte_comparison s c v d
 operator_reads s c r =
     by_cases (next_in ((62, 62) ∷ []) s c)
-    (λ g. rw g (first_reads refl g (fmap_reads _ (rw g at r))))
-    (λ g. by_cases (next_in ((60, 60) ∷ []) s c)
-    (λ l. rw (g, l) (second_reads refl g (first_reads refl l (fmap_reads _ (rw (g, l) at r)))))
-    (λ l. by_cases (next_in ((61, 61) ∷ []) s c)
-    (λ e. rw (g, l, e) (second_reads refl g (second_reads refl l (first_reads refl e (fmap_reads _ (rw (g, l, e) at r))))))
-    (λ e. rw (g, l, e) (second_reads refl g (second_reads refl l (second_reads refl e (fmap_reads _ (rw (g, l, e) at r))))))))
+    (λ g. first_reads refl g (rw g at r))
+    (λ g. second_reads refl g
+    (by_cases (next_in ((60, 60) ∷ []) s c)
+    (λ l. first_reads refl l (rw (g, l) at r))
+    (λ l. second_reads refl l
+    (by_cases (next_in ((61, 61) ∷ []) s c)
+    (λ e. first_reads refl e (rw (g, l, e) at r))
+    (λ e. second_reads refl e (rw (g, l, e) at r))))))
