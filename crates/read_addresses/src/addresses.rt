@@ -11,95 +11,76 @@ use crate::dotted::then_address;
 use definitions::limits::ADDRESSES;
 use definitions::table::Address;
 use read_value::no_addresses;
-use scan_cursors::Cursor;
+use scan_cursors::{Cursor, Scanned};
 use scan_steps::literals::{next_is, then_literal};
 
-// The addresses that are kept, how many there are, and where scanning stands after them.
+// The addresses that are kept, and how many there are.
 #[derive(Clone, Copy)]
-pub struct AddressesAt {
+pub struct AddressList {
     pub list: [Address; ADDRESSES],
     pub count: usize,
-    pub cursor: Cursor,
-}
-
-// The addresses that are kept.
-#[derive(Clone, Copy)]
-pub struct Row {
-    pub list: [Address; ADDRESSES],
 }
 
 // An address after the `count` that there are, if there is room.
-fn kept(row: Row, count: usize, a: Address) -> Row
-    ensures { result.list ≡ set row.list count a }
+fn keep(list: &mut [Address; ADDRESSES], count: usize, a: Address)
+    ensures { list.new ≡ set list.old count a }
 {
-    let mut list = row.list;
     if count < ADDRESSES {
         list[count] = a;
     }
-    Row { list: list }
 }
 
 // One address alone.
-fn one_kept(a: Address) -> Row
-    ensures { result.list ≡ padded max_addresses no_address (a ∷ []) }
+fn one_kept(a: Address) -> [Address; ADDRESSES]
+    ensures { result ≡ padded max_addresses no_address (a ∷ []) }
 {
-    let list = no_addresses();
-    kept(Row { list: list }, 0, a)
+    let mut list = no_addresses();
+    keep(&mut list, 0, a);
+    list
 }
 
 // One address or more, parted by commas.
-fn then_list(s: &[u8], c: Cursor) -> AddressesAt
+fn then_list(s: &[u8], c: Cursor) -> Scanned<AddressList>
     requires { Inside s.now c }
-    ensures { Lists listed_addresses s.now c result.list result.count result.cursor }
+    ensures { Lists listed_addresses s.now c result.value.list result.value.count result.cursor }
 {
     let first = then_address(s, c);
-    let a = first.address;
-    let mut row = one_kept(a);
+    let mut list = one_kept(first.value);
     let mut count = 1;
     let mut here = first.cursor;
-    loop {
-        if !next_is(s, here, b',') {
-            let list = row.list;
-            return AddressesAt {
-                list: list,
-                count: count,
-                cursor: here,
-            };
-        }
+    while next_is(s, here, b',') {
         let comma = then_literal(s, here, b',');
         let next = then_address(s, comma);
-        let b = next.address;
-        row = kept(row, count, b);
+        keep(&mut list, count, next.value);
         count += 1;
         here = next.cursor;
+    }
+    Scanned {
+        value: AddressList { list, count },
+        cursor: here,
     }
 }
 
 // One address, or one or more in brackets.
-pub fn then_addresses(s: &[u8], c: Cursor) -> AddressesAt
+pub fn then_addresses(s: &[u8], c: Cursor) -> Scanned<AddressList>
     requires { Inside s.now c }
-    ensures { Lists addresses s.now c result.list result.count result.cursor }
+    ensures { Lists addresses s.now c result.value.list result.value.count result.cursor }
 {
     if next_is(s, c, b'[') {
         let open = then_literal(s, c, b'[');
         let l = then_list(s, open);
-        let list = l.list;
-        let after = l.cursor;
-        AddressesAt {
-            list: list,
-            count: l.count,
-            cursor: then_literal(s, after, b']'),
+        Scanned {
+            cursor: then_literal(s, l.cursor, b']'),
+            ..l
         }
     } else {
-        let first = then_address(s, c);
-        let a = first.address;
-        let row = one_kept(a);
-        let list = row.list;
-        let cursor = first.cursor;
-        AddressesAt {
-            list: list,
-            count: 1,
-            cursor,
+        let only = then_address(s, c);
+        Scanned {
+            value: AddressList {
+                list: one_kept(only.value),
+                count: 1,
+            },
+            cursor: only.cursor,
         }
     }
 }

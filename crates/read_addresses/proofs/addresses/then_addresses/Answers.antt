@@ -9,4 +9,4 @@ returns-then-next_is c =
 pub returns-else-next_is : goal.returns-else-next_is
 returns-else-next_is c =
     let i = c.requires in
-    single_read i c.next_is.ensures c.if-next_is.false c.then_address-first.ensures c.one_kept-row.ensures
+    single_read i c.next_is.ensures c.if-next_is.false c.then_address-only.ensures c.one_kept.ensures
