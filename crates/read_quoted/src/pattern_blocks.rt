@@ -10,16 +10,9 @@ ghost use Rattle.read_quoted.specs.Storing.{hex_pairs, Ready, Stores};
 
 use scan_bytes::bytes::{Class, in_class};
 use scan_bytes::numbers::value_of;
-use scan_cursors::{Cursor, join, place};
+use scan_cursors::{Cursor, Scanned};
 use scan_pieces::literals::spaces_at;
 use scan_steps::literals::{then_literal, then_spaces};
-
-// How many bytes are in use, and where scanning stands.
-#[derive(Clone, Copy)]
-pub struct BytesAt {
-    pub used: usize,
-    pub cursor: Cursor,
-}
 
 // The byte after those in use; the answer counts it with them.
 pub fn put(bytes: &mut [u8], used: usize, b: u8) -> usize
@@ -34,66 +27,52 @@ pub fn put(bytes: &mut [u8], used: usize, b: u8) -> usize
 fn is_hex_at(s: &[u8], at: usize) -> bool
     ensures { result ≡ begins hex_digits (drop at s.now) }
 {
-    if at < s.len() {
-        let b = s[at];
-        in_class(Class::HexDigit, b)
-    } else {
-        false
-    }
+    at < s.len() && in_class(Class::HexDigit, s[at])
 }
 
-// The byte that a pair writes, and where scanning stands after it.
-#[derive(Clone, Copy)]
-pub struct PairAt {
-    pub byte: u8,
-    pub cursor: Cursor,
-}
-
-// Two hex digits.
-fn pair_at(s: &[u8], at: usize) -> PairAt
+// Two hex digits, and the byte that they write.
+fn pair_at(s: &[u8], at: usize) -> Scanned<u8>
     requires { at ≤ length s.now }
-    ensures { Reads hex_pair s.now (Parsed at) result.byte result.cursor }
+    ensures { Reads hex_pair s.now (Parsed at) result.value result.cursor }
 {
     if !is_hex_at(s, at) {
-        return PairAt {
-            byte: 0,
+        return Scanned {
+            value: 0,
             cursor: Cursor::Failed(at),
         };
     }
     if !is_hex_at(s, at + 1) {
-        return PairAt {
-            byte: 0,
+        return Scanned {
+            value: 0,
             cursor: Cursor::Failed(at + 1),
         };
     }
-    let v = value_of(s, at, at + 2, 16);
-    PairAt {
-        byte: v as u8,
+    Scanned {
+        value: value_of(s, at, at + 2, 16) as u8,
         cursor: Cursor::Parsed(at + 2),
     }
 }
 
-// One or more pairs, spaces after each. The loop goes from place to place: a cursor for each pair would be tested at each.
-fn pairs_at(s: &[u8], at: usize, bytes: &mut [u8], used: usize) -> BytesAt
+// One or more pairs, spaces after each; the value is how many bytes are in use then. The loop goes from place to place: a cursor for each pair would be tested at each.
+fn pairs_at(s: &[u8], at: usize, bytes: &mut [u8], used: usize) -> Scanned<usize>
     requires { Ready s.now (Parsed at) (pattern_bytes_of bytes.old used) }
-    ensures { Stores hex_pairs s.now (Parsed at) (pattern_bytes_of bytes.old used) (pattern_bytes_of bytes.new result.used) result.cursor }
+    ensures { Stores hex_pairs s.now (Parsed at) (pattern_bytes_of bytes.old used) (pattern_bytes_of bytes.new result.value) result.cursor }
 {
     let mut here = at;
     let mut to = used;
     loop {
         let p = pair_at(s, here);
-        let c = p.cursor;
-        let Cursor::Parsed(n) = c else {
-            return BytesAt {
-                used: to,
-                cursor: c,
+        let Cursor::Parsed(end) = p.cursor else {
+            return Scanned {
+                value: to,
+                cursor: p.cursor,
             };
         };
-        to = put(bytes, to, p.byte);
-        here = spaces_at(s, n);
+        to = put(bytes, to, p.value);
+        here = spaces_at(s, end);
         if !is_hex_at(s, here) {
-            return BytesAt {
-                used: to,
+            return Scanned {
+                value: to,
                 cursor: Cursor::Parsed(here),
             };
         }
@@ -101,30 +80,23 @@ fn pairs_at(s: &[u8], at: usize, bytes: &mut [u8], used: usize) -> BytesAt
 }
 
 // The pairs from any cursor on.
-fn then_pairs(s: &[u8], c: Cursor, bytes: &mut [u8], used: usize) -> BytesAt
+fn then_pairs(s: &[u8], c: Cursor, bytes: &mut [u8], used: usize) -> Scanned<usize>
     requires { Ready s.now c (pattern_bytes_of bytes.old used) }
-    ensures { Stores hex_pairs s.now c (pattern_bytes_of bytes.old used) (pattern_bytes_of bytes.new result.used) result.cursor }
+    ensures { Stores hex_pairs s.now c (pattern_bytes_of bytes.old used) (pattern_bytes_of bytes.new result.value) result.cursor }
 {
-    let at = place(c);
-    let p = pairs_at(s, at, bytes, used);
-    let d = p.cursor;
-    BytesAt {
-        used: p.used,
-        cursor: join(c, d),
-    }
+    pairs_at(s, c.place(), bytes, used).after(c)
 }
 
 // A block between two bars.
-pub fn then_block(s: &[u8], c: Cursor, bytes: &mut [u8], used: usize) -> BytesAt
+pub fn then_block(s: &[u8], c: Cursor, bytes: &mut [u8], used: usize) -> Scanned<usize>
     requires { Ready s.now c (pattern_bytes_of bytes.old used) }
-    ensures { Stores block s.now c (pattern_bytes_of bytes.old used) (pattern_bytes_of bytes.new result.used) result.cursor }
+    ensures { Stores block s.now c (pattern_bytes_of bytes.old used) (pattern_bytes_of bytes.new result.value) result.cursor }
 {
     let bar = then_literal(s, c, b'|');
     let from = then_spaces(s, bar);
     let p = then_pairs(s, from, bytes, used);
-    let after = p.cursor;
-    BytesAt {
-        used: p.used,
-        cursor: then_literal(s, after, b'|'),
+    Scanned {
+        cursor: then_literal(s, p.cursor, b'|'),
+        ..p
     }
 }

@@ -13,10 +13,10 @@ pub overflow_cast-result : goal.overflow_cast-result
 overflow_cast-result c =
     let one = sym c.is_hex_at.ensures ∙ c.if-not-is_hex_at.false in
     let two = sym c.is_hex_at-2.ensures ∙ c.if-not-is_hex_at-2.false in
-    omega (arith, pair_fits c.args.s.now c.args.at one two _ c.value_of-v.ensures)
+    omega (arith, pair_fits c.args.s.now c.args.at one two _ c.value_of.ensures)
 
 pub returns : goal.returns
 returns c =
     let one = sym c.is_hex_at.ensures ∙ c.if-not-is_hex_at.false in
     let two = sym c.is_hex_at-2.ensures ∙ c.if-not-is_hex_at-2.false in
-    pair-whole _ _ one two _ c.value_of-v.ensures
+    pair-whole _ _ one two _ c.value_of.ensures

@@ -12,7 +12,7 @@ pub returns : goal.returns
 returns c =
     let quote = c.then_literal-open.ensures in
     let q = c.then_bytes-p.ensures in
-    let bytes = stored_before refl quote.inside q.1 c.then_literal-cursor.ensures in (
+    let bytes = stored_before refl quote.inside q.1 c.then_literal.ensures in (
       q.0,
       record {
         stored = stored_after refl c.requires.inside quote bytes;
