@@ -14,7 +14,7 @@ use Rattle.read_names.specs.Names.{form_of}
 use Rattle.read_value.specs.declared.Value.{Value}
 use Rattle.read_value.specs.declared.Value.TheVariants as value
 use Rattle.read_value.specs.Values.{pattern_bytes_of, Plain}
-use Rattle.read_value.specs.declared.Valued.{Valued}
+use Rattle.scan_cursors.specs.declared.Scanned.{Scanned}
 use Rattle.read_state.specs.State.{Apart}
 use Rattle.read_quoted.proofs.Appended.{appended_none}
 use Rattle.read_by_name.specs.Parsing.{ReadsAlone, Parses}
@@ -59,7 +59,7 @@ fair option.NoCase = refl
 fair option.Distance = refl
 fair option.Within = refl
 
-pub plain_parses : (o : OptionName) {s : List ℕ} {at used : ℕ} {v : Valued} {l : List Address} → at ≤ length s → ReadsAlone (form_of o) s at v
+pub plain_parses : (o : OptionName) {s : List ℕ} {at used : ℕ} {v : Scanned Value} {l : List Address} → at ≤ length s → ReadsAlone (form_of o) s at v
     → l ≡ replicate max_addresses no_address → (bytes : List ℕ)
     → Parses (form_of o) s at (pattern_bytes_of bytes used) (pattern_bytes_of bytes used) (record { value = v.value; list = l; used = used; cursor = v.cursor })
 plain_parses o {s} {used = used} {v} h q e bytes =

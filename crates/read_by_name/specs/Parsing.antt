@@ -11,7 +11,8 @@ use Rattle.scan_cursors.specs.declared.Cursor.TheVariants.{Parsed}
 use Rattle.scan_cursors.specs.Reads.{Reads}
 use Rattle.read_names.specs.declared.options.OptionName.{OptionName}
 use Rattle.read_names.specs.declared.options.OptionName.TheVariants as option
-use Rattle.read_value.specs.declared.Valued.{Valued}
+use Rattle.read_value.specs.declared.Value.{Value}
+use Rattle.scan_cursors.specs.declared.Scanned.{Scanned}
 use Rattle.read_state.specs.State.{Apart}
 use Rattle.read_by_name.specs.declared.parsed.ParsedOption.{ParsedOption}
 
@@ -20,7 +21,7 @@ abbrev pub Single : OptionName → Type 0
 Single o = (o ≡ option.Name → ⊥) × (o ≡ option.SourceAddress → ⊥) × (o ≡ option.DestinationAddress → ⊥) × (o ≡ option.Pattern → ⊥)
 
 -- the value of the form f after its name at a place, with nothing beside it
-abbrev pub ReadsAlone : Form OptionValue → List ℕ → ℕ → Valued → Type 0
+abbrev pub ReadsAlone : Form OptionValue → List ℕ → ℕ → Scanned Value → Type 0
 ReadsAlone f s at v = Reads f s (Parsed at) (option_value_of s v.value [] []) v.cursor × Plain v.value
 
 -- the option of the form f after its name at a place, the pattern bytes before it in the room, and those after it

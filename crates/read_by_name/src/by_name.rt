@@ -16,10 +16,11 @@ use read_options::modifiers::{context_option, distance_option, no_case_option, w
 use read_tests::tests::{
     at_option, field_option, number_option, same_ip_option, size_option, ttl_option,
 };
-use read_value::{Valued, no_addresses};
+use read_value::{Value, no_addresses};
+use scan_cursors::Scanned;
 
 // The value of an option with nothing beside it, read after its name. Left to the last arm is only within.
-fn value_by_name(s: &[u8], at: usize, o: OptionName) -> Valued
+fn value_by_name(s: &[u8], at: usize, o: OptionName) -> Scanned<Value>
     requires { (at ≤ length s.now) × Single o }
     ensures { ReadsAlone (form_of o) s.now at result }
 {
@@ -52,14 +53,11 @@ fn plain_by_name(s: &[u8], at: usize, o: OptionName, used: usize) -> ParsedOptio
     ensures { (bytes : List ℕ) → Parses (form_of o) s.now at (pattern_bytes_of bytes used) (pattern_bytes_of bytes result.used) result }
 {
     let v = value_by_name(s, at, o);
-    let value = v.value;
-    let cursor = v.cursor;
-    let list = no_addresses();
     ParsedOption {
-        value,
-        list,
+        value: v.value,
+        list: no_addresses(),
         used,
-        cursor,
+        cursor: v.cursor,
     }
 }
 

@@ -7,7 +7,7 @@ ghost use Rattle.read_by_name.specs.Parsing.{Parses};
 
 use crate::parsed::ParsedOption;
 use definitions::table::{AddressTest, Side};
-use read_addresses::addresses::then_addresses;
+use read_addresses::addresses::{AddressList, then_addresses};
 use read_quoted::patterns::then_pattern;
 use read_quoted::quoted_names::then_name;
 use read_value::{Value, no_addresses};
@@ -19,16 +19,13 @@ pub fn name_option(s: &[u8], at: usize, used: usize) -> ParsedOption
     requires { at ≤ length s.now }
     ensures { (bytes : List ℕ) → Parses name_form s.now at (pattern_bytes_of bytes used) (pattern_bytes_of bytes result.used) result }
 {
-    let list = no_addresses();
     let c = gap_at(s, at);
     let n = then_name(s, c);
-    let c = n.cursor;
-    let cursor = then_closing(s, c);
     ParsedOption {
-        value: Value::Name(n.from, n.len),
-        list,
+        value: Value::Name(n.value.start, n.value.len),
+        list: no_addresses(),
         used,
-        cursor,
+        cursor: then_closing(s, n.cursor),
     }
 }
 
@@ -39,20 +36,17 @@ pub fn address_option(s: &[u8], at: usize, side: Side, used: usize) -> ParsedOpt
 {
     let c = gap_at(s, at);
     let m = then_optional_literal(s, c, b'!');
-    let c = m.cursor;
-    let l = then_addresses(s, c);
-    let c = l.cursor;
-    let cursor = then_closing(s, c);
-    let list = l.list;
+    let l = then_addresses(s, m.cursor);
+    let AddressList { list, count } = l.value;
     ParsedOption {
         value: Value::Addresses(AddressTest {
             side,
-            negated: m.yes,
-            count: l.count,
+            negated: m.value,
+            count,
         }),
         list,
         used,
-        cursor,
+        cursor: then_closing(s, l.cursor),
     }
 }
 
@@ -61,17 +55,13 @@ pub fn pattern_option(s: &[u8], at: usize, bytes: &mut [u8], used: usize) -> Par
     requires { (at ≤ length s.now) × (length s.now ≤ document_limits.text) × (used ≤ at) × (length bytes.old ≡ document_limits.room) }
     ensures { Parses pattern_form s.now at (pattern_bytes_of bytes.old used) (pattern_bytes_of bytes.new result.used) result }
 {
-    let list = no_addresses();
     let c = gap_at(s, at);
     let m = then_optional_literal(s, c, b'!');
-    let c = m.cursor;
-    let p = then_pattern(s, c, bytes, used);
-    let c = p.cursor;
-    let cursor = then_closing(s, c);
+    let p = then_pattern(s, m.cursor, bytes, used);
     ParsedOption {
-        value: Value::Pattern(m.yes, p.len),
-        list,
-        used: p.used,
-        cursor,
+        value: Value::Pattern(m.value, p.value.len),
+        list: no_addresses(),
+        used: p.value.used,
+        cursor: then_closing(s, p.cursor),
     }
 }

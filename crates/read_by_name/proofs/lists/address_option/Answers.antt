@@ -14,7 +14,7 @@ returns c =
     let h = c.requires in
     let q = c.then_addresses-l.ensures in
     let v = fmap_reads _ (pair_reads c.gap_at-c.ensures.1.inside c.then_optional_literal-m.ensures q.1.read) in
-    let r = valued_reads h c.gap_at-c.ensures v c.then_closing-cursor.ensures in
+    let r = valued_reads h c.gap_at-c.ensures v c.then_closing.ensures in
     λ bytes.
     record {
       al = q.0;

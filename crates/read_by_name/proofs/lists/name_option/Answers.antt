@@ -16,16 +16,16 @@ use Rattle.read_by_name.proofs.lists.name_option.Goals as goal
 pub returns : goal.returns
 unfolding option_value_of
 returns c =
-    let v = option_value_of c.args.s.now (Name c.then_name-n.result.from c.then_name-n.result.len) [] [] in
+    let v = option_value_of c.args.s.now (Name c.then_name-n.result.value.start c.then_name-n.result.value.len) [] [] in
     let q = c.then_name-n.ensures in
-    let r : Reads name_form c.args.s.now (Parsed c.args.at) v c.then_closing-cursor.result = valued_reads c.requires c.gap_at-c.ensures (fmap_reads _ q.read) c.then_closing-cursor.ensures in
+    let r : Reads name_form c.args.s.now (Parsed c.args.at) v c.then_closing.result = valued_reads c.requires c.gap_at-c.ensures (fmap_reads _ q.read) c.then_closing.ensures in
     λ bytes.
     record {
       al = [];
       b = [];
       reads = r;
-      kept = c.no_addresses-list.ensures;
+      kept = c.no_addresses.ensures;
       stored = appended_none (pattern_bytes_of bytes _);
-      apart = λ k e. let m = came_parsed c.then_closing-cursor.ensures.1 e in (q.low m.0 m.1, q.high m.0 m.1, q.inside, refl, refl);
+      apart = λ k e. let m = came_parsed c.then_closing.ensures.1 e in (q.low m.0 m.1, q.high m.0 m.1, q.inside, refl, refl);
       grown = λ k e. grown_none refl c.requires r k e;
     }

@@ -20,14 +20,14 @@ returns c =
     let q = c.then_pattern-p.ensures in
     let gap = c.gap_at-c.ensures in
     let mark = c.then_optional_literal-m.ensures in
-    let end = c.then_closing-cursor.ensures in
+    let end = c.then_closing.ensures in
     let all = stored_after refl h gap.1 (stored_after refl gap.1.inside mark (stored_before refl mark.inside q.1.stored end.1)) in
     let v = fmap_reads _ (pair_reads gap.1.inside mark q.1.stored.read) in
     record {
       al = [];
       b = q.0;
       reads = valued_reads h gap v end;
-      kept = c.no_addresses-list.ensures;
+      kept = c.no_addresses.ensures;
       stored = q.1.stored.kept;
       apart = λ n e. (q.1.counted, refl);
       grown = λ n e. all.grown n e;
