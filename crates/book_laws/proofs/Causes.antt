@@ -3,7 +3,7 @@
 use Rattle.std.specs.Prelude.{if◌then◌else◌, Result, Ok, Err, ℕ}
 use mathlib.Core.Path.{◌≡◌, refl, ap, sym, ◌∙◌}
 use mathlib.Core.Logic.{◌⊎◌, inl, inr}
-use mathlib.Core.Bool.{Bool, true, false, not, false≢true}
+use mathlib.Core.Bool.{Bool, true, false, not}
 use mathlib.Core.List.{List, [], ◌∷◌}
 use Prim.Native.Nat.{ℕ, suc, ◌+◌, ◌<◌, ◌≤◌}
 use native.Mathlib.Omega.{arith}
@@ -11,6 +11,7 @@ use lib.ListN.{length}
 use lib.Dec.{ltb, leb}
 use borrow.Author.Tests.{ltb-false}
 use Rattle.forms.proofs.Bools.{by_cases}
+use Rattle.forms.proofs.Sound.{never}
 use Rattle.definitions.specs.declared.packets.Direction.{Direction}
 use Rattle.definitions.specs.declared.packets.FieldMap.{FieldMap}
 use Rattle.definitions.specs.declared.answers.Refusal.{Refusal}
@@ -56,9 +57,6 @@ line_among lim n last l =
     (refuse_among book_causes (leb (rule_number l) last) refusal.RuleOrder _ refl
     (ap (among book_causes) (text_number (read lim (rule_source l)).outcome)
     ∙ among_more read_causes book_causes (read_number (read lim (rule_source l)).outcome) refl (read_causes_lem lim (rule_source l)))))
-
-accepted_not : {A : Type 0} (n : ℕ) (r : Refusal) (line : ℕ) → ◌≡◌ {A = Result ℕ BookRefusal} (Ok n) (Err (record { refusal = r; line = line })) → A
-accepted_not n r line e = let z : false ≡ true = cc in absurd (false≢true z)
 
 refused_at_lem : (c r : Refusal) (n line : ℕ)
     → ◌≡◌ {A = Result ℕ BookRefusal} (Err (record { refusal = c; line = n })) (Err (record { refusal = r; line = line })) → n ≡ line
@@ -111,7 +109,7 @@ lines_within : (lim : Limits) (n last : ℕ) (ls : List (List ℕ)) (r : Refusal
     → judge_lines lim n last ls ≡ Err (record { refusal = r; line = line })
     → (n < line) × (line ≤ n + length ls) × (line ≤ suc max_rules)
 unfolding judge_lines
-lines_within lim n last [] r line few e = absurd (accepted_not n r line e)
+lines_within lim n last [] r line few e = never (cc)
 lines_within lim n last (l ∷ ls) r line few e =
     go (line_check lim (suc n) last l) refl e (λ m k. lines_within lim (suc n) (rule_number l) ls r line m k)
   where

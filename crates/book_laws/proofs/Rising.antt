@@ -2,7 +2,7 @@
 use Rattle.std.specs.Prelude.{if◌then◌else◌, Result, Ok, Err, ℕ}
 use mathlib.Core.Path.{◌≡◌, refl}
 use mathlib.Core.Logic.{⊎_elim}
-use mathlib.Core.Bool.{Bool, true, false, not, false≢true}
+use mathlib.Core.Bool.{Bool, true, false, not}
 use mathlib.Core.List.Memᴰ.{cases_cons}
 use mathlib.Core.List.Memᴰ.{not-nil}
 use mathlib.Core.List.{List, [], ◌∷◌, map, Memᴰ as Mem}
@@ -11,6 +11,7 @@ use native.Mathlib.Omega.{arith}
 use lib.ListN.{length}
 use lib.Dec.{ltb, leb}
 use borrow.Author.Tests.{leb-false}
+use Rattle.forms.proofs.Sound.{never}
 use Rattle.definitions.specs.declared.answers.Refusal.{Refusal}
 use Rattle.definitions.specs.declared.answers.Refusal.TheVariants as refusal
 use Rattle.definitions.specs.declared.answers.BookRefusal.{BookRefusal}
@@ -33,12 +34,9 @@ rises_over last (x ∷ rs) h r m =
     (λ n. omega (arith, h.0, rises_over x.number rs h.1 r n))
     (cases_cons m)
 
-refused_not : {A : Type 0} (r : Refusal) (line n : ℕ) → ◌≡◌ {A = Result ℕ BookRefusal} (Err (record { refusal = r; line = line })) (Ok n) → A
-refused_not r line n e = let z : false ≡ true = cc in absurd (false≢true z)
-
 pub passed_line : (d : Result Unit Refusal) (n k : ℕ) (j : Result ℕ BookRefusal) → unless_line d n j ≡ Ok k → (d ≡ Ok tt) × (j ≡ Ok k)
 passed_line (Ok tt) n k j e = (refl, e)
-passed_line (Err r) n k j e = refused_not r n k e
+passed_line (Err r) n k j e = never (cc)
 
 module _ (lim : Limits) where
   -- the number of a line that passes is larger
@@ -64,7 +62,7 @@ module _ (lim : Limits) where
     where
       go : (b : Bool) → (if b then Err (record { refusal = refusal.BookLength; line = 0 }) else judge_lines lim 0 0 (book_lines book)) ≡ Ok n
           → (b ≡ false) × (judge_lines lim 0 0 (book_lines book) ≡ Ok n)
-      go true h = refused_not refusal.BookLength 0 n h
+      go true h = never (cc)
       go false h = (refl, h)
 
   pub rules_rise : (book : List ℕ) (n : ℕ) → judge lim book ≡ Ok n → Rises 0 (rules_of book)
