@@ -4,7 +4,7 @@ use mathlib.Core.Path.{◌≡◌, refl, sym}
 use mathlib.Core.Bool.{Bool, true, false, ◌&&◌, and-false}
 use Prim.Native.Nat.{ℕ, ◌+◌, ◌-◌, ◌≤◌, ◌<◌, min}
 use native.Mathlib.Omega.{arith}
-use lib.Dec.{ltb, leb}
+use lib.Dec.{ltb, leb, leb-zero}
 use lib.IntN.{ℤ, pos, negsuc, ◌+ℤ◌}
 use lib.Signed.{le_z}
 use borrow.Author.Tests.{ltb-true, leb-true, leb-false, lt-ltb, le-ltb, le-leb, lt-leb}
@@ -16,7 +16,6 @@ use Rattle.match_windows.specs.declared.Window.{Window}
 use Rattle.definitions.specs.declared.packets.Match.{Match}
 use Rattle.match_windows.specs.Spans.{Spans}
 use Rattle.match_windows.specs.Ends.{clip, ends_to}
-use Rattle.match_windows.proofs.Clips.{le_clip}
 
 same_test : (a b : Bool) → (a ≡ true → b ≡ true) → (b ≡ true → a ≡ true) → a ≡ b
 same_test true b f g = sym (f refl)
@@ -65,15 +64,9 @@ limited s (pos k) len n at =
           (leb (min s (len + 1)) at),
     ))
 
--- the span's end where a reach is given
-module _ (s : ℤ) (w : Option WithinValue) (v : WithinValue) (len n : ℕ) (e : w ≡ Some v) where
-  pub to_none : le_z (pos n) (s +ℤ pos v.number) ≡ false → 0 ≡ ends_to s w len n
-  unfolding ends_to
-  to_none f = rw (e, f)
-
-  pub to_some : le_z (pos n) (s +ℤ pos v.number) ≡ true → (r : ℕ) → r ≡ min (clip (s +ℤ pos v.number)) len + 1 - n → r ≡ ends_to s w len n
-  unfolding ends_to
-  to_some f r q = rw (e, f) q
+le_clip : (z : ℤ) (at : ℕ) → le_z z (pos at) ≡ leb (clip z) at
+le_clip (pos n) at = refl
+le_clip (negsuc n) at = sym (leb-zero at)
 
 exactly : (s : ℤ) (w : Option WithinValue) (len n at : ℕ)
     → (le_z s (pos at) && before_end s w len (at + n)) ≡ (leb (min (clip s) (len + 1)) at && ltb at (ends_to s w len n))

@@ -1,5 +1,2 @@
--- Signed numbers as starts, and the exact span of a window.
-pub mod Bases
-pub mod Sums
-pub mod Clips
+-- The exact span of a window.
 pub mod Exact

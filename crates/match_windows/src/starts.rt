@@ -1,6 +1,6 @@
 // The window of a pattern. Its start is a signed number, which may be negative; it is compared with lengths before it becomes a place.
-ghost use Rattle.std.specs.Prelude.{◌≡◌, true, ◌+◌, ◌-◌, ◌<◌, min, pos, ◌+ℤ◌, ◌-ℤ◌};
-ghost use Rattle.std.specs.Int.Signed.{mag, le_z};
+ghost use Rattle.std.specs.Prelude.{◌≡◌, ◌+◌, ◌-◌, ◌<◌, min};
+ghost use Rattle.std.specs.Int.Signed.{mag};
 ghost use Rattle.definitions.specs.Windows as windows;
 ghost use Rattle.match_windows.specs.Spans.{size_bound, start_bound, Measured, Spans};
 ghost use Rattle.match_windows.specs.Ends.{clip, Begins, ends_to};
@@ -12,10 +12,7 @@ use definitions::table::{DistanceValue, Pattern, Reference, WithinValue};
 fn last_end(last: Option<Match>) -> usize
     ensures { result ≡ windows.last_end last }
 {
-    match last {
-        None => 0,
-        Some(m) => m.end,
-    }
+    last.map_or(0, |m| m.end)
 }
 
 // What a range is counted from.
@@ -24,30 +21,8 @@ fn base(last: Option<Match>, reference: Reference) -> usize
 {
     match reference {
         Reference::Match => last_end(last),
-        Reference::Packet => 0,
-        Reference::Context => 0,
+        Reference::Packet | Reference::Context => 0,
     }
-}
-
-fn forward(r: usize, offset: i32) -> i64
-    requires { r < size_bound }
-    ensures { result ≡ pos r +ℤ offset }
-{
-    r as i64 + offset as i64
-}
-
-fn backward(len: usize, offset: i32) -> i64
-    requires { len < size_bound }
-    ensures { result ≡ pos len -ℤ offset }
-{
-    len as i64 - offset as i64
-}
-
-fn unshifted(r: usize) -> i64
-    requires { r < size_bound }
-    ensures { result ≡ pos r }
-{
-    r as i64
 }
 
 fn shifted(last: Option<Match>, len: usize, d: DistanceValue) -> i64
@@ -55,70 +30,34 @@ fn shifted(last: Option<Match>, len: usize, d: DistanceValue) -> i64
     ensures { Begins (windows.shifted last len d) result }
 {
     if d.reverse {
-        return backward(len, d.offset);
-    }
-    let reference = d.reference;
-    let r = base(last, reference);
-    forward(r, d.offset)
-}
-
-// The start where no distance is given.
-fn reached(last: Option<Match>, within: Option<WithinValue>) -> i64
-    requires { windows.last_end last < size_bound }
-    ensures { Begins (windows.window_start last 0 None within) result }
-{
-    match within {
-        None => 0,
-        Some(w) => {
-            let reference = w.reference;
-            let r = base(last, reference);
-            unshifted(r)
-        }
+        len as i64 - i64::from(d.offset)
+    } else {
+        base(last, d.reference) as i64 + i64::from(d.offset)
     }
 }
 
-fn window_start(last: Option<Match>, len: usize, distance: Option<DistanceValue>, within: Option<WithinValue>) -> i64
+fn window_start(
+    last: Option<Match>,
+    len: usize,
+    distance: Option<DistanceValue>,
+    within: Option<WithinValue>,
+) -> i64
     requires { (windows.last_end last < size_bound) × (len < size_bound) }
     ensures { Begins (windows.window_start last len distance within) result }
 {
-    match distance {
-        None => reached(last, within),
-        Some(d) => shifted(last, len, d),
+    match (distance, within) {
+        (Some(d), _) => shifted(last, len, d),
+        (None, Some(w)) => base(last, w.reference) as i64,
+        (None, None) => 0,
     }
 }
 
-fn window_end(s: i64, number: u16) -> i64
-    requires { mag s < start_bound }
-    ensures { result ≡ s +ℤ pos number }
-{
-    s + number as i64
-}
-
-// So many bytes from 0 on stand before the end.
-fn reaches(e: i64, n: usize) -> bool
-    requires { n < size_bound }
-    ensures { result ≡ le_z (pos n) e }
-{
-    (n as i64) <= e
-}
-
-// No less than 0: the start that counts for a place, not for the window's end.
-fn raised(z: i64) -> i64
-    requires { mag z < start_bound }
-    ensures { Begins (pos (clip z)) result }
-{
-    if z < 0 { 0 } else { z }
-}
-
-// A signed number, not negative, as a place: `most` where it is larger.
+// A signed number as a place: 0 where it is negative, `most` where it is larger.
 fn place(z: i64, most: usize) -> usize
-    requires { (most < start_bound) × (le_z (pos 0) z ≡ true) }
+    requires { most < start_bound }
     ensures { result ≡ min (clip z) most }
 {
-    if (most as i64) < z {
-        return most;
-    }
-    z as usize
+    z.clamp(0, most as i64) as usize
 }
 
 // How many starts leave room for n bytes before an end.
@@ -126,9 +65,10 @@ fn room(end: usize, n: usize) -> usize
     requires { end < size_bound }
     ensures { result ≡ end + 1 - n }
 {
-    if end < n { 0 } else { end - n + 1 }
+    (end + 1).saturating_sub(n)
 }
 
+#[tactic(auto, unfolding(crate::specs::Ends::ends_to))]
 fn starts_to(s: i64, within: Option<WithinValue>, len: usize, n: usize) -> usize
     requires { (mag s < start_bound) × (len < size_bound) × (n < size_bound) }
     ensures { result ≡ ends_to s within len n }
@@ -136,24 +76,22 @@ fn starts_to(s: i64, within: Option<WithinValue>, len: usize, n: usize) -> usize
     let Some(w) = within else {
         return room(len, n);
     };
-    let e = window_end(s, w.number);
-    if !reaches(e, n) {
+    let end = s + i64::from(w.number);
+    if end < n as i64 {
         return 0;
     }
-    let end = place(e, len);
-    room(end, n)
+    room(place(end, len), n)
 }
 
 // The starts at which the pattern lies within its window over a field of `len` bytes.
+#[tactic(auto, using(crate::proofs::Exact::spans))]
 pub fn window(p: Pattern, last: Option<Match>, len: usize) -> Window
     requires { Measured p last len }
     ensures { Spans p last len result }
 {
-    let distance = p.distance;
-    let within = p.within;
-    let s = window_start(last, len, distance, within);
-    let first = raised(s);
-    let from = place(first, len + 1);
-    let to = starts_to(s, within, len, p.len);
-    Window { from, to }
+    let s = window_start(last, len, p.distance, p.within);
+    Window {
+        from: place(s, len + 1),
+        to: starts_to(s, p.within, len, p.len),
+    }
 }
