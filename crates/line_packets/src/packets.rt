@@ -15,19 +15,21 @@ pub struct PacketColumns {
 }
 
 // What the four columns say, if each is of its form.
-pub fn parse_packet(origin: &[u8], packet: &[u8], fields: &[u8], decoded: &[u8]) -> Option<PacketColumns>
+pub fn parse_packet(
+    origin: &[u8],
+    packet: &[u8],
+    fields: &[u8],
+    decoded: &[u8],
+) -> Option<PacketColumns>
     ensures { result ≡ parsed_packet origin.now packet.now fields.now decoded.now }
 {
     let direction = parse_direction(origin)?;
     if !is_hex_pairs(packet) {
         return None;
     }
-    let map = parse_map(fields)?;
+    let fields = parse_map(fields)?;
     if !is_hex_pairs(decoded) {
         return None;
     }
-    Some(PacketColumns {
-        direction,
-        fields: map,
-    })
+    Some(PacketColumns { direction, fields })
 }
