@@ -3,7 +3,7 @@
 
 ghost use Rattle.std.specs.Prelude.{◌≡◌};
 ghost use Rattle.write_bytes.specs.Puts.{Puts};
-ghost use Rattle.replay_laws.specs.Replays.{pass, hold, bad, outcome_text};
+ghost use Rattle.replay_laws.specs.Replays.{outcome_text};
 ghost use Rattle.replay_totals.specs.OutcomeNumbers.{outcome_of};
 ghost use Rattle.replay_totals.specs.Totals.{no_totals, counted, total_text};
 
@@ -18,7 +18,7 @@ pub struct Totals {
     pub bad: u64,
 }
 
-// The number of a bad line; no decision has it.
+// The number of a bad line; no decision has it. What is said of a line stays the number that a block's answers have, so that these are taken as they are.
 pub const BAD: u32 = 131072;
 
 // The number of a pass is the deciding rule's and so much more.
@@ -35,52 +35,26 @@ pub fn no_totals() -> Totals
     }
 }
 
-// With a line more that passed.
-fn with_pass(t: Totals) -> Totals
-    ensures { result ≡ counted t (pass 0) }
-{
-    Totals {
-        passes: next_number(t.passes),
-        holds: t.holds,
-        bad: t.bad,
-    }
-}
-
-// With a line more that was held.
-fn with_hold(t: Totals) -> Totals
-    ensures { result ≡ counted t (hold 0) }
-{
-    Totals {
-        passes: t.passes,
-        holds: next_number(t.holds),
-        bad: t.bad,
-    }
-}
-
-// With a line more that was bad.
-fn with_bad(t: Totals) -> Totals
-    ensures { result ≡ counted t bad }
-{
-    let holds = t.holds;
-    let bad = next_number(t.bad);
-    Totals {
-        passes: t.passes,
-        holds,
-        bad,
-    }
-}
-
 // With a line of this number.
 pub fn count(t: Totals, n: u32) -> Totals
     ensures { result ≡ counted t (outcome_of n) }
 {
     if n == BAD {
-        return with_bad(t);
+        return Totals {
+            bad: next_number(t.bad),
+            ..t
+        };
     }
     if PASS <= n {
-        return with_pass(t);
+        return Totals {
+            passes: next_number(t.passes),
+            ..t
+        };
     }
-    with_hold(t)
+    Totals {
+        holds: next_number(t.holds),
+        ..t
+    }
 }
 
 // What is said of a line of this number: `pass`, `hold` or `bad`, tab, the deciding rule.
