@@ -6,7 +6,7 @@ use Prim.Native.Nat.{ℕ}
 use native.Mathlib.Omega.{arith}
 use lib.ListN.{length}
 use lib.Dec.{eqb}
-use borrow.Author.Tests.{eq-eqb, ne_eqb}
+use borrow.Author.Tests.{ne_eqb}
 use Rattle.definitions.specs.Lists.{none?}
 use Rattle.definitions.specs.Parts.{contains, part_before, part_after}
 use Rattle.case_columns.specs.Queries.{is_enclosed}
@@ -22,13 +22,13 @@ module _ (l : List ℕ) where
 
   -- x stands before the `(`, r after it
   module _ (opened : contains 40 l ≡ true) (x : List ℕ) (xe : x ≡ part_before 40 l) where
-    pub late_opening : (length x ≡ 0 → ⊥) → false ≡ is_enclosed l
+    pub late_opening : eqb (length x) 0 ≡ false → false ≡ is_enclosed l
     unfolding is_enclosed
-    late_opening n = rw (opened, sym (none_by x ∙ ap none? xe) ∙ ne_eqb (length x) 0 n)
+    late_opening n = rw (opened, sym (none_by x ∙ ap none? xe) ∙ n)
 
-    module _ (empty : length x ≡ 0) (r : List ℕ) (re : r ≡ part_after 40 l) where
+    module _ (empty : eqb (length x) 0 ≡ true) (r : List ℕ) (re : r ≡ part_after 40 l) where
       at_once : none? (part_before 40 l) ≡ true
-      at_once = sym (none_by x ∙ ap none? xe) ∙ eq-eqb (length x) 0 empty
+      at_once = sym (none_by x ∙ ap none? xe) ∙ empty
 
       pub no-closing : contains 41 r ≡ false → false ≡ is_enclosed l
       unfolding is_enclosed

@@ -1,10 +1,8 @@
 // The column that a line of cases alone has, the query: `all`, `first`, or an earlier placement such as `(2,9)` or `()`.
 #![tactic(auto)]
 
-ghost use Rattle.std.specs.Prelude.{◌≡◌, []};
-ghost use Rattle.definitions.specs.Starts.{start_at};
-ghost use Rattle.definitions.specs.Answers.{placement_of};
-ghost use Rattle.case_columns.specs.Queries.{is_enclosed, is_kind, parsed_starts, parsed_next, parsed_query};
+ghost use Rattle.std.specs.Prelude.{◌≡◌};
+ghost use Rattle.case_columns.specs.Queries.{is_enclosed, parsed_starts, parsed_next, parsed_query};
 
 use definitions::limits::PATTERNS;
 use definitions::packets::{Placement, Start};
@@ -12,49 +10,16 @@ use line_numbers::decimals::parse_decimal;
 use line_parts::{contains, is_word, part_after, part_before};
 use match_starts::start_at;
 
-// What is asked: all placements, the first, the next one after a placement; or the bytes are no ask.
+// What is asked: all placements, the first, or the next one after a placement.
 #[derive(Clone, Copy)]
-pub enum Kind {
+pub enum Query {
     All,
     First,
-    Next,
-    Bad,
-}
-
-// What is asked, and after which placement; it is empty but for `Next`. An enum with the placement in it would hold an array.
-#[derive(Clone, Copy)]
-pub struct Queried {
-    pub kind: Kind,
-    pub placement: Placement,
+    Next(Placement),
 }
 
 // The largest start.
 const MAX_START: u64 = 18446744073709551615;
-
-// Whether it is a query.
-pub fn is_query(kind: Kind) -> bool
-    ensures { result ≡ is_kind kind }
-{
-    match kind {
-        Kind::All => true,
-        Kind::First => true,
-        Kind::Next => true,
-        Kind::Bad => false,
-    }
-}
-
-// With the placement of no starts.
-fn plain_query(kind: Kind) -> Queried
-    ensures { result ≡ record { kind = kind; placement = placement_of [] } }
-{
-    Queried {
-        kind,
-        placement: Placement {
-            count: 0,
-            starts: [Start { at: 0 }; PATTERNS],
-        },
-    }
-}
 
 // Whether `(` is the first byte and `)` the last.
 fn is_enclosed(s: &[u8]) -> bool
@@ -63,71 +28,56 @@ fn is_enclosed(s: &[u8]) -> bool
     if !contains(s, b'(') {
         return false;
     }
-    if part_before(s, b'(').len() != 0 {
+    if !part_before(s, b'(').is_empty() {
         return false;
     }
     let rest = part_after(s, b'(');
     if !contains(rest, b')') {
         return false;
     }
-    part_after(rest, b')').len() == 0
+    part_after(rest, b')').is_empty()
 }
 
-// The start that a number names.
-fn start_of(n: u64) -> Start
-    ensures { result ≡ start_at n }
-{
-    start_at(n as usize)
-}
-
-// The next one after the placement whose starts stand between the commas.
-fn parse_starts(s: &[u8]) -> Queried
+// The placement whose starts stand between the commas; none for other bytes, here and below.
+fn parse_starts(s: &[u8]) -> Option<Placement>
     ensures { result ≡ parsed_starts s.now }
 {
-    if s.len() == 0 {
-        return plain_query(Kind::Next);
-    }
     let mut starts = [Start { at: 0 }; PATTERNS];
     let mut count = 0;
-    let mut at = 0;
-    while at <= s.len() {
-        let e = part_before(&s[at..], b',');
-        let Some(n) = parse_decimal(e, MAX_START) else {
-            return plain_query(Kind::Bad);
-        };
+    if s.is_empty() {
+        return Some(Placement { count, starts });
+    }
+    for e in s.split(|b| *b == b',') {
+        let n = parse_decimal(e, MAX_START)?;
         if PATTERNS <= count {
-            return plain_query(Kind::Bad);
+            return None;
         }
-        starts[count] = start_of(n);
+        starts[count] = start_at(n as usize);
         count += 1;
-        at += e.len() + 1;
     }
-    Queried {
-        kind: Kind::Next,
-        placement: Placement { count, starts },
-    }
+    Some(Placement { count, starts })
 }
 
 // The starts between the brackets.
-fn parse_next(s: &[u8]) -> Queried
+fn parse_next(s: &[u8]) -> Option<Placement>
     ensures { result ≡ parsed_next s.now }
 {
     if !is_enclosed(s) {
-        return plain_query(Kind::Bad);
+        return None;
     }
-    let rest = part_after(s, b'(');
-    parse_starts(part_before(rest, b')'))
+    parse_starts(part_before(part_after(s, b'('), b')'))
 }
 
 // The query of a column.
-pub fn parse_query(s: &[u8]) -> Queried
+pub fn parse_query(s: &[u8]) -> Option<Query>
     ensures { result ≡ parsed_query s.now }
 {
     if is_word(s, b"all") {
-        return plain_query(Kind::All);
+        return Some(Query::All);
     }
     if is_word(s, b"first") {
-        return plain_query(Kind::First);
+        return Some(Query::First);
     }
-    parse_next(s)
+    let placement = parse_next(s)?;
+    Some(Query::Next(placement))
 }
