@@ -9,13 +9,13 @@ use Rattle.guard_packets.proofs.record_length.Goals as goal
 pub overflow_add-result : goal.overflow_add-result
 overflow_add-result c =
     let s = c.args.s.now in
-    let bytes : (k : ℕ) → get_or s k 0 < 256 = λ k. (c.shared_slice_known-1.given k).fits in
+    let bytes : (k : ℕ) → get_or s k 0 < 256 = λ k. (c.type_inv.s k).fits in
     omega (arith, c.number_at.ensures, pair_below s 2 bytes)
 
 pub overflow_add-result-2 : goal.overflow_add-result-2
 overflow_add-result-2 c =
     let s = c.args.s.now in
-    let bytes : (k : ℕ) → get_or s k 0 < 256 = λ k. (c.shared_slice_known-1.given k).fits in
+    let bytes : (k : ℕ) → get_or s k 0 < 256 = λ k. (c.type_inv.s k).fits in
     omega (arith, c.number_at.ensures, c.number_at-2.ensures, pair_below s 2 bytes, pair_below s 4 bytes)
 
 pub returns : goal.returns
