@@ -1,6 +1,6 @@
 -- What a well-formed table gives the search: no more items than there is room for, each pattern's bytes among the table's, a start for each positive
 -- pattern; and each placement listed has as many starts.
-use Rattle.std.specs.Prelude.{None}
+use Rattle.std.specs.Prelude.{Option, None}
 use mathlib.Core.Path.{◌≡◌, sym, ◌∙◌}
 use mathlib.Core.Bool.{Bool, true, false}
 use mathlib.Core.List.{List, [], ◌∷◌, Memᴰ as Mem}
@@ -17,6 +17,7 @@ use Rattle.definitions.specs.declared.table.Slot.{Slot}
 use Rattle.definitions.specs.declared.table.Table.{Table}
 use Rattle.definitions.specs.declared.packets.Direction.{Direction}
 use Rattle.definitions.specs.declared.packets.Start.{Start}
+use Rattle.definitions.specs.declared.packets.Placement.{Placement}
 use Rattle.definitions.specs.Limits.{max_items, max_patterns, max_byte}
 use Rattle.definitions.specs.Lists.{keep, all?}
 use Rattle.definitions.specs.Items.{Kind, unused, addressed, patterned, plain_test, kind_of, slots_of, pattern_first, patterns_of, after_item}
@@ -28,8 +29,7 @@ use Rattle.laws.proofs.Keep.{keep_in}
 use Rattle.laws.proofs.Listing.{placements_meet, meets_length}
 use Rattle.table_well_formed.proofs.Forming as forming
 use Rattle.match_windows.specs.Spans.{size_bound}
-use Rattle.search_state.specs.declared.outcomes.Outcome.{Outcome}
-use Rattle.search_state.specs.Outcomes.{nothing, outcome_of}
+use Rattle.search_state.specs.Outcomes.{outcome_of}
 use Rattle.search_state.specs.Choosing.{answer, after_if}
 use Rattle.search_state.proofs.Extending.{first_outcome}
 use Rattle.search_items.specs.Items.{ReadyItems}
@@ -109,7 +109,7 @@ module _ (t : Table) {s d : List ℕ} (ready : Searchable t.items t.count t.byte
     short q m = let e = meets_length v (items_of t) None q (placements_meet v (items_of t) None q m) in omega (arith, few_positives)
 
     module _ (dir : Direction) (on-bound : Bool) (p : List Start) where
-      pub found_first : (h : Bool) → h ≡ head_holds t v dir → h ≡ true → (x : Outcome)
+      pub found_first : (h : Bool) → h ≡ head_holds t v dir → h ≡ true → (x : Option Placement)
           → x ≡ answer (placement_of []) on-bound p (placements v (constraints (slots_of t) t.bytes) None)
           → x ≡ outcome_of (keep (after_if on-bound p) (listed t v dir))
       unfolding answer listed items_of
@@ -119,7 +119,6 @@ module _ (t : Table) {s d : List ℕ} (ready : Searchable t.items t.count t.byte
           ∙ rw (sym e ∙ n)
 
 pub found_none : (t : Table) (v : View) (dir : Direction) (on-bound : Bool) (p : List Start) (h : Bool) → h ≡ head_holds t v dir → h ≡ false
-    → (x : Outcome) → x ≡ nothing
-    → x ≡ outcome_of (keep (after_if on-bound p) (listed t v dir))
+    → None ≡ outcome_of (keep (after_if on-bound p) (listed t v dir))
 unfolding listed keep
-found_none t v dir on-bound p h e n x i = rw (sym e ∙ n) i
+found_none t v dir on-bound p h e n = rw (sym e ∙ n)

@@ -10,12 +10,12 @@ ghost use Rattle.search_state.specs.Choosing.{after_if};
 ghost use Rattle.search.specs.Searching.{searched_table, Searchable};
 
 use definitions::limits::{ITEMS, PATTERNS};
-use definitions::packets::{Direction, FieldMap, PacketHeader, Start};
+use definitions::packets::{Direction, FieldMap, PacketHeader, Placement, Start};
 use definitions::table::{Flow, Slot};
 use match_items::heads::head_holds;
 use search_items::from_item;
+use search_state::chosen::empty;
 use search_state::input::SearchInput;
-use search_state::outcomes::{Outcome, empty, no_match};
 
 // THE SEARCH: the first of the list of placements; where `on_bound`, the first after the one with the starts in `bound`.
 pub fn find<'a>(
@@ -31,12 +31,12 @@ pub fn find<'a>(
     m: FieldMap,
     bound: [Start; PATTERNS],
     on_bound: bool,
-) -> Outcome
+) -> Option<Placement>
     requires { Searchable items count bytes.now payload.now decoded.now }
     ensures { result ≡ outcome_of (keep (after_if on_bound bound) (listed (searched_table protocol flow items count bytes.now) (seen header payload.now decoded.now m) dir)) }
 {
     if !head_holds(protocol, flow, header, dir) {
-        return no_match();
+        return None;
     }
     let input = SearchInput {
         items,
@@ -45,14 +45,5 @@ pub fn find<'a>(
         map: m,
         bound,
     };
-    from_item(
-        input,
-        0,
-        bytes,
-        payload,
-        decoded,
-        None,
-        empty(),
-        on_bound,
-    )
+    from_item(input, 0, bytes, payload, decoded, None, empty(), on_bound)
 }

@@ -8,8 +8,7 @@ pub returns-then-not-head_holds : goal.returns-then-not-head_holds
 returns-then-not-head_holds c =
     let x = c.args in
     found_none (searched_table x.protocol x.flow x.items x.count x.bytes.now) (seen x.header x.payload.now x.decoded.now x.m) x.dir
-    x.on_bound x.bound c.head_holds.result c.head_holds.ensures c.if-not-head_holds.true c.no_match.result
-    c.no_match.ensures
+    x.on_bound x.bound c.head_holds.result c.head_holds.ensures c.if-not-head_holds.true
 
 pub from_item-requires : goal.from_item-requires
 from_item-requires c =
