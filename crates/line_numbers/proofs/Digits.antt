@@ -71,10 +71,6 @@ pub record Kept (limit : ℕ) (s : List ℕ) (v i : ℕ) : Type 0 where
   pub sum : value_of 10 0 s ≡ value_of 10 v (drop i s)
   pub digits : all? (has decimal_digits) s ≡ all? (has decimal_digits) (drop i s)
 
-pub kept_start : (limit : ℕ) (s : List ℕ) → (length s ≡ 0 → ⊥) → Kept limit s 0 0
-kept_start limit [] n = absurd (n refl)
-kept_start limit (b ∷ s) n = record { some = refl; place = omega arith; small = omega arith; sum = refl; digits = refl }
-
 module _ (limit : ℕ) (s : List ℕ) (v i : ℕ) (k : Kept limit s v i) (h : i < length s) where
   pub kept_byte : between 48 57 (get_or s i 0) ≡ false → None ≡ parsed_number limit s
   unfolding all?

@@ -1,28 +1,24 @@
 -- When bytes are pairs of hex digits: `-`, or digits to the end, an even count of them and more than none.
+use Rattle.std.specs.List.{fold}
 use mathlib.Core.Path.{◌≡◌, refl, sym, ◌∙◌}
-use mathlib.Core.Bool.{Bool, true, false, not, ◌&&◌, and_assoc, and-true, and-false}
+use mathlib.Core.Bool.{Bool, true, false, not, ◌&&◌, and_assoc, and-true, and-false, true≢false}
 use mathlib.Core.List.{List, [], ◌∷◌}
-use Prim.Native.Nat.{ℕ, ◌+◌, ◌%◌, ◌≤◌, ◌<◌}
+use Prim.Native.Nat.{ℕ, ◌%◌, ◌≤◌}
 use native.Mathlib.Omega.{arith}
-use lib.ListN.{length, get_or, drop, drop_of_length-le}
+use lib.ListN.{length}
 use lib.Dec.{eqb}
 use Rattle.forms.specs.Bytes.{text}
 use Rattle.forms.specs.Form.{has}
 use Rattle.forms.proofs.Bools.{both_left, both_right}
 use Rattle.definitions.specs.Lists.{all?, none?, same_bytes}
 use Rattle.definitions.specs.Numbers.{hex_digits}
-use Rattle.list_laws.proofs.Every.{drop_here}
 use Rattle.line_numbers.specs.HexPairs.{is_hex}
 
 -- every byte is looked at, whatever came before
-module _ (p : ℕ → Bool) (s : List ℕ) (good : Bool) (i : ℕ) (e : all? p s ≡ (good && all? p (drop i s))) where
-  pub each_on : i < length s → all? p s ≡ ((good && p (get_or s i 0)) && all? p (drop (i + 1) s))
-  unfolding all?
-  each_on h = e ∙ rw (drop_here s i 0 h) (sym (and_assoc good (p (get_or s i 0)) (all? p (drop (i + 1) s))))
-
-  pub each_out : length s ≤ i → good ≡ all? p s
-  unfolding all?
-  each_out h = sym (e ∙ rw (drop_of_length-le s h) (and-true good))
+pub each_folded : (p : ℕ → Bool) (good : Bool) (s : List ℕ) → fold (λ (g : Bool) (b : ℕ). g && p b) good s ≡ (good && all? p s)
+unfolding all?
+each_folded p good [] = sym (and-true good)
+each_folded p good (b ∷ s) = each_folded p (good && p b) s ∙ and_assoc good (p b) (all? p s)
 
 not_short : (l : List ℕ) → 2 ≤ length l → same_bytes l (text "-") ≡ false
 unfolding same_bytes
@@ -44,12 +40,12 @@ module _ (l : List ℕ) (e : same_bytes l (text "-") ≡ false) where
   unfolding is_hex
   hex_other f = rw (e, f) (sym (and-false (not (none? l))))
 
-  pub hex_even : (length l ≡ 0 → ⊥) → all? (has hex_digits) l ≡ true → eqb (length l % 2) 0 ≡ is_hex l
+  pub hex_even : eqb (length l) 0 ≡ false → all? (has hex_digits) l ≡ true → eqb (length l % 2) 0 ≡ is_hex l
   unfolding is_hex
   hex_even n t = rw (e, t, some l n)
     where
-      some : (k : List ℕ) → (length k ≡ 0 → ⊥) → none? k ≡ false
-      some [] m = absurd (m refl)
+      some : (k : List ℕ) → eqb (length k) 0 ≡ false → none? k ≡ false
+      some [] m = absurd (true≢false m)
       some (b ∷ k) m = refl
 
 pub hex_all : (l : List ℕ) → is_hex l ≡ true → 2 ≤ length l → all? (has hex_digits) l ≡ true

@@ -9,22 +9,19 @@ pub fn parse_decimal(s: &[u8], limit: u64) -> Option<u64>
     requires { 9 ≤ limit }
     ensures { result ≡ parsed_number limit s.now }
 {
-    if s.len() == 0 {
+    if s.is_empty() {
         return None;
     }
     let mut v: u64 = 0;
-    let mut i = 0;
-    while i < s.len() {
-        let b = s[i];
-        if !is_between(b'0', b'9', b) {
+    for b in s {
+        if !is_between(b'0', b'9', *b) {
             return None;
         }
-        let d = (b - b'0') as u64;
+        let d = (*b - b'0') as u64;
         if (limit - d) / 10 < v {
             return None;
         }
         v = v * 10 + d;
-        i += 1;
     }
     Some(v)
 }

@@ -23,30 +23,14 @@ fn is_hex_digit(b: u8) -> bool
 fn all_hex(s: &[u8]) -> bool
     ensures { result ≡ all? (has hex_digits) s.now }
 {
-    let mut good = true;
-    let mut i = 0;
-    while i < s.len() {
-        good = good & is_hex_digit(s[i]);
-        i += 1;
-    }
-    good
+    s.iter().fold(true, |good, b| good & is_hex_digit(*b))
 }
 
 // Whether the bytes are pairs of hex digits, or `-`.
 pub fn is_hex_pairs(s: &[u8]) -> bool
     ensures { result ≡ is_hex s.now }
 {
-    if is_word(s, b"-") {
-        return true;
-    }
-    let len = s.len();
-    if len == 0 {
-        return false;
-    }
-    if !all_hex(s) {
-        return false;
-    }
-    len % 2 == 0
+    is_word(s, b"-") || !s.is_empty() && all_hex(s) && s.len() % 2 == 0
 }
 
 // Two bytes as one number, the first as its low half: the compiler then reads both at once.
@@ -75,12 +59,10 @@ fn put_whole(out: &mut [u8], at: usize, s: &[u8]) -> usize
     ensures { Puts out.old at (pairs s.now) out.new result }
 {
     let n = s.len() / 2;
-    let mut j = 0;
-    while j < n {
+    for j in 0..n {
         out[at + j] = pair_byte(two_at(s, 2 * j));
-        j += 1;
     }
-    at + j
+    at + n
 }
 
 // Pairs, byte by byte.
@@ -89,11 +71,8 @@ fn put_each(out: &mut [u8], at: usize, s: &[u8]) -> usize
     ensures { Puts out.old at (pairs s.now) out.new result }
 {
     let mut next = at;
-    let mut i = 0;
-    let len = s.len();
-    while i + 1 < len {
-        next = put(out, next, pair_byte(two_at(s, i)));
-        i += 2;
+    for j in 0..s.len() / 2 {
+        next = put(out, next, pair_byte(two_at(s, 2 * j)));
     }
     next
 }
@@ -104,12 +83,8 @@ pub fn put_pairs(out: &mut [u8], at: usize, s: &[u8]) -> usize
     ensures { Puts out.old at (pairs s.now) out.new result }
 {
     let n = s.len() / 2;
-    if at <= COUNTED {
-        if n <= COUNTED - at {
-            if at + n <= out.len() {
-                return put_whole(out, at, s);
-            }
-        }
+    if at <= COUNTED && n <= COUNTED - at && at + n <= out.len() {
+        return put_whole(out, at, s);
     }
     put_each(out, at, s)
 }
