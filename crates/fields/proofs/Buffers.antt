@@ -1,13 +1,12 @@
 -- The buffer named is the definitions' buffer, so a part of it is the field's, and what passes it passes.
 use mathlib.Core.Path.{◌≡◌, refl, ap, ◌∙◌, subst}
-use mathlib.Core.Bool.{Bool}
 use mathlib.Core.List.{List}
 use Prim.Native.Nat.{ℕ}
 use denote.Ref.{Bor}
 use Rattle.definitions.specs.declared.table.Context.{Context}
 use Rattle.definitions.specs.declared.table.Context.TheVariants as context
 use Rattle.definitions.specs.declared.packets.FieldMap.{FieldMap}
-use Rattle.definitions.specs.Fields.{buffer_of, span_of, shown, cut, field_span, field_of, passes, field_passes}
+use Rattle.definitions.specs.Fields.{buffer_of, span_of, shown, cut, field_span, field_of}
 use Rattle.field_parts.specs.Parts.{PartOf}
 use Rattle.fields.specs.Places.{own_buffer}
 
@@ -29,7 +28,3 @@ module _ (payload decoded r : Bor (List ℕ)) (m : FieldMap) (c : Context) where
   pub field_bytes_lem : PartOf (own_buffer payload decoded c) (field_span payload.now decoded.now m c) r → r.now ≡ field_of payload.now decoded.now m c
   unfolding field_of
   field_bytes_lem h = h.bytes ∙ ap (cut (field_span payload.now decoded.now m c)) (buffer_buffer (λ x. x.now) payload decoded c)
-
-pub passes_there : (payload decoded : List ℕ) (m : FieldMap) (c : Context) (r : Bool) → r ≡ passes (span_of payload m c) (own_buffer payload decoded c)
-    → r ≡ field_passes payload decoded m c
-passes_there payload decoded m c r h = h ∙ ap (passes (span_of payload m c)) (buffer_buffer (λ (l : List ℕ). l) payload decoded c)

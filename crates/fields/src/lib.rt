@@ -19,9 +19,7 @@ use field_parts::is_at;
 pub fn is_present(m: FieldMap, c: Context) -> bool
     ensures { result ≡ present m c }
 {
-    let place = place_of(0, m, c);
-    let span = place.span;
-    is_at(span)
+    is_at(place_of(0, m, c).span)
 }
 
 // THE FIELD ENTRY: the field's bytes, at their own place in the caller's buffer. An absent field, and one past its buffer, is the empty part at
@@ -31,9 +29,7 @@ pub fn field_of<'a>(payload: &'a [u8], decoded: &'a [u8], m: FieldMap, c: Contex
     ensures part { PartOf (own_buffer payload.entry decoded.entry c) (field_span payload.now decoded.now m c) result }
 {
     let place = place_of(payload.len(), m, c);
-    let buffer = place.buffer;
-    let span = place.span;
-    part_of_one(payload, decoded, buffer, span)
+    part_of_one(payload, decoded, place.buffer, place.span)
 }
 
 // Whether a field is present and its span passes its buffer.
@@ -41,9 +37,7 @@ fn field_passes(payload: &[u8], decoded: &[u8], m: FieldMap, c: Context) -> bool
     ensures { result ≡ field_passes payload.now decoded.now m c }
 {
     let place = place_of(payload.len(), m, c);
-    let buffer = place.buffer;
-    let span = place.span;
-    passes_one(payload, decoded, buffer, span)
+    passes_one(payload, decoded, place.buffer, place.span)
 }
 
 // Refusal 35, if a present field's span passes its buffer.
@@ -51,13 +45,15 @@ pub fn fields_check(payload: &[u8], decoded: &[u8], m: FieldMap) -> Result<(), R
     ensures answer { result ≡ fields_check payload.now decoded.now m }
     ensures numbers { check_numbers result ≡ fields_in_numbers payload.now decoded.now m }
 {
-    let uri = field_passes(payload, decoded, m, Context::Uri);
-    let header = field_passes(payload, decoded, m, Context::Header);
-    let body = field_passes(payload, decoded, m, Context::Body);
-    let banner = field_passes(payload, decoded, m, Context::Banner);
-    let host = field_passes(payload, decoded, m, Context::Host);
-    let file = field_passes(payload, decoded, m, Context::File);
-    if uri | header | body | banner | host | file {
+    let mapped = [
+        Context::Uri,
+        Context::Header,
+        Context::Body,
+        Context::Banner,
+        Context::Host,
+        Context::File,
+    ];
+    if mapped.iter().any(|c| field_passes(payload, decoded, m, *c)) {
         Err(Refusal::FieldSpan)
     } else {
         Ok(())

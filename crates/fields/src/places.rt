@@ -22,31 +22,20 @@ pub struct Place {
     pub span: Option<Span>,
 }
 
-fn lies_in(buffer: Buffer, span: Option<Span>) -> Place
-    ensures { result ≡ record { buffer = buffer; span = span } }
-{
-    Place { buffer, span }
-}
-
 // The place of a context's field beside a payload of so many bytes.
 pub fn place_of(len: usize, m: FieldMap, c: Context) -> Place
     ensures { (payload : List ℕ) → length payload ≡ len → result ≡ field_place payload m c }
 {
-    let uri = m.uri;
-    let header = m.header;
-    let body = m.body;
-    let banner = m.banner;
-    let host = m.host;
-    let file = m.file;
-    match c {
-        Context::Packet => lies_in(Buffer::Payload, Some(Span { start: 0, len })),
-        Context::Uri => lies_in(Buffer::Decoded, uri),
-        Context::Header => lies_in(Buffer::Decoded, header),
-        Context::Body => lies_in(Buffer::Payload, body),
-        Context::Banner => lies_in(Buffer::Payload, banner),
-        Context::Host => lies_in(Buffer::Decoded, host),
-        Context::File => lies_in(Buffer::Payload, file),
-    }
+    let (buffer, span) = match c {
+        Context::Packet => (Buffer::Payload, Some(Span { start: 0, len })),
+        Context::Uri => (Buffer::Decoded, m.uri),
+        Context::Header => (Buffer::Decoded, m.header),
+        Context::Body => (Buffer::Payload, m.body),
+        Context::Banner => (Buffer::Payload, m.banner),
+        Context::Host => (Buffer::Decoded, m.host),
+        Context::File => (Buffer::Payload, m.file),
+    };
+    Place { buffer, span }
 }
 
 // The part of the payload or of the decoded buffer that a field's span shows.

@@ -6,4 +6,4 @@ use Rattle.fields.proofs.is_present.Goals as goal
 
 pub returns : goal.returns
 unfolding present
-returns c = rw (c.place_of-place.ensures [] refl) at c.is_at.ensures
+returns c = rw (c.place_of.ensures [] refl) at c.is_at.ensures
