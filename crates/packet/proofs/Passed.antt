@@ -2,12 +2,11 @@
 use mathlib.Core.Path.{◌≡◌, refl}
 use mathlib.Core.Bool.{Bool, true, false, ◌||◌}
 use mathlib.Core.List.{List}
-use Prim.Native.Nat.{ℕ, ◌-◌, ◌≤◌}
-use native.Mathlib.Nat.{sub-zero}
-use lib.ListN.{length, take, drop}
+use Prim.Native.Nat.{ℕ, ◌≤◌}
+use lib.ListN.{length}
 use lib.Dec.{ltb}
 use borrow.Author.Tests.{ltb-false}
-use Rattle.definitions.specs.Packet.{header_words, header_length, total_length, datagram_of}
+use Rattle.definitions.specs.Packet.{header_words, header_length, total_length}
 
 pub neither_left : (a b : Bool) → (a || b) ≡ false → a ≡ false
 neither_left true b e = e
@@ -30,7 +29,3 @@ lengths p e =
       header = ltb-false (total_length p) (header_length p) (neither_left _ _ rest);
       total = ltb-false (length p) (total_length p) (neither_right (ltb (total_length p) (header_length p)) _ rest);
     }
-
--- the part from the start up to the total length is the datagram
-pub datagram_part : (p : List ℕ) (n : ℕ) → n ≡ total_length p → take (n - 0) (drop 0 p) ≡ datagram_of p
-datagram_part p n e = rw (sub-zero n, e)

@@ -11,37 +11,29 @@ ghost use Rattle.packet.specs.Datagram.{datagram_answer, span_between, payload_s
 use definitions::answers::Refusal;
 use definitions::packets::{PacketHeader, Span};
 use field_parts::part_of;
-use packet_header::big_endian::{be16, be32, be8};
-use packet_header::ip::{buffer_too_long, header_length, is_fragment, not_ipv4, total_length, wrong_lengths};
+use packet_header::big_endian::{be8, be16, be32};
+use packet_header::ip::{
+    buffer_too_long, header_length, is_fragment, not_ipv4, total_length, wrong_lengths,
+};
 use packet_transport::{port_at, protocol_of, transport_length, transport_short};
 
 // The header fields of a datagram.
+#[tactic(auto, unfolding(definitions::specs::Packet::header_of))]
 fn header_of(d: &[u8]) -> PacketHeader
     ensures { result ≡ header_of d.now }
 {
-    let total = total_length(d);
-    let payload = header_length(d) + transport_length(d);
-    let protocol = protocol_of(d);
-    let tos = be8(d, 1);
-    let id = be16(d, 4);
-    let ttl = be8(d, 8);
-    let checksum = be16(d, 10);
-    let source = be32(d, 12);
-    let destination = be32(d, 16);
-    let sport = port_at(d, 0);
-    let dport = port_at(d, 2);
     PacketHeader {
-        total,
-        payload,
-        protocol,
-        tos,
-        id,
-        ttl,
-        checksum,
-        source,
-        destination,
-        sport,
-        dport,
+        total: total_length(d),
+        payload: header_length(d) + transport_length(d),
+        protocol: protocol_of(d),
+        tos: be8(d, 1),
+        id: be16(d, 4),
+        ttl: be8(d, 8),
+        checksum: be16(d, 10),
+        source: be32(d, 12),
+        destination: be32(d, 16),
+        sport: port_at(d, 0),
+        dport: port_at(d, 2),
     }
 }
 
@@ -72,21 +64,15 @@ pub fn packet_header(p: &[u8], decoded: &[u8]) -> Result<PacketHeader, Refusal>
     if wrong_lengths(p) {
         return Err(Refusal::Lengths);
     }
-    let total = total_length(p);
-    datagram_header(&p[0..total])
+    datagram_header(&p[..total_length(p)])
 }
 
 // From a start up to an end; no span where the end comes first.
 fn span_between(start: usize, end: usize) -> Option<Span>
     ensures { result ≡ span_between start end }
 {
-    if end < start {
-        return None;
-    }
-    Some(Span {
-        start,
-        len: end - start,
-    })
+    let len = end.checked_sub(start)?;
+    Some(Span { start, len })
 }
 
 // The payload: the bytes from its start up to the total length, at their own place in the packet; padding is not payload. For header fields that are not
@@ -95,6 +81,5 @@ pub fn payload_of<'a>(p: &'a [u8], f: PacketHeader) -> &'a [u8]
     ensures bytes { result.now ≡ payload_part p.now f }
     ensures part { PartOf p.entry (shown (payload_span f) p.now) result }
 {
-    let span = span_between(f.payload, f.total);
-    part_of(p, span)
+    part_of(p, span_between(f.payload, f.total))
 }

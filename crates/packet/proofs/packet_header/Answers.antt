@@ -1,5 +1,6 @@
 -- Each return rewrites with what the callees ensure of the tests that led there; where 32 is not due the datagram lies in the packet.
-use Rattle.packet.proofs.Passed.{datagram_part}
+use Prim.Native.Nat.{ℕ}
+use lib.ListN.{take}
 use Rattle.definitions.specs.Packet.{packet_check, packet_answer}
 use Rattle.packet.specs.Datagram.{datagram_answer}
 use Rattle.laws.proofs.Numbers.{packet_told}
@@ -39,7 +40,7 @@ unfolding packet_answer packet_check datagram_answer
 returns c =
     let x = c.args in
     let p = x.p.now in
-    let d = datagram_part p c.total_length-total.result c.total_length-total.ensures in
+    let d = ap (λ (n : ℕ). take n p) c.total_length.ensures in
     let z = packet_told p x.decoded.now (rw (
       sym c.buffer_too_long.ensures
           ∙ c.if-buffer_too_long.false,

@@ -5,7 +5,7 @@ use Rattle.packet.proofs.payload_of.Goals as goal
 pub returns : goal.returns
 unfolding payload_part
 returns c =
-    let part = rw c.span_between-span.ensures at c.part_of.ensures in
+    let part = rw c.span_between.ensures at c.part_of.ensures in
     record {
       bytes = part.bytes;
       part = part;
