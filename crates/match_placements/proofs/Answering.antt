@@ -1,6 +1,6 @@
 -- From refusal 35 or 36, or the outcome of a search, to the answers of "first" and "next": only as many starts of the placement held matter as each
 -- placement of the list has.
-use Rattle.std.specs.Prelude.{Result, Ok, Err}
+use Rattle.std.specs.Prelude.{Option, Result, Ok, Err}
 use mathlib.Core.Path.{◌≡◌, refl, sym, ap, ◌∙◌}
 use mathlib.Core.Bool.{true, false}
 use mathlib.Core.List.{List, [], ◌∷◌, Memᴰ as Mem}
@@ -24,7 +24,6 @@ use Rattle.definitions.specs.Answers.{refused_answer, head_of}
 use Rattle.laws.proofs.Rising.{keep_take}
 use Rattle.laws.proofs.Listing.{listed_length}
 use Rattle.fields.specs.Seen.{seen}
-use Rattle.search_state.specs.declared.outcomes.Outcome.{Outcome}
 use Rattle.search_state.specs.Outcomes.{outcome_of}
 use Rattle.search_state.specs.Choosing.{after_if}
 use Rattle.match_answers.specs.Answering.{answer_of}
@@ -52,14 +51,14 @@ module _ (t : Table) (f : PacketHeader) (s d : List ℕ) (dir : Direction) (m : 
       next_refused h = rw (sym ew ∙ k) g
 
     module _ (k : w ≡ Ok tt) where
-      pub first_found : (b : List Start) {x : Outcome} → x ≡ outcome_of (keep (after_if false b) (list_in t f s d dir m)) → y ≡ answer_of x
+      pub first_found : (b : List Start) {x : Option Placement} → x ≡ outcome_of (keep (after_if false b) (list_in t f s d dir m)) → y ≡ answer_of x
           → y ≡ first_in_list t f s d dir m
       unfolding first_in_list
       first_found b e g = g ∙ rw (sym ew ∙ k, e, keep_every b (list_in t f s d dir m)) (answer_head (list_in t f s d dir m))
 
       -- n is the number of positive patterns
       module _ (h : Placement) {n : ℕ} (en : n ≡ positives (items_of t)) where
-        pub next-found : h.count ≡ n → {x : Outcome} → x ≡ outcome_of (keep (after_if true h.starts) (list_in t f s d dir m)) → y ≡ answer_of x
+        pub next-found : h.count ≡ n → {x : Option Placement} → x ≡ outcome_of (keep (after_if true h.starts) (list_in t f s d dir m)) → y ≡ answer_of x
             → y ≡ next_in_list t f s d dir m h
         unfolding next_in_list
         next-found eh e g =

@@ -31,11 +31,11 @@ pub fn first_in<'a>(
     requires { Searchable items count bytes.now payload.now decoded.now }
     ensures { result ≡ first_in_list (searched_table protocol flow items count bytes.now) header payload.now decoded.now dir m }
 {
-    let check = fields_check(payload, decoded, m);
-    if let Err(r) = check {
+    if let Err(r) = fields_check(payload, decoded, m) {
         return refused(r);
     }
-    let x = find(
+    let nothing_to_pass = [Start { at: 0 }; PATTERNS];
+    answered(find(
         protocol,
         flow,
         items,
@@ -46,10 +46,9 @@ pub fn first_in<'a>(
         decoded,
         dir,
         m,
-        [Start { at: 0 }; PATTERNS],
+        nothing_to_pass,
         false,
-    );
-    answered(x)
+    ))
 }
 
 // Refusal 35 or 36, or the least of the list after the placement held, or none.
@@ -69,16 +68,24 @@ pub fn next_in<'a>(
     requires { Searchable items count bytes.now payload.now decoded.now }
     ensures { result ≡ next_in_list (searched_table protocol flow items count bytes.now) header payload.now decoded.now dir m held }
 {
-    let check = fields_check(payload, decoded, m);
-    if let Err(r) = check {
+    if let Err(r) = fields_check(payload, decoded, m) {
         return refused(r); // 35 comes before 36
     }
     if held.count != positive_count(items, count) {
         return refused(Refusal::EarlierCount);
     }
-    let bound = held.starts;
-    let x = find(
-        protocol, flow, items, count, bytes, header, payload, decoded, dir, m, bound, true,
-    );
-    answered(x)
+    answered(find(
+        protocol,
+        flow,
+        items,
+        count,
+        bytes,
+        header,
+        payload,
+        decoded,
+        dir,
+        m,
+        held.starts,
+        true,
+    ))
 }

@@ -10,12 +10,12 @@ pub returns-in-Err : goal.returns-in-Err
 returns-in-Err c =
     let x = c.args in
     let t = searched_table x.protocol x.flow x.items x.count x.bytes.now in
-    first_refused t x.header x.payload.now x.decoded.now x.dir x.m c.fields_check-check.ensures.answer c.in-Err.is
+    first_refused t x.header x.payload.now x.decoded.now x.dir x.m c.fields_check.ensures.answer c.in-Err.is
     c.refused.ensures
 
 pub returns : goal.returns
 returns c =
     let x = c.args in
     let t = searched_table x.protocol x.flow x.items x.count x.bytes.now in
-    first_found t x.header x.payload.now x.decoded.now x.dir x.m c.fields_check-check.ensures.answer c.in_default.is
-    (replicate max_patterns (start_at 0)) c.find-x.ensures c.answered.ensures
+    first_found t x.header x.payload.now x.decoded.now x.dir x.m c.fields_check.ensures.answer c.in_default.is
+    (replicate max_patterns (start_at 0)) c.find.ensures c.answered.ensures

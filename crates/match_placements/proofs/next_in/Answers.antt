@@ -9,7 +9,7 @@ pub returns-in-Err : goal.returns-in-Err
 returns-in-Err c =
     let x = c.args in
     let t = searched_table x.protocol x.flow x.items x.count x.bytes.now in
-    next_refused t x.header x.payload.now x.decoded.now x.dir x.m c.fields_check-check.ensures.answer c.in-Err.is
+    next_refused t x.header x.payload.now x.decoded.now x.dir x.m c.fields_check.ensures.answer c.in-Err.is
     c.refused.ensures x.held
 
 pub returns-then-held-positive_count : goal.returns-then-held-positive_count
@@ -17,7 +17,7 @@ unfolding items_of
 returns-then-held-positive_count c =
     let x = c.args in
     let t = searched_table x.protocol x.flow x.items x.count x.bytes.now in
-    next-uncounted t x.header x.payload.now x.decoded.now x.dir x.m c.fields_check-check.ensures.answer c.in_default.is
+    next-uncounted t x.header x.payload.now x.decoded.now x.dir x.m c.fields_check.ensures.answer c.in_default.is
     x.held (c.positive_count.ensures x.bytes.now) c.if-held-positive_count.true c.refused-then-held-positive_count.ensures
 
 pub returns : goal.returns
@@ -25,5 +25,5 @@ unfolding items_of
 returns c =
     let x = c.args in
     let t = searched_table x.protocol x.flow x.items x.count x.bytes.now in
-    next-found t x.header x.payload.now x.decoded.now x.dir x.m c.fields_check-check.ensures.answer c.in_default.is
-    x.held (c.positive_count.ensures x.bytes.now) c.if-held-positive_count.false c.find-x.ensures c.answered.ensures
+    next-found t x.header x.payload.now x.decoded.now x.dir x.m c.fields_check.ensures.answer c.in_default.is
+    x.held (c.positive_count.ensures x.bytes.now) c.if-held-positive_count.false c.find.ensures c.answered.ensures
