@@ -36,18 +36,12 @@ fn field_bit(f: Option<Span>, weight: u8) -> u8
 fn field_bits(m: FieldMap) -> u8
     ensures { result ≡ field_bits m }
 {
-    let body = m.body;
-    let banner = m.banner;
-    let file = m.file;
-    let uri = m.uri;
-    let header = m.header;
-    let host = m.host;
-    field_bit(body, 1)
-        + field_bit(banner, 2)
-        + field_bit(file, 4)
-        + field_bit(uri, 8)
-        + field_bit(header, 16)
-        + field_bit(host, 32)
+    field_bit(m.body, 1)
+        + field_bit(m.banner, 2)
+        + field_bit(m.file, 4)
+        + field_bit(m.uri, 8)
+        + field_bit(m.header, 16)
+        + field_bit(m.host, 32)
 }
 
 // Start and length; zeros where the field is absent.
@@ -66,18 +60,12 @@ fn put_span(out: &mut [u8], at: usize, f: Option<Span>) -> usize
 fn put_fields(out: &mut [u8], at: usize, m: FieldMap) -> usize
     ensures { Puts out.old at (fields_bytes m) out.new result }
 {
-    let body = m.body;
-    let banner = m.banner;
-    let file = m.file;
-    let uri = m.uri;
-    let header = m.header;
-    let host = m.host;
-    let a1 = put_span(out, at, body);
-    let a2 = put_span(out, a1, banner);
-    let a3 = put_span(out, a2, file);
-    let a4 = put_span(out, a3, uri);
-    let a5 = put_span(out, a4, header);
-    put_span(out, a5, host)
+    let a1 = put_span(out, at, m.body);
+    let a2 = put_span(out, a1, m.banner);
+    let a3 = put_span(out, a2, m.file);
+    let a4 = put_span(out, a3, m.uri);
+    let a5 = put_span(out, a4, m.header);
+    put_span(out, a5, m.host)
 }
 
 // The bytes before the packet, by its length and the decoded buffer's.

@@ -3,6 +3,7 @@
 
 pub mod heads;
 
+ghost use Rattle.std.specs.Option.{is_some, unwrap_or};
 ghost use Rattle.std.specs.Prelude.{◌≡◌, true};
 ghost use Rattle.definitions.specs.Cases.{pairs};
 ghost use Rattle.write_bytes.specs.Puts.{Puts};
@@ -18,13 +19,6 @@ use line_parts::{contains, part_after, part_before};
 // Bytes of a line before its LF.
 pub const TRACE_BYTES: usize = 16384;
 
-// Whether the line has its form, and the place after its record.
-#[derive(Clone, Copy)]
-pub struct Recorded {
-    pub good: bool,
-    pub next: usize,
-}
-
 // The record of columns that are of their form.
 fn put_record(
     out: &mut [u8],
@@ -36,11 +30,10 @@ fn put_record(
     requires { (is_hex packet.now ≡ true) × (is_hex decoded.now ≡ true) }
     ensures { Puts out.old at (record_bytes (record { packet = pairs packet.entry.now; decoded = pairs decoded.now; direction = located.direction; fields = located.fields })) out.new result }
 {
-    let direction = located.direction;
     let a1 = put_head(
         out,
         at,
-        direction,
+        located.direction,
         located.fields,
         packet.len() / 2,
         decoded.len() / 2,
@@ -49,35 +42,26 @@ fn put_record(
     put_pairs(out, a2, decoded)
 }
 
-// The record of a line; nothing if the line is bad.
-pub fn put_line(out: &mut [u8], at: usize, line: &[u8]) -> Recorded
-    ensures good { result.good ≡ is_trace_line line.now }
-    ensures put { Puts out.old at (line_bytes line.now) out.new result.next }
+// The record of a line, and the place after it; none if the line is bad, for which nothing is put.
+pub fn put_line(out: &mut [u8], at: usize, line: &[u8]) -> Option<usize>
+    ensures good { is_some result ≡ is_trace_line line.now }
+    ensures put { Puts out.old at (line_bytes line.now) out.new (unwrap_or result at) }
 {
-    let bad = Recorded {
-        good: false,
-        next: at,
-    };
     if TRACE_BYTES < line.len() {
-        return bad;
+        return None;
     }
     let r1 = part_after(line, b'\t');
     let r2 = part_after(r1, b'\t');
     if !contains(r2, b'\t') {
-        return bad;
+        return None;
     }
     let decoded = part_after(r2, b'\t');
     let packet = part_before(r1, b'\t');
-    let Some(located) = parse_packet(
+    let located = parse_packet(
         part_before(line, b'\t'),
         packet,
         part_before(r2, b'\t'),
         decoded,
-    ) else {
-        return bad;
-    };
-    Recorded {
-        good: true,
-        next: put_record(out, at, packet, decoded, located),
-    }
+    )?;
+    Some(put_record(out, at, packet, decoded, located))
 }

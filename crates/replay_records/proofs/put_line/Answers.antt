@@ -1,7 +1,6 @@
 -- The line's length, its three tabs, and then its columns: nothing is put where one is of another form, and else the record that they make.
 use mathlib.Core.Path.{sym, ◌∙◌}
 use native.Mathlib.Omega.{arith}
-use borrow.Author.Tests.{not-true, not-false}
 use Rattle.line_packets.proofs.FourColumns.{failed_packet, parsed_packet_lem, packet_value, hex_packet, hex_decoded}
 use Rattle.replay_records.proofs.Lines.{bad_put, long_line, few_tabs, as-columns, good-put}
 use Rattle.replay_records.proofs.put_line.Goals as goal
@@ -14,27 +13,27 @@ returns-then-line-gt-TRACE_BYTES c =
 pub returns-then-not-contains : goal.returns-then-not-contains
 returns-then-not-contains c =
     let line = c.args.line.now in
-    let none = sym c.contains.ensures ∙ not-true _ c.if-not-contains.true-raw in
+    let none = sym c.contains.ensures ∙ c.if-not-contains.true in
     let z = bad_put _ (few_tabs line _ _ (omega arith) c.part_after-r1.ensures c.part_after-r2.ensures none) in
     record { good = z.0; put = z.1 }
 
-pub returns-in_default : goal.returns-in_default
-returns-in_default c =
-    let some = sym c.contains.ensures ∙ not-false _ c.if-not-contains.false-raw in
+pub returns-in_err-located : goal.returns-in_err-located
+returns-in_err-located c =
+    let some = sym c.contains.ensures ∙ c.if-not-contains.false in
     let is = as-columns _ _ _ c.if-line-gt-TRACE_BYTES.false c.part_after-r1.ensures c.part_after-r2.ensures some
     c.part_before.ensures c.part_before-packet.ensures c.part_before-2.ensures c.part_after-decoded.ensures in
-    let z = bad_put _ (is ∙ failed_packet _ _ _ _ (sym c.parse_packet.ensures ∙ c.in_default.is)) in
-    record { good = z.0; put = z.1 }
+    let z = bad_put _ (is ∙ failed_packet _ _ _ _ (sym c.parse_packet.ensures ∙ c.in_err-located.was)) in
+    rw c.from_residual.ensures (record { good = z.0; put = z.1 })
 
 pub put_record-requires : goal.put_record-requires
 put_record-requires c =
-    let e = sym c.parse_packet.ensures ∙ c.in-Some.is in
+    let e = sym c.parse_packet.ensures ∙ c.in_ok-located.was in
     (hex_packet _ _ _ _ _ e, hex_decoded _ _ _ _ _ e)
 
 pub returns : goal.returns
 returns c =
-    let some = sym c.contains.ensures ∙ not-false _ c.if-not-contains.false-raw in
-    let e = sym c.parse_packet.ensures ∙ c.in-Some.is in
+    let some = sym c.contains.ensures ∙ c.if-not-contains.false in
+    let e = sym c.parse_packet.ensures ∙ c.in_ok-located.was in
     let z = good-put _ _ _ c.if-line-gt-TRACE_BYTES.false c.part_after-r1.ensures c.part_after-r2.ensures some
     c.part_before.ensures c.part_before-packet.ensures c.part_before-2.ensures c.part_after-decoded.ensures
     (parsed_packet_lem _ _ _ _ _ e) _ (packet_value _ _ _ _ _ e) c.put_record.ensures in
