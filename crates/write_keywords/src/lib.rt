@@ -27,9 +27,7 @@ pub fn put_keyword(out: &mut [u8], at: usize, k: Keyword) -> usize
         \x20--flow from_client; --flow from_server;\
         \x20--context uri; --context header; --context body;\
         \x20--context banner; --context host; --context file;";
-    let from = k.0;
-    let to = k.1;
-    put_word(out, at, &table[from..to])
+    put_word(out, at, &table[k.0..k.1])
 }
 
 // The option flow, empty where none is given.

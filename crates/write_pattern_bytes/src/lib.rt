@@ -38,13 +38,10 @@ pub fn put_bytes(out: &mut [u8], at: usize, b: &[u8]) -> usize
 {
     let mut next = at;
     let mut opened = false;
-    let mut i = 0;
-    while i < b.len() {
-        let x = b[i];
-        let plain = is_plain(x);
-        next = put_byte(out, next, opened, plain, x);
+    for x in b {
+        let plain = is_plain(*x);
+        next = put_byte(out, next, opened, plain, *x);
         opened = !plain;
-        i += 1;
     }
     put_if(out, next, opened, b"|")
 }

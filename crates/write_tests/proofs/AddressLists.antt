@@ -5,12 +5,11 @@ use mathlib.Core.List.{List, [], ◌∷◌, ◌++◌, append-nil}
 use Prim.Native.Nat.{ℕ, suc, ◌+◌, ◌≤◌, ◌<◌}
 use native.Mathlib.Omega.{arith}
 use native.Mathlib.Numerals.{add-one}
-use lib.ListN.{length, take, drop, get_or, length-take}
-use lib.Seq.{length-take-le}
+use lib.ListN.{length, take, drop, get_or, length-take, drop_of_length-le}
+use lib.Seq.{length-take-le, drop-cons}
 use lib.Dec.{ltb}
 use borrow.Author.Tests.{lt-ltb, le-ltb}
 use Rattle.forms.specs.Bytes.{text}
-use Rattle.list_laws.proofs.Firsts.{first_here, first_out}
 use Rattle.definitions.specs.declared.table.Address.{Address}
 use Rattle.definitions.specs.Canonical.{text_if, address_text, addresses_text, bracketed}
 
@@ -35,16 +34,15 @@ list_is (a ∷ (b ∷ l)) =
     ap (λ (x : List ℕ). address_text a ++ x)
     (ap (λ (t : Bool). text_if t (text ",") ++ addresses_text (b ∷ l)) (sym (lt-ltb 0 1 (omega arith))) ∙ list_later 0 b l)
 
--- one more of the n addresses in use
-pub list_on : (l : List Address) (n i : ℕ) (d : Address) → i < n → n ≤ length l
-    → list_from i (drop i (take n l)) ≡ text_if (ltb 0 i) (text ",") ++ (address_text (get_or l i d) ++ list_from (i + 1) (drop (i + 1) (take n l)))
+-- one address more
+pub list_on : (l : List Address) (i : ℕ) (d : Address) → i < length l
+    → list_from i (drop i l) ≡ text_if (ltb 0 i) (text ",") ++ (address_text (get_or l i d) ++ list_from (i + 1) (drop (i + 1) l))
 unfolding list_from
-list_on l n i d h long =
-    rw (first_here l n i d h long, add-one i)
+list_on l i d h = rw (drop-cons l i d h, add-one i)
 
-pub list_end : (l : List Address) (n i : ℕ) → n ≤ i → list_from i (drop i (take n l)) ≡ []
+pub list_end : (l : List Address) (i : ℕ) → length l ≤ i → list_from i (drop i l) ≡ []
 unfolding list_from
-list_end l n i h = rw (first_out l n i h)
+list_end l i h = rw (drop_of_length-le l h)
 
 pub brackets : (l : List Address) (n : ℕ) → n ≤ length l → 1 < n → bracketed (take n l) ≡ text "[" ++ (addresses_text (take n l) ++ text "]")
 brackets l n long h = rw (lt-ltb 1 (length (take n l)) (omega (arith, h, length-take-le n l long)))

@@ -16,12 +16,9 @@ fn put_list(out: &mut [u8], at: usize, list: [Address; ADDRESSES], n: usize) -> 
     ensures { Puts out.old at (addresses_text (take n list)) out.new result }
 {
     let mut next = at;
-    let mut i = 0;
-    while i < n {
+    for (i, a) in list[..n].iter().enumerate() {
         let comma = put_if(out, next, 0 < i, b",");
-        let a = list[i];
-        next = put_address(out, comma, a);
-        i += 1;
+        next = put_address(out, comma, *a);
     }
     next
 }

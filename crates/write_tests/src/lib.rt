@@ -27,9 +27,8 @@ pub fn put_address_test(
 ) -> usize
     ensures { Puts out.old at (test_text (item.Address t) (take t.count list)) out.new result }
 {
-    let side = t.side;
     let a1 = put_word(out, at, b" --");
-    let a2 = put_keyword(out, a1, side_keyword(side));
+    let a2 = put_keyword(out, a1, side_keyword(t.side));
     let a3 = put(out, a2, b' ');
     let a4 = put_if(out, a3, t.negated, b"!");
     let a5 = put_bracketed(out, a4, list, t.count);
@@ -40,9 +39,8 @@ pub fn put_address_test(
 pub fn put_number_test(out: &mut [u8], at: usize, t: NumberTest) -> usize
     ensures { Puts out.old at (test_text (item.Number t) []) out.new result }
 {
-    let field = t.field;
     let a1 = put_word(out, at, b" --");
-    let a2 = put_keyword(out, a1, number_field_keyword(field));
+    let a2 = put_keyword(out, a1, number_field_keyword(t.field));
     let a3 = put(out, a2, b' ');
     let a4 = put_decimal(out, a3, t.number as u64);
     put(out, a4, b';')
@@ -52,9 +50,8 @@ pub fn put_number_test(out: &mut [u8], at: usize, t: NumberTest) -> usize
 pub fn put_ttl_test(out: &mut [u8], at: usize, t: TtlTest) -> usize
     ensures { Puts out.old at (test_text (item.Ttl t) []) out.new result }
 {
-    let order = t.order;
     let a1 = put_word(out, at, b" --ip_ttl ");
-    let a2 = put_keyword(out, a1, order_keyword(order));
+    let a2 = put_keyword(out, a1, order_keyword(t.order));
     let a3 = put_decimal(out, a2, t.number as u64);
     put(out, a3, b';')
 }
@@ -63,13 +60,11 @@ pub fn put_ttl_test(out: &mut [u8], at: usize, t: TtlTest) -> usize
 pub fn put_field_test(out: &mut [u8], at: usize, t: FieldTest) -> usize
     ensures { Puts out.old at (test_text (item.Field t) []) out.new result }
 {
-    let field = t.field;
-    let operator = t.operator;
     let a1 = put_word(out, at, b" --");
-    let a2 = put_keyword(out, a1, header_field_keyword(field));
+    let a2 = put_keyword(out, a1, header_field_keyword(t.field));
     let a3 = put(out, a2, b' ');
     let a4 = put_mask(out, a3, t);
-    let a5 = put_keyword(out, a4, operator_keyword(operator));
+    let a5 = put_keyword(out, a4, operator_keyword(t.operator));
     let a6 = put(out, a5, b' ');
     let a7 = put_decimal(out, a6, t.number as u64);
     put(out, a7, b';')
@@ -79,12 +74,10 @@ pub fn put_field_test(out: &mut [u8], at: usize, t: FieldTest) -> usize
 pub fn put_size_test(out: &mut [u8], at: usize, t: SizeTest) -> usize
     ensures { Puts out.old at (test_text (item.Size t) []) out.new result }
 {
-    let order = t.order;
-    let field = t.field;
     let a1 = put_word(out, at, b" --data_size ");
-    let a2 = put_keyword(out, a1, order_keyword(order));
+    let a2 = put_keyword(out, a1, order_keyword(t.order));
     let a3 = put_decimal(out, a2, t.number as u64);
-    let a4 = put_keyword(out, a3, size_field_keyword(field));
+    let a4 = put_keyword(out, a3, size_field_keyword(t.field));
     put(out, a4, b';')
 }
 
