@@ -11,7 +11,7 @@ ghost use Rattle.definitions.specs.declared.packets.PacketHeader.{PacketHeader};
 use definitions::packets::{FieldMap, Match, PacketHeader};
 use definitions::table::{ByteOperator, ByteTest, Operator};
 use fields::{field_of, is_present};
-use match_number_tests::{of_word, operator_holds};
+use match_number_tests::operator_holds;
 use match_origins::{at_context, at_start};
 use packet_header::byte_numbers::number_of;
 use table_limits::byte_count;
@@ -32,14 +32,7 @@ fn compared_by(o: ByteOperator) -> Operator
 fn lie_inside(start: usize, offset: usize, n: usize, len: usize) -> bool
     ensures { result ≡ leb (start + offset + n) len }
 {
-    if len < start {
-        return false;
-    }
-    let left = len - start;
-    if left < offset {
-        return false;
-    }
-    n <= left - offset
+    start <= len && offset <= len - start && n <= len - start - offset
 }
 
 // The number of some bytes, compared with the test's value.
@@ -47,27 +40,22 @@ fn compared(part: &[u8], t: ByteTest) -> bool
     requires { length part.now ≡ byte_count t.width }
     ensures { result ≡ operator_holds (compared_by t.operator) (big_endian (byte_count t.width) (big_end_first t.little part.now) 0) t.value }
 {
-    let operator = t.operator;
     let x = number_of(part, t.little);
-    operator_holds(compared_by(operator), x as usize, t.value as usize)
+    operator_holds(compared_by(t.operator), x as usize, t.value as usize)
 }
 
 // The test in a field, counted from a start there.
+#[tactic(auto, unfolding(definitions::specs::Tests::bytes_hold, definitions::specs::Tests::number_at))]
 fn bytes_hold(d: &[u8], t: ByteTest, start: usize) -> bool
     ensures { result ≡ bytes_hold t (start + t.offset) d.now }
 {
-    let width = t.width;
-    let n = byte_count(width) as usize;
-    let offset = of_word(t.offset);
-    if lie_inside(start, offset, n, d.len()) {
-        let at = start + offset;
-        compared(&d[at..at + n], t)
-    } else {
-        false
-    }
+    let n = byte_count(t.width) as usize;
+    let offset = usize::from(t.offset);
+    lie_inside(start, offset, n, d.len()) && compared(&d[start + offset..start + offset + n], t)
 }
 
 // byte_test.
+#[tactic(auto, unfolding(definitions::specs::Tests::byte_holds))]
 pub fn byte_holds<'a>(
     payload: &'a [u8],
     decoded: &'a [u8],
@@ -78,10 +66,10 @@ pub fn byte_holds<'a>(
     ensures { (f : PacketHeader) → result ≡ byte_holds (seen f payload.now decoded.now m) t last }
 {
     let context = at_context(t.relative, last);
-    if !is_present(m, context) {
-        return false;
-    }
-    let start = at_start(t.relative, last);
-    let field = field_of(payload, decoded, m, context);
-    bytes_hold(field, t, start)
+    is_present(m, context)
+        && bytes_hold(
+            field_of(payload, decoded, m, context),
+            t,
+            at_start(t.relative, last),
+        )
 }

@@ -10,14 +10,13 @@ ghost use Rattle.definitions.specs.declared.packets.PacketHeader.{PacketHeader};
 use definitions::packets::{FieldMap, Match, PacketHeader};
 use definitions::table::{AtTest, Context, SizeField, SizeTest};
 use fields::{field_of, is_present};
-use match_number_tests::{of_word, order_holds};
+use match_number_tests::order_holds;
 use match_origins::{at_context, at_start};
 
 fn field_length<'a>(payload: &'a [u8], decoded: &'a [u8], m: FieldMap, c: Context) -> usize
     ensures { result ≡ length (field_of payload.now decoded.now m c) }
 {
-    let f = field_of(payload, decoded, m, c);
-    f.len()
+    field_of(payload, decoded, m, c).len()
 }
 
 fn size_context(field: SizeField) -> Context
@@ -32,31 +31,28 @@ fn size_context(field: SizeField) -> Context
 }
 
 // data_size.
+#[tactic(auto, unfolding(definitions::specs::Tests::size_holds))]
 pub fn size_holds<'a>(payload: &'a [u8], decoded: &'a [u8], m: FieldMap, t: SizeTest) -> bool
     ensures { (f : PacketHeader) → result ≡ size_holds (seen f payload.now decoded.now m) t }
 {
-    let field = t.field;
-    let order = t.order;
-    let c = size_context(field);
-    if !is_present(m, c) {
-        return false;
-    }
-    let len = field_length(payload, decoded, m, c);
-    let n = of_word(t.number);
-    order_holds(order, len, n)
+    let c = size_context(t.field);
+    is_present(m, c)
+        && order_holds(
+            t.order,
+            field_length(payload, decoded, m, c),
+            usize::from(t.number),
+        )
 }
 
 // At least n bytes follow a start in a field of so many bytes; no sum of the two can wrap here.
 fn data_follows(n: usize, start: usize, len: usize) -> bool
     ensures { result ≡ data_follows n start len }
 {
-    if len < start {
-        return false;
-    }
-    n <= len - start
+    start <= len && n <= len - start
 }
 
 // data_at.
+#[tactic(auto, unfolding(definitions::specs::Tests::at_holds))]
 pub fn at_holds<'a>(
     payload: &'a [u8],
     decoded: &'a [u8],
@@ -67,11 +63,10 @@ pub fn at_holds<'a>(
     ensures { (f : PacketHeader) → result ≡ at_holds (seen f payload.now decoded.now m) t last }
 {
     let context = at_context(t.relative, last);
-    if !is_present(m, context) {
-        return false;
-    }
-    let start = at_start(t.relative, last);
-    let len = field_length(payload, decoded, m, context);
-    let n = of_word(t.number);
-    data_follows(n, start, len)
+    is_present(m, context)
+        && data_follows(
+            usize::from(t.number),
+            at_start(t.relative, last),
+            field_length(payload, decoded, m, context),
+        )
 }

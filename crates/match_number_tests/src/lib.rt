@@ -15,43 +15,20 @@ use packet_header::protocols::has_ports;
 fn port_holds(protocol: u8, port: u16, n: u16) -> bool
     ensures { result ≡ (has_ports protocol && eqb port n) }
 {
-    if has_ports(protocol) {
-        return port == n;
-    }
-    false
-}
-
-fn byte_equals(x: u8, n: u16) -> bool
-    ensures { result ≡ eqb x n }
-{
-    x as u16 == n
+    has_ports(protocol) && port == n
 }
 
 // ip_id, src_port, dst_port, ip_tos. A table with an ip_id is refused before it comes here.
+#[tactic(auto, unfolding(definitions::specs::Tests::number_holds))]
 pub fn number_holds(f: PacketHeader, t: NumberTest) -> bool
     ensures { result ≡ number_holds f t.field t.number }
 {
-    let field = t.field;
-    match field {
+    match t.field {
         NumberField::IpId => f.id == t.number,
         NumberField::SourcePort => port_holds(f.protocol, f.sport, t.number),
         NumberField::DestinationPort => port_holds(f.protocol, f.dport, t.number),
-        NumberField::Tos => byte_equals(f.tos, t.number),
+        NumberField::Tos => u16::from(f.tos) == t.number,
     }
-}
-
-// A byte, and a number of two bytes, as the numbers that are compared.
-fn of_byte(x: u8) -> usize
-    ensures { result ≡ x }
-{
-    x as usize
-}
-
-// A number of two bytes, as wide as lengths are.
-pub fn of_word(x: u16) -> usize
-    ensures { result ≡ x }
-{
-    x as usize
 }
 
 // ip_ttl and data_size: x is compared with n.
@@ -69,10 +46,7 @@ pub fn order_holds(order: Order, x: usize, n: usize) -> bool
 pub fn ttl_holds(f: PacketHeader, t: TtlTest) -> bool
     ensures { result ≡ order_holds t.order f.ttl t.number }
 {
-    let order = t.order;
-    let x = of_byte(f.ttl);
-    let n = of_byte(t.number);
-    order_holds(order, x, n)
+    order_holds(t.order, usize::from(f.ttl), usize::from(t.number))
 }
 
 fn header_value(f: PacketHeader, field: HeaderField) -> usize
@@ -80,9 +54,9 @@ fn header_value(f: PacketHeader, field: HeaderField) -> usize
 {
     match field {
         HeaderField::TotalLength => f.total,
-        HeaderField::Id => of_word(f.id),
-        HeaderField::Checksum => of_word(f.checksum),
-        HeaderField::Ttl => of_byte(f.ttl),
+        HeaderField::Id => usize::from(f.id),
+        HeaderField::Checksum => usize::from(f.checksum),
+        HeaderField::Ttl => usize::from(f.ttl),
     }
 }
 
@@ -101,13 +75,10 @@ pub fn operator_holds(operator: Operator, x: usize, n: usize) -> bool
 }
 
 // ip.total_length, ip.id, ip.checksum, ip.ttl: the field and the mask, compared, whatever the field's width.
+#[tactic(auto, unfolding(definitions::specs::Tests::field_holds))]
 pub fn field_holds(f: PacketHeader, t: FieldTest) -> bool
     ensures { result ≡ field_holds f t }
 {
-    let field = t.field;
-    let operator = t.operator;
-    let value = header_value(f, field);
-    let mask = of_word(t.mask);
-    let n = of_word(t.number);
-    operator_holds(operator, value & mask, n)
+    let value = header_value(f, t.field) & usize::from(t.mask);
+    operator_holds(t.operator, value, usize::from(t.number))
 }

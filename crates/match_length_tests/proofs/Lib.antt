@@ -1,3 +1,0 @@
--- Bytes after a start, and tests by whether a field is present.
-pub mod After
-pub mod Presence
