@@ -1,12 +1,17 @@
 -- The first start that passes a test: how a walk comes to it, and what is known there.
 use mathlib.Core.Path.{◌≡◌, refl, sym, ap, ◌∙◌}
 use mathlib.Core.Bool.{Bool, true, false}
-use Prim.Native.Nat.{ℕ, zero, suc, ◌+◌, ◌-◌, ◌≤◌, ◌<◌}
+use Rattle.std.specs.Prelude.{Option}
+use Prim.Native.Nat.{ℕ, zero, suc, ◌+◌, ◌-◌, ◌≤◌, ◌<◌, max}
 use native.Mathlib.Omega.{arith}
 use native.Mathlib.Numerals.{add-one}
+use native.Mathlib.Nat.{add-zero}
 use lib.Dec.{leb, ltb}
+use Rattle.std.specs.List.{find, range_with_len}
+use Rattle.std.specs.Option.{option_map, unwrap_or}
 use borrow.Author.Tests.{ltb-true, ltb-false, le-leb, lt-leb}
 use Rattle.forms.proofs.Bools.{by_cases}
+use Rattle.std.proofs.lemmas.Iterator.Adapters.{option_map_id}
 use Rattle.definitions.specs.Lists.{none?, keep}
 use Rattle.match_patterns.specs.Starts.{first_start}
 use Rattle.match_patterns.proofs.Listing.{from, passed, met, ended}
@@ -21,10 +26,24 @@ module _ (f : ℕ → Bool) where
       (λ t. rw t p)
       (λ t. rw t (first_reached P on n (suc at) (rw (sym (add-one at)) (on at t p))))
 
+  -- the walk as the library's search among the starts
+  first_found : (n at none : ℕ) → none ≡ at + n → unwrap_or (find f (range_with_len at n)) none ≡ first_start f at n
+  unfolding first_start
+  first_found zero at none e = e ∙ add-zero at
+  first_found (suc n) at none e =
+      by_cases (f at)
+      (λ t. rw t)
+      (λ t. rw t (rw (add-one at) (first_found n (suc at) none (omega (arith, e)))))
+
   passes : (n at : ℕ) → first_start f at n < at + n → f (first_start f at n) ≡ true
   unfolding first_start
   passes zero at h = absurd (omega arith)
   passes (suc n) at h = by_cases (f at) (λ t. rw t t) (λ t. rw t (passes n (suc at) (omega (arith, rw t at h))))
+
+  pub found_first : (at m none : ℕ) (r : Option ℕ) → option_map (λ x. x) r ≡ find f (range_with_len at (m - at)) → none ≡ max at m
+      → unwrap_or r none ≡ first_start f at (m - at)
+  found_first at m none r e h =
+      ap (λ (o : Option ℕ). unwrap_or o none) (sym (option_map_id r) ∙ e) ∙ first_found (m - at) at none (omega (arith, h))
 
   module _ (m at : ℕ) where
     -- the first start before m, from `at` on
@@ -36,19 +55,6 @@ module _ (f : ℕ → Bool) where
 
     pub first_passes : first < m → f first ≡ true
     first_passes h = passes (m - at) at (omega (arith, first_not_before))
-
-    -- one turn of the walk, and its end
-    pub walk_met : at < m → f at ≡ true → first ≡ at
-    unfolding first_start
-    walk_met h t = let e : m - at ≡ suc (m - (at + 1)) = omega arith in rw (e, t)
-
-    pub walk_on : at < m → f at ≡ false → first ≡ first_start f (at + 1) (m - (at + 1))
-    unfolding first_start
-    walk_on h t = let e : m - at ≡ suc (m - (at + 1)) = omega arith in rw (e, t, add-one at)
-
-    pub walk_out : m ≤ at → first ≡ at
-    unfolding first_start
-    walk_out h = let e : m - at ≡ 0 = omega arith in rw e
 
     -- no start passes exactly if the first that does would be m or more
     pub none_passes : none? (keep f (from at m)) ≡ leb m first

@@ -8,7 +8,7 @@ fn alike(folded: &[u8], x: u8, y: u8) -> bool
     requires { FoldTable folded.now }
     ensures { result ≡ windows.alike true x y }
 {
-    folded[x as usize] == folded[y as usize]
+    folded[usize::from(x)] == folded[usize::from(y)]
 }
 
 // The bytes `b` stand in the field at the place, each equal.
@@ -16,14 +16,7 @@ pub fn equal_at(b: &[u8], f: &[u8], at: usize) -> bool
     requires { at + length b.now ≤ length f.now }
     ensures { result ≡ windows.stands_at false b.now (drop at f.now) }
 {
-    let mut i = 0;
-    while i < b.len() {
-        if b[i] != f[at + i] {
-            return false;
-        }
-        i += 1;
-    }
-    true
+    f[at..].starts_with(b)
 }
 
 // The bytes `b` stand in the field at the place, each alike under no_case.
@@ -31,14 +24,5 @@ pub fn alike_at(folded: &[u8], b: &[u8], f: &[u8], at: usize) -> bool
     requires { FoldTable folded.now × (at + length b.now ≤ length f.now) }
     ensures { result ≡ windows.stands_at true b.now (drop at f.now) }
 {
-    let mut i = 0;
-    while i < b.len() {
-        let x = b[i];
-        let y = f[at + i];
-        if !alike(folded, x, y) {
-            return false;
-        }
-        i += 1;
-    }
-    true
+    b.iter().zip(&f[at..]).all(|(x, y)| alike(folded, *x, *y))
 }

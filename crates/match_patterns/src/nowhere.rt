@@ -14,6 +14,5 @@ pub fn lies_nowhere(p: Pattern, b: &[u8], last: Option<Match>, f: &[u8]) -> bool
     ensures { result ≡ none? (places_of p b.now last f.now) }
 {
     let w = window(p, last, f.len());
-    let to = w.to;
-    to <= next_start(p.nocase, b, f, w.from, to)
+    w.to <= next_start(p.nocase, b, f, w.from, w.to)
 }

@@ -4,4 +4,4 @@ use Rattle.match_folding.proofs.Alike.{alike_by_entries}
 use Rattle.match_patterns.proofs.bytes.alike.Goals as goal
 
 pub returns : goal.returns
-returns c = alike_by_entries _ c.requires c.args.x c.args.y (search rules) (search rules)
+returns c = rw (c.from.ensures, c.from-2.ensures) (alike_by_entries _ c.requires c.args.x c.args.y (search rules) (search rules))

@@ -1,28 +1,22 @@
--- The invariant says what is still to compare: the bytes from `i` on. Each turn goes one byte on in both lists.
-use mathlib.Core.Path.{sym, ◌∙◌}
+-- The library goes through the bytes and what stands from the place on, pair by pair.
+use mathlib.Core.Path.{◌∙◌}
 use mathlib.Core.Bool.{true}
-use Prim.Native.Nat.{◌-◌}
+use Prim.Native.Nat.{ℕ}
 use native.Mathlib.Omega.{arith}
-use borrow.Author.Tests.{not-true, not-false}
-use Rattle.match_patterns.proofs.BytesAtPlace.{stands_done, stands_more, stands_not}
+use lib.ListN.{drop, length-drop}
+use borrow.Author.Rules.{rules, part_to_end}
+use Rattle.std.proofs.lemmas.Iterator.{YieldsList-from_slice, YieldsList-from_zip}
+use Rattle.std.proofs.lemmas.Iterator.Search.{all_from_yields_List}
+use Rattle.definitions.specs.Windows.{alike}
+use Rattle.match_patterns.proofs.BytesAtPlace.{alike_stand}
 use Rattle.match_patterns.proofs.bytes.alike_at.Goals as goal
-
-pub returns-then-not-alike : goal.returns-then-not-alike
-returns-then-not-alike c =
-    let l = c.loop-i in
-    let a = c.args in
-    let differ = sym c.alike.ensures ∙ not-true _ c.if-not-alike.true-raw in
-    sym (l.invariant.1 ∙ stands_not true a.b.now a.f.now a.at c.requires.1 l.i (omega arith) differ)
-
-pub loop-i-preserved : goal.loop-i-preserved
-loop-i-preserved c =
-    let l = c.loop-i in
-    let a = c.args in
-    let agree = sym c.alike.ensures ∙ not-false _ c.if-not-alike.false-raw in
-    (omega arith, l.invariant.1 ∙ stands_more true a.b.now a.f.now a.at c.requires.1 l.i (omega arith) agree)
 
 pub returns : goal.returns
 returns c =
-    let a = c.args in
-    let l = c.loop-i in
-    sym (l.invariant.1 ∙ stands_done true a.b.now a.f.now a.at l.i (omega arith))
+    let b = c.args.b.now in
+    let f = c.args.f.now in
+    let at = c.args.at in
+    let end = part_to_end f at in
+    all_from_yields_List {s = c.zip.result} (λ (p : ℕ × ℕ). alike true p.0 p.1) c.all.new.self _ c.all.result c.all.ensures.ran
+    (YieldsList-from_zip (YieldsList-from_slice b cc) (YieldsList-from_slice (drop at f) cc)) (λ x b q k. search rules)
+    ∙ alike_stand true b (drop at f) (omega (arith, length-drop at f, c.requires.1))

@@ -1,25 +1,20 @@
--- The invariant says what is still to compare: the bytes from `i` on. Each turn goes one byte on in both lists.
-use mathlib.Core.Path.{sym, ◌∙◌}
-use mathlib.Core.Bool.{false}
-use Prim.Native.Nat.{◌-◌}
+-- The library compares the bytes with the front of what stands from the place on.
+use mathlib.Core.Path.{ap, ◌∙◌}
+use mathlib.Core.List.{List}
+use Prim.Native.Nat.{ℕ}
 use native.Mathlib.Omega.{arith}
-use Rattle.match_patterns.proofs.BytesAtPlace.{stands_done, stands_more, stands_not, equal_alike, differ_alike}
+use lib.Dec.{eqb}
+use lib.ListN.{length, take, drop, length-drop}
+use borrow.Author.Rules.{part_to_end}
+use Rattle.std.specs.Cmp.Lexicographic.{pointwise}
+use Rattle.match_patterns.proofs.BytesAtPlace.{equal_stand}
 use Rattle.match_patterns.proofs.bytes.equal_at.Goals as goal
-
-pub returns-then-b-i : goal.returns-then-b-i
-returns-then-b-i c =
-    let l = c.loop-i in
-    let a = c.args in
-    sym (l.invariant.1 ∙ stands_not false a.b.now a.f.now a.at c.requires l.i (omega arith) (differ_alike _ _ c.if-b-i.true))
-
-pub loop-i-preserved : goal.loop-i-preserved
-loop-i-preserved c =
-    let l = c.loop-i in
-    let a = c.args in
-    (omega arith, l.invariant.1 ∙ stands_more false a.b.now a.f.now a.at c.requires l.i (omega arith) (equal_alike _ _ c.if-b-i.false))
 
 pub returns : goal.returns
 returns c =
-    let a = c.args in
-    let l = c.loop-i in
-    sym (l.invariant.1 ∙ stands_done false a.b.now a.f.now a.at l.i (omega arith))
+    let b = c.args.b.now in
+    let f = c.args.f.now in
+    let at = c.args.at in
+    c.starts_with.ensures.value
+    ∙ ap (λ (l : List ℕ). pointwise eqb b (take (length b) l)) (part_to_end f at)
+    ∙ equal_stand b (drop at f) (omega (arith, length-drop at f, c.requires))
