@@ -2,36 +2,10 @@
 ghost use Rattle.std.specs.Prelude.{◌≡◌, ◌+◌};
 ghost use Rattle.definitions.specs.declared.packets.Start.{Start};
 ghost use Rattle.definitions.specs.Starts.{start_at};
-ghost use Rattle.definitions.specs.References.{context_number, reference_number, last_after, last_in, reference_usable, reverse_usable, distance_usable, within_usable, references_alike, usable};
+ghost use Rattle.definitions.specs.References.{last_after, last_in, reference_usable, reverse_usable, distance_usable, within_usable, references_alike, usable};
 
 use definitions::packets::Match;
 use definitions::table::{Context, DistanceValue, Pattern, Reference, WithinValue};
-
-// Which case it is, so that two can be compared.
-pub fn context_number(c: Context) -> u8
-    ensures { result ≡ context_number c }
-{
-    match c {
-        Context::Packet => 0,
-        Context::Uri => 1,
-        Context::Header => 2,
-        Context::Body => 3,
-        Context::Banner => 4,
-        Context::Host => 5,
-        Context::File => 6,
-    }
-}
-
-// The same of a reference.
-pub fn reference_number(r: Reference) -> u8
-    ensures { result ≡ reference_number r }
-{
-    match r {
-        Reference::Match => 0,
-        Reference::Packet => 1,
-        Reference::Context => 2,
-    }
-}
 
 // The last positive pattern, after `p` that ends at a place: a negated one moves no reference.
 pub fn last_ending(last: Option<Match>, p: Pattern, end: usize) -> Option<Match>
