@@ -17,6 +17,7 @@ use match_length_tests::{at_holds, size_holds};
 use match_number_tests::{field_holds, number_holds, ttl_holds};
 
 // Whether a test holds after the last positive pattern. A slot that is not in use, and a pattern, are no tests.
+#[tactic(auto, unfolding(definitions::specs::Tests::test_holds))]
 pub fn test_holds<'a>(
     f: PacketHeader,
     payload: &'a [u8],

@@ -11,6 +11,7 @@ use fields::{field_of, is_present};
 use match_patterns::nowhere::lies_nowhere;
 
 // A negated pattern with the bytes `b` holds if its field is present and it lies nowhere there.
+#[tactic(auto, using(crate::proofs::Placing::measured, crate::proofs::Placing::nowhere_absent, crate::proofs::Placing::nowhere_present))]
 pub fn negated_holds<'a>(
     payload: &'a [u8],
     decoded: &'a [u8],
@@ -22,10 +23,5 @@ pub fn negated_holds<'a>(
     requires { Bounded payload.now decoded.now p b.now last }
     ensures { (f : PacketHeader) → result ≡ unmatched_holds (seen f payload.now decoded.now m) p b.now last }
 {
-    let c = p.context;
-    if !is_present(m, c) {
-        return false;
-    }
-    let f = field_of(payload, decoded, m, c);
-    lies_nowhere(p, b, last, f)
+    is_present(m, p.context) && lies_nowhere(p, b, last, field_of(payload, decoded, m, p.context))
 }
