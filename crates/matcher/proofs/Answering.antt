@@ -1,7 +1,7 @@
 -- From the refusal that is due, or the answer by header fields and payload, to the answer of an entry.
 use Rattle.std.specs.Prelude.{Result, Ok, Err}
-use mathlib.Core.Path.{◌≡◌, refl}
-use mathlib.Core.Bool.{true}
+use mathlib.Core.Path.{◌≡◌, refl, ap}
+use mathlib.Core.Bool.{true, false}
 use mathlib.Core.List.{List, [], ◌∷◌}
 use Prim.Native.Nat.{ℕ}
 use Rattle.definitions.specs.declared.table.Table.{Table}
@@ -11,12 +11,12 @@ use Rattle.definitions.specs.declared.packets.FieldMap.{FieldMap}
 use Rattle.definitions.specs.declared.packets.Start.{Start}
 use Rattle.definitions.specs.declared.packets.Placement.{Placement}
 use Rattle.definitions.specs.declared.answers.Refusal.{Refusal}
-use Rattle.definitions.specs.declared.answers.Verdict.TheVariants as verdict
 use Rattle.definitions.specs.declared.answers.Answer.{Answer}
 use Rattle.definitions.specs.WellFormed.{well_formed}
 use Rattle.definitions.specs.Packet.{packet_answer}
 use Rattle.definitions.specs.Fields.{fields_check}
 use Rattle.definitions.specs.Answers.{refused_answer, head_of, unless, verdict_by, verdict_answer, first_answer, next_answer}
+use Rattle.definitions.specs.Decisions.{is_met}
 use Rattle.match_answers.specs.Verdicts.{verdict_of}
 use Rattle.match_checks.specs.InputChecks.{input_header}
 use Rattle.match_placements.specs.Listing.{list_in, first_in_list, next_in_list}
@@ -37,6 +37,12 @@ module _ (t : Table) (p d : List ℕ) (dir : Direction) (m : FieldMap) {a : Resu
   pub next_refused : (h : Placement) {x : Answer} → x ≡ refused_answer r → x ≡ next_answer t p d dir m h
   unfolding next_answer
   next_refused h g = rw (refused_check t p d e k dir m) g
+
+-- then the table is not met
+pub unmet_refused : (t : Table) (p d : List ℕ) (dir : Direction) (m : FieldMap) (a : Result PacketHeader Refusal) → a ≡ input_header (well_formed t) p d
+    → ((f : PacketHeader) → a ≡ Ok f → ⊥) → false ≡ is_met (verdict_answer t p d dir m)
+unmet_refused t p d dir m (Ok f) e n = absurd (n f refl)
+unmet_refused t p d dir m (Err r) e n = ap is_met (verdict_refused t p d dir m e refl)
 
 -- ---- the packet passed its checks: f and s are its header fields and payload
 

@@ -25,26 +25,23 @@ use packet::{packet_header, payload_of};
 use table_well_formed::well_formed;
 
 // THE VERDICT: met exactly if some placement meets the table.
-pub fn verdict<'a>(t: Table, p: &'a [u8], decoded: &'a [u8], dir: Direction, m: FieldMap) -> Result<Verdict, Refusal>
+pub fn verdict<'a>(
+    t: Table,
+    p: &'a [u8],
+    decoded: &'a [u8],
+    dir: Direction,
+    m: FieldMap,
+) -> Result<Verdict, Refusal>
     ensures answer { result ≡ verdict_answer t p.now decoded.now dir m }
     ensures numbers { verdict_numbers result ≡ verdict_in_numbers t p.now decoded.now dir m }
 {
-    let name = t.name;
-    let items = t.items;
-    let formed = well_formed(name, t.len, items, t.count, &t.bytes, t.used);
-    let seen = check_input(formed, p, decoded);
-    match seen {
-        Err(r) => Err(r), // 20 and 30 to 34 come before 35
-        Ok(header) => {
-            let payload = payload_of(p, header);
-            let flow = t.flow;
-            let a = first_in(
-                t.protocol, flow, items, t.count, &t.bytes, header, payload, decoded, dir, m,
-            );
-            let found = a.found;
-            verdict_of(found)
-        }
-    }
+    let formed = well_formed(t.name, t.len, t.items, t.count, &t.bytes, t.used);
+    let header = check_input(formed, p, decoded)?; // 20 and 30 to 34 come before 35
+    let payload = payload_of(p, header);
+    let a = first_in(
+        t.protocol, t.flow, t.items, t.count, &t.bytes, header, payload, decoded, dir, m,
+    );
+    verdict_of(a.found)
 }
 
 // FIRST: the first of the list of placements, or none.
@@ -52,17 +49,13 @@ pub fn first<'a>(t: Table, p: &'a [u8], decoded: &'a [u8], dir: Direction, m: Fi
     ensures answer { result ≡ first_answer t p.now decoded.now dir m }
     ensures numbers { answer_numbers result ≡ first_in_numbers t p.now decoded.now dir m }
 {
-    let name = t.name;
-    let items = t.items;
-    let formed = well_formed(name, t.len, items, t.count, &t.bytes, t.used);
-    let seen = check_input(formed, p, decoded);
-    match seen {
+    let formed = well_formed(t.name, t.len, t.items, t.count, &t.bytes, t.used);
+    match check_input(formed, p, decoded) {
         Err(r) => refused(r),
         Ok(header) => {
             let payload = payload_of(p, header);
-            let flow = t.flow;
             first_in(
-                t.protocol, flow, items, t.count, &t.bytes, header, payload, decoded, dir, m,
+                t.protocol, t.flow, t.items, t.count, &t.bytes, header, payload, decoded, dir, m,
             )
         }
     }
@@ -80,44 +73,32 @@ pub fn next<'a>(
     ensures answer { result ≡ next_answer t p.now decoded.now dir m held }
     ensures numbers { answer_numbers result ≡ next_in_numbers t p.now decoded.now dir m held }
 {
-    let name = t.name;
-    let items = t.items;
-    let formed = well_formed(name, t.len, items, t.count, &t.bytes, t.used);
-    let seen = check_input(formed, p, decoded);
-    match seen {
+    let formed = well_formed(t.name, t.len, t.items, t.count, &t.bytes, t.used);
+    match check_input(formed, p, decoded) {
         Err(r) => refused(r), // 20 and 30 to 34 come before 36
         Ok(header) => {
             let payload = payload_of(p, header);
-            let flow = t.flow;
             next_in(
-                t.protocol, flow, items, t.count, &t.bytes, header, payload, decoded, dir, m, held,
+                t.protocol, t.flow, t.items, t.count, &t.bytes, header, payload, decoded, dir, m,
+                held,
             )
         }
     }
 }
 
 // For a caller that asks many packets of one table: whether protocol and flow leave it open that the table is met. Where they don't, it is not.
+#[tactic(auto, unfolding(crate::specs::PassedOver::may_meet))]
 pub fn may_meet(protocol: u8, flow: Flow, p: &[u8], dir: Direction) -> bool
     ensures { result ≡ may_meet protocol flow p.now dir }
 {
-    if p.len() < 10 {
-        return false;
-    }
-    if p[9] != protocol {
-        return false;
-    }
-    flow_holds(flow, dir)
+    p.len() >= 10 && p[9] == protocol && flow_holds(flow, dir)
 }
 
 // Whether a verdict is met.
 fn is_met(v: Result<Verdict, Refusal>) -> bool
     ensures { result ≡ is_met v }
 {
-    match v {
-        Ok(Verdict::Met) => true,
-        Ok(Verdict::NotMet) => false,
-        Err(_) => false,
-    }
+    matches!(v, Ok(Verdict::Met))
 }
 
 // For a caller that knows its table to be well formed, as one that was read is, and has its parts at hand: whether the verdict is met, whatever the table's name.
@@ -135,16 +116,12 @@ pub fn meets<'a>(
     requires { Matchable items count bytes.now }
     ensures { (name : List ℕ) (len used : ℕ) → well_formed (table_with name len protocol flow bytes.now used items count) ≡ true → result ≡ is_met (verdict_answer (table_with name len protocol flow bytes.now used items count) p.now decoded.now dir m) }
 {
-    let seen = packet_header(p, decoded);
-    match seen {
-        Err(_) => false,
-        Ok(header) => {
-            let payload = payload_of(p, header);
-            let a = first_in(
-                protocol, flow, items, count, bytes, header, payload, decoded, dir, m,
-            );
-            let found = a.found;
-            is_met(verdict_of(found))
-        }
-    }
+    let Ok(header) = packet_header(p, decoded) else {
+        return false;
+    };
+    let payload = payload_of(p, header);
+    let a = first_in(
+        protocol, flow, items, count, bytes, header, payload, decoded, dir, m,
+    );
+    is_met(verdict_of(a.found))
 }

@@ -11,7 +11,7 @@ pub first_in-requires : goal.first_in-requires
 first_in-requires c =
     let x = c.args in
     let formed = c.well_formed-formed.ensures x.t.protocol x.t.flow (omega arith) in
-    let told = input_told x.t x.p.now x.decoded.now formed c.check_input-seen.ensures in
+    let told = input_told x.t x.p.now x.decoded.now formed c.check_input.ensures in
     let ok = seen_checked x.t x.p.now x.decoded.now told c.in-Ok.is c.payload_of-payload.ensures.bytes in
     searchable ok (omega arith)
 
@@ -19,7 +19,7 @@ pub returns-in-Err : goal.returns-in-Err
 returns-in-Err c =
     let x = c.args in
     let formed = c.well_formed-formed.ensures x.t.protocol x.t.flow (omega arith) in
-    let told = input_told x.t x.p.now x.decoded.now formed c.check_input-seen.ensures in
+    let told = input_told x.t x.p.now x.decoded.now formed c.check_input.ensures in
     let z = first_told x.t x.p.now x.decoded.now x.dir x.m
     (first_refused x.t x.p.now x.decoded.now x.dir x.m told c.in-Err.is c.refused.ensures) in
     record { answer = z.0; numbers = z.1 }
@@ -28,7 +28,7 @@ pub returns-in-Ok : goal.returns-in-Ok
 returns-in-Ok c =
     let x = c.args in
     let formed = c.well_formed-formed.ensures x.t.protocol x.t.flow (omega arith) in
-    let told = input_told x.t x.p.now x.decoded.now formed c.check_input-seen.ensures in
+    let told = input_told x.t x.p.now x.decoded.now formed c.check_input.ensures in
     let ok = seen_checked x.t x.p.now x.decoded.now told c.in-Ok.is c.payload_of-payload.ensures.bytes in
     let found = c.first_in.ensures ∙ first_by_parts x.t _ c.payload_of-payload.result.now x.decoded.now x.dir x.m in
     let z = first_told x.t x.p.now x.decoded.now x.dir x.m (found ∙ first_here ok x.dir x.m) in
