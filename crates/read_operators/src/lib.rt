@@ -36,19 +36,10 @@ pub fn then_size_order(s: &[u8], c: Cursor) -> Scanned<Order>
     requires { Inside s.now c }
     ensures { Reads size_order s.now c result.value result.cursor }
 {
-    if next_is(s, c, b'<') {
-        return then_literal_as(s, c, b'<', Order::Less);
-    }
-    if next_is(s, c, b'>') {
-        return then_literal_as(s, c, b'>', Order::Greater);
-    }
     if next_is(s, c, b'=') {
         return then_literal_as(s, c, b'=', Order::Equal);
     }
-    Scanned {
-        value: Order::Equal,
-        cursor: c,
-    }
+    then_order(s, c)
 }
 
 // One operator, or the other with `=`.
