@@ -21,7 +21,6 @@ use Rattle.scan_cursors.specs.Reads.{place_of, Inside, next_in, Reads}
 use Rattle.scan_cursors.proofs.Readings.{fmap_reads, pair_reads, preceded_reads, terminated_reads, failed_reads}
 use Rattle.scan_cursors.proofs.Choices.{first_reads, second_reads}
 use Rattle.scan_cursors.proofs.Onward.{Ahead, ahead_more, left, less_left}
-use Rattle.scan_pieces.proofs.AtPlace.{begins_in}
 use Rattle.read_addresses.specs.Listing.{listed_addresses, Lists}
 use Rattle.scan_cursors.proofs.Repeated.{many_out, Many, many_start, many_more, many_end}
 
@@ -104,9 +103,6 @@ module _ (s : List ℕ) {b : Cursor} {row list : List Address} {count : ℕ} {c 
   module _ (y : t ≡ true) where
     stood : next_in comma s c ≡ true
     stood = sym e ∙ y
-
-    pub count_in : count < length s
-    count_in = omega (arith, ahead_place comma s count c stood u.fits, begins_in comma s (place_of c) (next_begins comma s c stood))
 
     module _ {d f : Cursor} {v : Address} (q : Reads (literal 44) s c 44 d) (r : Reads address s d v f) where
       next_read : Reads next s c v f

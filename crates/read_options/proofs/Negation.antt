@@ -1,20 +1,15 @@
 -- A number of 16 bits after an optional minus, in signed numbers of 32 bits.
-use mathlib.Core.Path.{◌≡◌, refl, ap}
+use mathlib.Core.Path.{◌≡◌}
 use mathlib.Core.Bool.{Bool, true, false}
-use Prim.Native.Nat.{ℕ, zero, suc, ◌-◌, ◌≤◌}
+use Prim.Native.Nat.{ℕ, zero, suc, ◌≤◌}
 use native.Mathlib.Omega.{arith}
-use lib.IntN.{pos, negsuc, neg_ℤ, ◌-ℤ◌}
+use lib.IntN.{pos, neg_ℤ}
 use lib.Signed.{mag}
-use borrow.Author.Tests.{lt-ltb}
 use mir.Syntax.{w32}
 use mir.Val.{SFits, to_z, of_z}
 use mir.ValLaws.{to_z-of_z, to_z_pos}
 use Rattle.definitions.specs.Limits.{max_word}
 use Rattle.definitions.specs.Forms.{signed}
-
-minus_is : (n : ℕ) → pos 0 -ℤ pos n ≡ neg_ℤ (pos n)
-minus_is zero = refl
-minus_is (suc m) = let e : suc m - 1 ≡ m = omega arith in rw (lt-ltb 0 (suc m) (omega arith)) (ap negsuc e)
 
 mag_minus : (n : ℕ) → mag (neg_ℤ (pos n)) ≤ n
 mag_minus zero = omega arith
@@ -24,17 +19,8 @@ module _ (n : ℕ) (h : n ≤ max_word) where
   pub plain_is : to_z w32 n ≡ pos n
   plain_is = to_z_pos w32 n (omega arith)
 
-  turned : pos 0 -ℤ to_z w32 n ≡ neg_ℤ (pos n)
-  turned = rw plain_is (minus_is n)
-
   small : SFits w32 (neg_ℤ (pos n))
   small = record { sfits = omega (arith, mag_minus n) }
-
-  pub minus_fits : SFits w32 (pos 0 -ℤ to_z w32 n)
-  minus_fits = rw turned small
-
-  pub minus_reads : to_z w32 (of_z w32 (pos 0 -ℤ to_z w32 n)) ≡ neg_ℤ (pos n)
-  minus_reads = rw turned (to_z-of_z w32 (neg_ℤ (pos n)) small)
 
   -- as a field of 32 bits it stays what it is
   pub signed_kept : (minus : Bool) → to_z w32 (of_z w32 (signed minus n)) ≡ signed minus n

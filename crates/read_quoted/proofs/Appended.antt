@@ -13,11 +13,11 @@ use Rattle.forms.proofs.Sound.{never}
 use Rattle.read_value.specs.Values.{PatternBytes, appended}
 use Rattle.scan_cursors.specs.declared.Cursor.{Cursor}
 use Rattle.scan_cursors.specs.declared.Cursor.TheVariants.{Parsed, Failed}
-use Rattle.scan_cursors.specs.Reads.{place_of, Inside, joined, Reads}
-use Rattle.scan_cursors.proofs.Readings.{preceded_reads, terminated_reads, step_reads, failed_any}
+use Rattle.scan_cursors.specs.Reads.{Inside, Reads}
+use Rattle.scan_cursors.proofs.Readings.{preceded_reads, terminated_reads, failed_any}
 use Rattle.scan_cursors.proofs.Onward.{came_parsed, parsed_place, onward}
 use Rattle.read_quoted.specs.Storing.{Ready, Stored, Stores}
-use Rattle.scan_cursors.proofs.Repeated.{Some, some_start, some_on, some_last, some_stop}
+use Rattle.scan_cursors.proofs.Repeated.{Some, some_on, some_last, some_stop}
 
 -- ---- bytes after bytes
 
@@ -36,10 +36,6 @@ appended_twice room a b =
 -- bytes take the place of others
 appended_same : (room : PatternBytes) {to : PatternBytes} (b : List ℕ) → to ≡ appended room b → length to.bytes ≡ length room.bytes
 appended_same room b e = ap (λ (r : PatternBytes). length r.bytes) e ∙ length-sets room.bytes room.used b
-
-pub stores_same : {f : Form (List ℕ)} {s : List ℕ} {c d : Cursor} {room to : PatternBytes} → Stores f s c room to d
-    → length to.bytes ≡ length room.bytes
-stores_same {room = room} r = appended_same room r.0 r.1.kept
 
 -- ---- what stands around stored bytes stores nothing
 
@@ -62,21 +58,6 @@ module _ {A : Type 0} {f : Form A} {F : Form (List ℕ)} {s : List ℕ} {room to
             omega (arith, u.grown m.0 m.1, onward w u.read.inside r, parsed_place d m.1, parsed_place e g);
       }
 
--- a scanner that stores from a place on makes one from any cursor on
-pub stored_step : {F : Form (List ℕ)} {s : List ℕ} {room to : PatternBytes} {b : List ℕ} {c d e : Cursor} {at : ℕ} → Inside s c → at ≡ place_of c
-    → e ≡ joined c d → Stored F s (Parsed at) room b to d → Stored F s c room b to e
-stored_step {F} {s} {room} {to} {b} {c} {d} {e} {at} i p j u =
-    let r = step_reads i p j u.read in
-    record {
-      read = r;
-      kept = u.kept;
-      grown = λ n g.
-          let m = came_parsed r g in
-          let q : c ≡ Parsed m.0 = m.1 in
-          let z : d ≡ Parsed n = rw q at (sym j ∙ g) in
-          omega (arith, u.grown n z, p);
-    }
-
 -- ---- the loop
 
 -- a form of one or more f, and the bytes of its values
@@ -97,15 +78,6 @@ pub record Writes {A : Type 0} {f : Form A} {F : Form (List ℕ)} (W : Writing f
   pub grown : at + length (W.bytes values) ≤ here
 
 module _ {A : Type 0} {f : Form A} {F : Form (List ℕ)} (W : Writing f F) (s : List ℕ) (at : ℕ) (room : PatternBytes) (ready : Ready s (Parsed at) room) where
-  pub writes_start : Writes W s at room at room
-  writes_start =
-      record {
-        values = [];
-        turns = some_start f W.full s at ready.inside;
-        kept = rw W.none (appended_none room);
-        grown = rw W.none (omega arith);
-      }
-
   module _ {here : ℕ} {to : PatternBytes} (u : Writes W s at room here to) where
     pub writes_ready : Ready s (Parsed here) to
     writes_ready =

@@ -16,7 +16,7 @@ use Rattle.scan_cursors.specs.Reads.{Reads}
 use Rattle.scan_cursors.proofs.Readings.{fmap_reads, terminated_reads, failed_reads}
 use Rattle.scan_cursors.proofs.Choices.{first_reads, second_reads}
 use Rattle.scan_cursors.proofs.Onward.{ahead_more}
-use Rattle.scan_pieces.proofs.AtPlace.{begins_in, byte_begun}
+use Rattle.scan_pieces.proofs.AtPlace.{byte_begun}
 use Rattle.read_quoted.specs.Storing.{spaced_pair, hex_pairs, element, Ready, Stores}
 use Rattle.read_quoted.proofs.Halting.{halted}
 use Rattle.read_quoted.proofs.Appended.{appended_none, Writing, Writes, writes_ready, writes-on, writes-last, writes_stop}
@@ -103,9 +103,6 @@ module _ (s : List ℕ) (at : ℕ) (room : PatternBytes) (ready : Ready s (Parse
 
 -- a plain byte, or a block
 module _ (s : List ℕ) (at : ℕ) (room : PatternBytes) where
-  pub plain_room : Ready s (Parsed at) room → begins plain_bytes (drop at s) ≡ true → room.used < length room.bytes
-  plain_room w t = omega (arith, w.after, w.short, w.full, begins_in plain_bytes s at t)
-
   pub plain_stored : {to : PatternBytes} → begins plain_bytes (drop at s) ≡ true → to ≡ appended room (get_or s at 0 ∷ [])
       → Stores element s (Parsed at) room to (Parsed (at + 1))
   plain_stored t e = (
