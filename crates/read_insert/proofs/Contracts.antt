@@ -26,13 +26,12 @@ use Rattle.read_value.specs.declared.Value.{Value}
 use Rattle.read_value.specs.declared.Value.TheVariants as value
 use Rattle.read_value.specs.Values.{option_value_of}
 use Rattle.read_state.specs.declared.State.{State}
-use Rattle.read_state.specs.declared.Inserted.{Inserted}
-use Rattle.read_state.specs.State.{dashes_of, state_from, state_of, Holds, last_slot, Beside, After, option_in, InsertedRight}
+use Rattle.read_state.specs.State.{dashes_of, state_from, state_of, Holds, last_slot, Beside, option_in, Inserts, InsertedRight}
 use Rattle.read_insert.specs.Inserting.{value_inserted}
 use Rattle.read_insert.specs.Checking.{table_in, usable_held, outcome_in, reading_by}
 use Rattle.list_laws.proofs.Padded.{padded_at}
 use Rattle.read_insert.proofs.OneMore.{count_none, dashes_length}
-use Rattle.read_insert.proofs.Outcomes.{Outcome, name_outcome, protocol_outcome, flow_outcome}
+use Rattle.read_insert.proofs.Outcomes.{name_outcome, protocol_outcome, flow_outcome}
 use Rattle.read_insert.proofs.Outcomes.{test_outcome, addresses_outcome, pattern_outcome, modifier_outcome}
 
 -- ---- inserting
@@ -40,59 +39,54 @@ use Rattle.read_insert.proofs.Outcomes.{test_outcome, addresses_outcome, pattern
 no_addresses : (al list : List Address) → al ≡ [] → list ≡ padded max_addresses no_address (take max_addresses al) → list ≡ padded max_addresses no_address []
 no_addresses al list e h = h ∙ ap (λ (l : List Address). padded max_addresses no_address (take max_addresses l)) e
 
--- a value without pattern bytes stores none
-none_stored : {s : List ℕ} {located : List Located} {dash : ℕ} {e : OptionValue} {bytes : List ℕ} {items : List Slot} {r : Inserted} (u : ℕ) (b : List ℕ)
-    → b ≡ []
-    → Outcome s located dash e bytes items r → Outcome s located dash e (sets bytes u b) items r
-none_stored {s} {located} {dash} {e} {bytes} {items} {r} u b z o = subst (λ (c : List ℕ). Outcome s located dash e (sets bytes u c) items r) (sym z) o
-
 module _ (s : List ℕ) (located : List Located) (dash from : ℕ) (bytes : List ℕ) (items : List Slot) (h : Holds s located (state_of from located) bytes items)
     (last : Slot) (at_last : last ≡ last_slot items (state_of from located)) (list : List Address) (used : ℕ) (al : List Address) (b : List ℕ) where
   abbrev now : State
   now = state_of from located
 
+  -- a value without pattern bytes stores none
+  none_stored : (v : Value) → b ≡ [] → Inserts s located dash (option_value_of s v al b) bytes items (value_inserted now last dash v list used)
+      → Inserts s located dash (option_value_of s v al b) (sets bytes now.used b) items (value_inserted now last dash v list used)
+  none_stored v z o =
+      subst (λ (l : List ℕ). Inserts s located dash (option_value_of s v al b) (sets bytes now.used l) items (value_inserted now last dash v list used)) (sym z) o
+
   value_outcome : (v : Value) → Beside s now v list used al b
-      → Outcome s located dash (option_value_of s v al b) (sets bytes now.used b) items (value_inserted now last dash v list used)
+      → Inserts s located dash (option_value_of s v al b) (sets bytes now.used b) items (value_inserted now last dash v list used)
   unfolding option_value_of value_inserted
-  value_outcome (value.Name at n) k = none_stored now.used b k.apart.4 (name_outcome s located dash from bytes items h at n k.apart.1 k.apart.2)
-  value_outcome (value.Protocol p) k = none_stored now.used b k.apart.1 (protocol_outcome s located dash from bytes items h p)
-  value_outcome (value.Flow f) k = none_stored now.used b k.apart.1 (flow_outcome s located dash from bytes items h f)
+  value_outcome (value.Name at n) k = none_stored (value.Name at n) k.apart.4 (name_outcome s located dash from bytes items h at n k.apart.1 k.apart.2)
+  value_outcome (value.Protocol p) k = none_stored (value.Protocol p) k.apart.1 (protocol_outcome s located dash from bytes items h p)
+  value_outcome (value.Flow f) k = none_stored (value.Flow f) k.apart.1 (flow_outcome s located dash from bytes items h f)
   value_outcome (value.Test it) k =
-      none_stored now.used b k.apart.1
+      none_stored (value.Test it) k.apart.1
       (test_outcome s located dash from bytes items h it [] list (omega arith) (no_addresses al list k.apart.0 k.addresses))
   value_outcome (value.Addresses a) k =
-      none_stored now.used b k.apart.1 (addresses_outcome s located dash from bytes items h a al list k.apart.0 k.addresses)
+      none_stored (value.Addresses a) k.apart.1 (addresses_outcome s located dash from bytes items h a al list k.apart.0 k.addresses)
   value_outcome (value.Pattern negated n) k =
       pattern_outcome s located dash from bytes items h negated n b list used k.apart.0 (no_addresses al list k.apart.1 k.addresses)
       k.counted k.fits
-  value_outcome (value.Context c) k = none_stored now.used b k.apart.1 (modifier_outcome s located dash from bytes items h (Context c) last at_last)
-  value_outcome value.NoCase k = none_stored now.used b k.apart.1 (modifier_outcome s located dash from bytes items h NoCase last at_last)
-  value_outcome (value.Distance d) k = none_stored now.used b k.apart.1 (modifier_outcome s located dash from bytes items h (Distance d) last at_last)
-  value_outcome (value.Within w) k = none_stored now.used b k.apart.1 (modifier_outcome s located dash from bytes items h (Within w) last at_last)
+  value_outcome (value.Context c) k = none_stored (value.Context c) k.apart.1 (modifier_outcome s located dash from bytes items h (Context c) last at_last)
+  value_outcome value.NoCase k = none_stored value.NoCase k.apart.1 (modifier_outcome s located dash from bytes items h NoCase last at_last)
+  value_outcome (value.Distance d) k = none_stored (value.Distance d) k.apart.1 (modifier_outcome s located dash from bytes items h (Distance d) last at_last)
+  value_outcome (value.Within w) k = none_stored (value.Within w) k.apart.1 (modifier_outcome s located dash from bytes items h (Within w) last at_last)
 
 pub inserted_right : (st : State) (last : Slot) (dash : ℕ) (v : Value) (list : List Address) (used : ℕ)
     → InsertedRight st last dash v list used (value_inserted st last dash v list used)
-inserted_right st last dash v list used = record { check = λ k. (here k).check; holds = λ k. (here k).holds }
-  where
-    here : (k : After st last v list used)
-        → Outcome k.text k.located dash (option_in k) (sets k.bytes st.used k.b) k.items (value_inserted st last dash v list used)
-    here k =
-        subst (λ (x : State). Holds k.text k.located x k.bytes k.items → last ≡ last_slot k.items x
-        → Beside k.text x v list used k.al k.b
-        → Outcome k.text k.located dash (option_in k) (sets k.bytes x.used k.b) k.items (value_inserted x last dash v list used))
-        (sym k.holds.is)
-        (λ h e. value_outcome k.text k.located dash st.from k.bytes k.items h last e list used k.al k.b v)
-        k.holds k.latest k.beside
+inserted_right st last dash v list used k =
+    subst (λ (x : State). Holds k.text k.located x k.bytes k.items → last ≡ last_slot k.items x
+    → Beside k.text x v list used k.al k.b
+    → Inserts k.text k.located dash (option_in k) (sets k.bytes x.used k.b) k.items (value_inserted x last dash v list used))
+    (sym k.holds.is)
+    (λ h e. value_outcome k.text k.located dash st.from k.bytes k.items h last e list used k.al k.b v)
+    k.holds k.latest k.beside
 
 -- ---- judging
 
--- the code's two tests are the definition's one
-missing_by : (n : ℕ) (t : Table) (a b : Bool)
-    → reading_by (if a then Err (record { refusal = refusal.Missing; place = n }) else if b then Err (record { refusal = refusal.Missing; place = n }) else (Ok tt)) t
-    ≡ (if (a || b) then refused_reading document_limits.room refusal.Missing n else accepted_reading t)
-missing_by n t true b = refl
-missing_by n t false true = refl
-missing_by n t false false = refl
+-- a refusal, or the table
+missing_by : (n : ℕ) (t : Table) (a : Bool)
+    → reading_by (if a then Err (record { refusal = refusal.Missing; place = n }) else (Ok tt)) t
+    ≡ (if a then refused_reading document_limits.room refusal.Missing n else accepted_reading t)
+missing_by n t true = refl
+missing_by n t false = refl
 
 checked_at : (s : List ℕ) (located : List Located) (from : ℕ) (bytes : List ℕ) (items : List Slot) → Holds s located (state_of from located) bytes items
     → reading_by (outcome_in (length s) (state_of from located) items) (table_in s (state_of from located) bytes items)
@@ -108,7 +102,7 @@ checked_at s located from bytes items h =
     let m : usable_in es < length (dashes_of located) = omega (arith, ltb-true (usable_in es) (count is_pattern es) t, dashes_length located) in
     rw (u, t, padded_at max_patterns 0 (dashes_of located) (usable_in es) 0 m))
     (λ f. rw (u, f, h.named.is, h.stored, h.slots, count_none (same_kind (Name [])) es, count_none (same_kind (Protocol 0)) es)
-    (missing_by (length s) (table_of document_limits.room es) (not (any? (same_kind (Name [])) es)) (not (any? (same_kind (Protocol 0)) es))))
+    (missing_by (length s) (table_of document_limits.room es) (not (any? (same_kind (Name [])) es) || not (any? (same_kind (Protocol 0)) es))))
 
 -- whichever text of n bytes, pattern bytes and options the state holds
 pub checked_right : (n : ℕ) (st : State) (items : List Slot) (s bytes : List ℕ) (located : List Located) → length s ≡ n → Holds s located st bytes items

@@ -2,10 +2,8 @@
 use mathlib.Core.Path.{◌≡◌, sym, ap, ◌∙◌}
 use mathlib.Core.Bool.{true}
 use mathlib.Core.List.{List, [], ◌∷◌, ◌++◌}
-use Prim.Native.Nat.{◌≤◌, ◌<◌}
-use native.Mathlib.Omega.{arith}
+use Prim.Native.Nat.{◌<◌}
 use lib.ListN.{length, get_or, set}
-use lib.Seq.{set_out}
 use Rattle.definitions.specs.declared.table.Pattern as patterns
 use Rattle.definitions.specs.declared.table.Item.TheVariants as item
 use Rattle.definitions.specs.declared.table.Slot.{Slot}
@@ -16,7 +14,7 @@ use Rattle.definitions.specs.Tables.{slots_in, slot_of, no_slot, modified, with}
 use Rattle.definitions.specs.Occurrences.{is_pattern}
 use Rattle.read_state.specs.State.{last_place}
 use Rattle.read_insert_modifiers.specs.Modifying.{slot_with, pattern_of}
-use Rattle.list_laws.proofs.Padded.{padded_one, padded_set, padded_at, padded_full}
+use Rattle.list_laws.proofs.Padded.{padded_one, padded_set, padded_at}
 use Rattle.read_insert.proofs.LastPattern.{LastIs, last_is}
 use Rattle.read_insert.proofs.Agreement.{slots_same, slots_new}
 
@@ -24,12 +22,8 @@ abbrev pub items_of : List OptionValue → List Slot
 items_of es = padded max_items no_slot (slots_in es)
 
 module _ (es : List OptionValue) (items : List Slot) (is : items ≡ items_of es) where
-  -- a store past the end is none
-  pub items_same : (e : OptionValue) → length (slots_in es) ≤ max_items → ((p : patterns.Pattern) → modified (e ∷ []) p ≡ p) → slots_in (e ∷ []) ≡ []
-      → set items max_items no_slot ≡ items_of (es ++ (e ∷ []))
-  items_same e few h s =
-      set_out items max_items no_slot (omega (arith, ap length is, padded_full max_items no_slot (slots_in es) few))
-      ∙ is ∙ ap (padded max_items no_slot) (sym (slots_same es e h s))
+  pub items_same : (e : OptionValue) → ((p : patterns.Pattern) → modified (e ∷ []) p ≡ p) → slots_in (e ∷ []) ≡ [] → items ≡ items_of (es ++ (e ∷ []))
+  items_same e h s = is ∙ ap (padded max_items no_slot) (sym (slots_same es e h s))
 
   pub items_new : (e : OptionValue) (sl : Slot) → length (slots_in es) < max_items → ((p : patterns.Pattern) → modified (e ∷ []) p ≡ p)
       → slots_in (e ∷ []) ≡ sl ∷ []

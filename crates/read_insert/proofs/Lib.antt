@@ -6,5 +6,6 @@ pub mod Agreement
 pub mod Steps
 pub mod Items
 pub mod OneMore
+pub mod SaidOnce
 pub mod Outcomes
 pub mod Contracts

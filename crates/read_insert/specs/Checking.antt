@@ -1,5 +1,5 @@
 -- The judgement at the end, as the code goes about it: over the state of a text and its items; and the table, with the pattern bytes beside them.
-use Rattle.std.specs.Prelude.{ℕ, not, List, get_or, take, drop, ltb, if◌then◌else◌, None, Result, Ok, Err}
+use Rattle.std.specs.Prelude.{ℕ, not, ◌||◌, List, get_or, take, drop, ltb, if◌then◌else◌, None, Result, Ok, Err}
 use Rattle.definitions.specs.Limits.{document_limits, max_name}
 use Rattle.definitions.specs.Lists.{padded}
 use Rattle.definitions.specs.declared.answers.Refusal.TheVariants as refusal
@@ -32,8 +32,7 @@ usable_held st items = usable_run None (patterns_of (take st.count items))
 unfoldable pub outcome_in : ℕ → State → List Slot → Result Unit TextRefusal
 outcome_in n st items =
     if ltb (usable_held st items) st.patterns then Err (record { refusal = refusal.Unusable; place = (get_or st.dashes (usable_held st items) 0) })
-    else if not st.given.name then Err (record { refusal = refusal.Missing; place = n })
-    else if not st.given.protocol then Err (record { refusal = refusal.Missing; place = n })
+    else if not st.given.name || not st.given.protocol then Err (record { refusal = refusal.Missing; place = n })
     else (Ok tt)
 
 -- the reading of an answer and the table of what was read: a refusal's table is that of no options

@@ -1,14 +1,13 @@
 -- What the code does to the state for each value, step by step. That this is the state of one option more is proved in proofs/.
-use Rattle.std.specs.Prelude.{ℕ, true, List, Ok}
+use Rattle.std.specs.Prelude.{ℕ, Bool, true, List, if◌then◌else◌, Result, Ok, Err}
+use Rattle.definitions.specs.declared.answers.Refusal.{Refusal}
 use Rattle.definitions.specs.declared.answers.Refusal.TheVariants as refusal
 use Rattle.definitions.specs.declared.table.Flow as flows
 use Rattle.definitions.specs.declared.table.Address.{Address}
 use Rattle.definitions.specs.declared.table.Slot.{Slot}
-use Rattle.definitions.specs.Refusals.{refuse_if}
 use Rattle.definitions.specs.OptionValues.{Context, NoCase, Distance, Within}
 use Rattle.read_value.specs.declared.Value.{Value}
 use Rattle.read_value.specs.declared.Value.TheVariants as value
-use Rattle.read_state.specs.declared.Given.{Given}
 use Rattle.read_state.specs.declared.State.{State}
 use Rattle.read_state.specs.declared.Inserted.{Inserted}
 use Rattle.read_state.specs.Sound.{without_item}
@@ -17,79 +16,31 @@ use Rattle.read_insert_modifiers.specs.Modifying.{modifier_inserted}
 
 -- ---- name, protocol and flow
 
-abbrev pub name_given : Given → Given
-name_given g =
-    record { name = true; protocol = g.protocol; flow = g.flow; context = g.context; nocase = g.nocase; distance = g.distance; within = g.within }
-
-abbrev pub protocol_given : Given → Given
-protocol_given g =
-    record { name = g.name; protocol = true; flow = g.flow; context = g.context; nocase = g.nocase; distance = g.distance; within = g.within }
-
-abbrev pub flow_given : Given → Given
-flow_given g =
-    record { name = g.name; protocol = g.protocol; flow = true; context = g.context; nocase = g.nocase; distance = g.distance; within = g.within }
-
 abbrev pub with_name : State → ℕ → ℕ → State
-with_name st from n =
-    record {
-      from = from;
-      len = n;
-      protocol = st.protocol;
-      flow = st.flow;
-      used = st.used;
-      count = st.count;
-      given = name_given st.given;
-      patterns = st.patterns;
-      tests = st.tests;
-      last = st.last;
-      dashes = st.dashes;
-    }
+with_name st from n = record st { from = from; len = n; given = record (st.given) { name = true } }
 
 abbrev pub with_protocol : State → ℕ → State
-with_protocol st p =
-    record {
-      from = st.from;
-      len = st.len;
-      protocol = p;
-      flow = st.flow;
-      used = st.used;
-      count = st.count;
-      given = protocol_given st.given;
-      patterns = st.patterns;
-      tests = st.tests;
-      last = st.last;
-      dashes = st.dashes;
-    }
+with_protocol st p = record st { protocol = p; given = record (st.given) { protocol = true } }
 
 abbrev pub with_flow : State → flows.Flow → State
-with_flow st f =
-    record {
-      from = st.from;
-      len = st.len;
-      protocol = st.protocol;
-      flow = f;
-      used = st.used;
-      count = st.count;
-      given = flow_given st.given;
-      patterns = st.patterns;
-      tests = st.tests;
-      last = st.last;
-      dashes = st.dashes;
-    }
+with_flow st f = record st { flow = f; given = record (st.given) { flow = true } }
 
--- the state is made whatever is due
-unfoldable pub name_inserted : State → ℕ → ℕ → Inserted
-name_inserted st from n = without_item (refuse_if st.given.name refusal.Repeated (Ok tt)) (with_name st from n)
+-- given once before or not, and the state with it
+abbrev pub inserted_once : Bool → State → Result Inserted Refusal
+inserted_once again st = if again then Err refusal.Repeated else Ok (without_item st)
 
-unfoldable pub protocol_inserted : State → ℕ → Inserted
-protocol_inserted st p = without_item (refuse_if st.given.protocol refusal.Repeated (Ok tt)) (with_protocol st p)
+unfoldable pub name_inserted : State → ℕ → ℕ → Result Inserted Refusal
+name_inserted st from n = inserted_once st.given.name (with_name st from n)
 
-unfoldable pub flow_inserted : State → flows.Flow → Inserted
-flow_inserted st f = without_item (refuse_if st.given.flow refusal.Repeated (Ok tt)) (with_flow st f)
+unfoldable pub protocol_inserted : State → ℕ → Result Inserted Refusal
+protocol_inserted st p = inserted_once st.given.protocol (with_protocol st p)
+
+unfoldable pub flow_inserted : State → flows.Flow → Result Inserted Refusal
+flow_inserted st f = inserted_once st.given.flow (with_flow st f)
 
 -- ---- any value, where `last` is the slot of the last pattern
 
-unfoldable pub value_inserted : State → Slot → ℕ → Value → List Address → ℕ → Inserted
+unfoldable pub value_inserted : State → Slot → ℕ → Value → List Address → ℕ → Result Inserted Refusal
 value_inserted st last dash (value.Name from n) list used = name_inserted st from n
 value_inserted st last dash (value.Protocol p) list used = protocol_inserted st p
 value_inserted st last dash (value.Flow f) list used = flow_inserted st f

@@ -1,13 +1,13 @@
 // The judgement after the last option: 10 by pattern, then 12.
-ghost use Rattle.std.specs.Prelude.{◌≡◌, ◌+◌, ◌≤◌, ◌<◌, length, get_or, take, drop};
-ghost use Rattle.definitions.specs.Limits.{document_limits, max_name, max_patterns};
+ghost use Rattle.std.specs.Prelude.{◌≡◌, ◌+◌, ◌≤◌, length, take, drop};
+ghost use Rattle.definitions.specs.Limits.{document_limits, max_name};
 ghost use Rattle.definitions.specs.Lists.{padded};
 ghost use Rattle.definitions.specs.Reading.{refused_reading};
 ghost use Rattle.read_state.specs.Sound.{Sound};
 ghost use Rattle.read_insert.specs.Checking.{outcome_in};
 
 use definitions::answers::{Reading, Refusal, TextRefusal};
-use definitions::limits::{ITEMS, NAME_BYTES, PATTERNS, PATTERN_BYTES};
+use definitions::limits::{ITEMS, NAME_BYTES, PATTERN_BYTES};
 use definitions::table::{Flow, Slot, Table};
 use read_references::usable_count;
 use read_state::{State, no_slot};
@@ -18,11 +18,7 @@ pub fn name_of(s: &[u8], from: usize, n: usize) -> [u8; NAME_BYTES]
     ensures { result ≡ padded max_name 0 (take n (drop from s.now)) }
 {
     let mut name = [0u8; NAME_BYTES];
-    let mut i = 0;
-    while i < n {
-        name[i] = s[from + i];
-        i += 1;
-    }
+    name[..n].copy_from_slice(&s[from..from + n]);
     name
 }
 
@@ -30,31 +26,19 @@ pub fn name_of(s: &[u8], from: usize, n: usize) -> [u8; NAME_BYTES]
 pub fn refused(r: Refusal, place: usize) -> Reading
     ensures { result ≡ refused_reading document_limits.room r place }
 {
-    let slot = no_slot();
-    let table = Table {
-        name: [0u8; NAME_BYTES],
-        len: 0,
-        protocol: 0,
-        flow: Flow::Any,
-        bytes: [0u8; PATTERN_BYTES],
-        used: 0,
-        items: [slot; ITEMS],
-        count: 0,
-    };
     Reading {
-        outcome: Err(TextRefusal {
-            refusal: r,
-            place,
-        }),
-        table,
+        outcome: Err(TextRefusal { refusal: r, place }),
+        table: Table {
+            name: [0; NAME_BYTES],
+            len: 0,
+            protocol: 0,
+            flow: Flow::Any,
+            bytes: [0; PATTERN_BYTES],
+            used: 0,
+            items: [no_slot(); ITEMS],
+            count: 0,
+        },
     }
-}
-
-fn dash_of(dashes: [usize; PATTERNS], k: usize) -> usize
-    requires { k < max_patterns }
-    ensures { result ≡ get_or dashes k 0 }
-{
-    dashes[k]
 }
 
 // The state after the last option of the text, with the items beside it.
@@ -64,21 +48,12 @@ pub fn judge(len: usize, st: State, items: [Slot; ITEMS]) -> Result<(), TextRefu
 {
     let usable = usable_count(items, st.count);
     if usable < st.patterns {
-        let dashes = st.dashes;
-        let place = dash_of(dashes, usable);
         return Err(TextRefusal {
             refusal: Refusal::Unusable,
-            place,
+            place: st.dashes[usable],
         });
     }
-    let given = st.given;
-    if !given.name {
-        return Err(TextRefusal {
-            refusal: Refusal::Missing,
-            place: len,
-        });
-    }
-    if !given.protocol {
+    if !st.given.name || !st.given.protocol {
         return Err(TextRefusal {
             refusal: Refusal::Missing,
             place: len,

@@ -15,7 +15,7 @@ ghost use Rattle.read_insert.specs.Checking.{table_in, reading_by};
 
 use crate::checking::judge;
 use crate::once::{insert_flow, insert_name, insert_protocol};
-use definitions::answers::TextRefusal;
+use definitions::answers::{Refusal, TextRefusal};
 use definitions::limits::{ADDRESSES, ITEMS};
 use definitions::table::{Address, Slot};
 use read_insert_counted::{insert_addresses, insert_pattern, insert_test};
@@ -31,7 +31,7 @@ fn insert_value(
     value: Value,
     list: [Address; ADDRESSES],
     used: usize,
-) -> Inserted
+) -> Result<Inserted, Refusal>
     requires { Sound st }
     ensures { result ≡ value_inserted st last dash value list used }
 {
@@ -49,8 +49,8 @@ fn insert_value(
     }
 }
 
-// One option more: what is due for it (8, 9 or 11), and, if nothing is, the state with it and the slot that it puts among the items. Up to its own
-// pattern bytes `used` are in use.
+// One option more: 8, 9 or 11 where one is due for it; else the state with it and the slot that it puts among the items. Up to its own pattern bytes
+// `used` are in use.
 pub fn insert(
     st: State,
     last: Slot,
@@ -58,7 +58,7 @@ pub fn insert(
     value: Value,
     list: [Address; ADDRESSES],
     used: usize,
-) -> Inserted
+) -> Result<Inserted, Refusal>
     requires { After st last value list used }
     ensures { InsertedRight st last dash value list used result }
 {

@@ -2,46 +2,49 @@
 #![tactic(auto)]
 
 ghost use Rattle.std.specs.Prelude.{◌≡◌};
-ghost use Rattle.read_state.specs.Sound.{Sound};
+ghost use Rattle.read_state.specs.Sound.{Sound, with_item};
 ghost use Rattle.read_insert_counted.specs.Counting.{test_inserted, addresses_inserted, pattern_inserted};
 
 use definitions::answers::Refusal;
 use definitions::limits::{ADDRESSES, PATTERNS, TESTS};
 use definitions::table::{Address, AddressTest, Item, Slot};
-use read_state::{Given, Inserted, State, bare_pattern, no_item};
+use read_state::{Given, Inserted, PlacedSlot, State, bare_pattern};
 
 // A test goes after the items so far, with its addresses beside it; 11 where there is no room for one more.
-pub fn insert_test(st: State, item: Item, list: [Address; ADDRESSES]) -> Inserted
+pub fn insert_test(
+    st: State,
+    item: Item,
+    list: [Address; ADDRESSES],
+) -> Result<Inserted, Refusal>
     requires { Sound st }
     ensures { result ≡ test_inserted st item list }
 {
-    let tests = st.tests;
-    if TESTS <= tests {
-        return no_item(Err(Refusal::CountExceeded), st);
+    if TESTS <= st.tests {
+        return Err(Refusal::CountExceeded);
     }
+    let state = State {
+        count: st.count + 1,
+        tests: st.tests + 1,
+        ..st
+    };
     let slot = Slot {
         item,
         addresses: list,
     };
-    let place = st.count;
-    let mut state = st;
-    state.count = place + 1;
-    state.tests = tests + 1;
-    Inserted {
-        check: Ok(()),
-        state,
-        place,
-        slot,
-    }
+    Ok(item_after(st, state, slot))
 }
 
 // A list of more addresses than a test holds was read all the same, and is refused here.
-pub fn insert_addresses(st: State, a: AddressTest, list: [Address; ADDRESSES]) -> Inserted
+pub fn insert_addresses(
+    st: State,
+    a: AddressTest,
+    list: [Address; ADDRESSES],
+) -> Result<Inserted, Refusal>
     requires { Sound st }
     ensures { result ≡ addresses_inserted st a list }
 {
     if ADDRESSES < a.count {
-        return no_item(Err(Refusal::CountExceeded), st);
+        return Err(Refusal::CountExceeded);
     }
     insert_test(st, Item::Address(a), list)
 }
@@ -54,41 +57,47 @@ pub fn insert_pattern(
     n: usize,
     list: [Address; ADDRESSES],
     used: usize,
-) -> Inserted
+) -> Result<Inserted, Refusal>
     requires { Sound st }
     ensures { result ≡ pattern_inserted st dash negated n list used }
 {
-    let patterns = st.patterns;
-    if PATTERNS <= patterns {
-        return no_item(Err(Refusal::CountExceeded), st);
+    if PATTERNS <= st.patterns {
+        return Err(Refusal::CountExceeded);
     }
-    let pattern = bare_pattern(negated, n);
-    let slot = Slot {
-        item: Item::Pattern(pattern),
-        addresses: list,
-    };
-    let before = st.given;
+    let mut dashes = st.dashes;
+    dashes[st.patterns] = dash;
     let given = Given {
-        name: before.name,
-        protocol: before.protocol,
-        flow: before.flow,
         context: false,
         nocase: false,
         distance: false,
         within: false,
+        ..st.given
     };
-    let place = st.count;
-    let mut state = st;
-    state.used = used;
-    state.count = place + 1;
-    state.given = given;
-    state.last = place;
-    state.dashes[patterns] = dash;
-    state.patterns = patterns + 1;
+    let state = State {
+        used,
+        count: st.count + 1,
+        given,
+        patterns: st.patterns + 1,
+        last: st.count,
+        dashes,
+        ..st
+    };
+    let slot = Slot {
+        item: Item::Pattern(bare_pattern(negated, n)),
+        addresses: list,
+    };
+    Ok(item_after(st, state, slot))
+}
+
+// The state `next` with one item more, after those that there are in `st`.
+fn item_after(st: State, next: State, slot: Slot) -> Inserted
+    ensures { result ≡ with_item st next slot }
+{
     Inserted {
-        check: Ok(()),
-        state,
-        place,
-        slot,
+        state: next,
+        put: Some(PlacedSlot {
+            place: st.count,
+            slot,
+        }),
     }
 }

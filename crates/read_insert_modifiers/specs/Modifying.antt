@@ -1,11 +1,11 @@
 -- What the code does to the state for a modifier, step by step.
-use Rattle.std.specs.Prelude.{Bool, true, false, eqb, Ok}
+use Rattle.std.specs.Prelude.{Bool, true, false, eqb, if◌then◌else◌, Some, Result, Ok, Err}
+use Rattle.definitions.specs.declared.answers.Refusal.{Refusal}
 use Rattle.definitions.specs.declared.answers.Refusal.TheVariants as refusal
 use Rattle.definitions.specs.declared.table.Pattern.{Pattern}
 use Rattle.definitions.specs.declared.table.Item.{Item}
 use Rattle.definitions.specs.declared.table.Item.TheVariants as item
 use Rattle.definitions.specs.declared.table.Slot.{Slot}
-use Rattle.definitions.specs.Refusals.{refuse_if}
 use Rattle.definitions.specs.OptionValues.{Modifier, Context, NoCase, Distance, Within}
 use Rattle.definitions.specs.Tables.{bare, with}
 use Rattle.definitions.specs.Items.{Kind, unused, addressed, patterned, plain_test, kind_of}
@@ -24,33 +24,17 @@ unfoldable pub pattern_of : Item → Pattern
 pattern_of it = pattern_in (kind_of it)
 
 abbrev pub with_given : State → Given → State
-with_given st g =
-    record {
-      from = st.from;
-      len = st.len;
-      protocol = st.protocol;
-      flow = st.flow;
-      used = st.used;
-      count = st.count;
-      given = g;
-      patterns = st.patterns;
-      tests = st.tests;
-      last = st.last;
-      dashes = st.dashes;
-    }
+with_given st g = record st { given = g }
 
 -- a slot with another pattern in it
 abbrev pub slot_with : Slot → Pattern → Slot
-slot_with sl p = record { item = item.Pattern p; addresses = sl.addresses }
+slot_with sl p = record sl { item = item.Pattern p }
 
-unfoldable pub modifier_by : State → Slot → Bool → Pattern → Given → Inserted
+unfoldable pub modifier_by : State → Slot → Bool → Pattern → Given → Result Inserted Refusal
 modifier_by st last again p g =
-    record {
-      check = refuse_if (eqb st.patterns 0) refusal.ModifierWithoutPattern (refuse_if again refusal.Repeated (Ok tt));
-      state = with_given st g;
-      place = st.last;
-      slot = slot_with last p;
-    }
+    if eqb st.patterns 0 then Err refusal.ModifierWithoutPattern
+    else if again then Err refusal.Repeated
+    else Ok (record { state = with_given st g; put = Some (record { place = st.last; slot = slot_with last p }) })
 
 -- whether it was given, and that it is
 abbrev pub already : Modifier → Given → Bool
@@ -60,15 +44,11 @@ already (Distance d) g = g.distance
 already (Within w) g = g.within
 
 abbrev pub given_also : Modifier → Given → Given
-given_also (Context c) g =
-    record { name = g.name; protocol = g.protocol; flow = g.flow; context = true; nocase = g.nocase; distance = g.distance; within = g.within }
-given_also NoCase g =
-    record { name = g.name; protocol = g.protocol; flow = g.flow; context = g.context; nocase = true; distance = g.distance; within = g.within }
-given_also (Distance d) g =
-    record { name = g.name; protocol = g.protocol; flow = g.flow; context = g.context; nocase = g.nocase; distance = true; within = g.within }
-given_also (Within w) g =
-    record { name = g.name; protocol = g.protocol; flow = g.flow; context = g.context; nocase = g.nocase; distance = g.distance; within = true }
+given_also (Context c) g = record g { context = true }
+given_also NoCase g = record g { nocase = true }
+given_also (Distance d) g = record g { distance = true }
+given_also (Within w) g = record g { within = true }
 
 -- where `last` is the slot of the last pattern
-abbrev pub modifier_inserted : State → Slot → Modifier → Inserted
+abbrev pub modifier_inserted : State → Slot → Modifier → Result Inserted Refusal
 modifier_inserted st last m = modifier_by st last (already m st.given) (with m (pattern_of last.item)) (given_also m st.given)

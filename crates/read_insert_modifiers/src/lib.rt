@@ -8,14 +8,13 @@ ghost use Rattle.read_insert_modifiers.specs.Modifying.{pattern_of, modifier_by,
 
 use definitions::answers::Refusal;
 use definitions::table::{Context, DistanceValue, Item, Pattern, Slot, WithinValue};
-use read_state::{Given, Inserted, State, bare_pattern, check_again};
+use read_state::{Given, Inserted, PlacedSlot, State, bare_pattern, check_again};
 
 // The pattern in a slot; in any other slot there is none to look at.
 fn pattern_of(slot: Slot) -> Pattern
     ensures { result ≡ pattern_of slot.item }
 {
-    let item = slot.item;
-    let Item::Pattern(p) = item else {
+    let Item::Pattern(p) = slot.item else {
         return bare_pattern(false, 0);
     };
     p
@@ -32,99 +31,84 @@ fn check_for(none: bool, again: bool) -> Result<(), Refusal>
 }
 
 // A modifier that makes `p` of the last pattern, whose slot is `last`; `again` says that it was given already.
-fn insert_modifier(st: State, last: Slot, again: bool, p: Pattern, given: Given) -> Inserted
+fn insert_modifier(
+    st: State,
+    last: Slot,
+    again: bool,
+    p: Pattern,
+    given: Given,
+) -> Result<Inserted, Refusal>
     ensures { result ≡ modifier_by st last again p given }
 {
-    let none = st.patterns == 0;
-    let check = check_for(none, again);
-    let addresses = last.addresses;
-    let slot = Slot {
-        item: Item::Pattern(p),
-        addresses,
-    };
-    let place = st.last;
-    let mut state = st;
-    state.given = given;
-    Inserted {
-        check,
-        state,
-        place,
-        slot,
-    }
+    check_for(st.patterns == 0, again)?;
+    Ok(Inserted {
+        state: State { given, ..st },
+        put: Some(PlacedSlot {
+            place: st.last,
+            slot: Slot {
+                item: Item::Pattern(p),
+                ..last
+            },
+        }),
+    })
 }
 
 // The context of the last pattern.
-pub fn insert_context(st: State, last: Slot, c: Context) -> Inserted
+pub fn insert_context(st: State, last: Slot, c: Context) -> Result<Inserted, Refusal>
     ensures { result ≡ modifier_inserted st last (modifier.Context c) }
 {
-    let p = pattern_of(last);
-    let distance = p.distance;
-    let within = p.within;
-    let q = Pattern {
-        negated: p.negated,
-        len: p.len,
+    let p = Pattern {
         context: c,
-        nocase: p.nocase,
-        distance,
-        within,
+        ..pattern_of(last)
     };
-    let mut given = st.given;
-    let again = given.context;
-    given.context = true;
-    insert_modifier(st, last, again, q, given)
+    let given = Given {
+        context: true,
+        ..st.given
+    };
+    insert_modifier(st, last, st.given.context, p, given)
 }
 
 // The last pattern ignores letter case.
-pub fn insert_nocase(st: State, last: Slot) -> Inserted
+pub fn insert_nocase(st: State, last: Slot) -> Result<Inserted, Refusal>
     ensures { result ≡ modifier_inserted st last modifier.NoCase }
 {
-    let p = pattern_of(last);
-    let mut q = p;
-    q.nocase = true;
-    let mut given = st.given;
-    let again = given.nocase;
-    given.nocase = true;
-    insert_modifier(st, last, again, q, given)
+    let p = Pattern {
+        nocase: true,
+        ..pattern_of(last)
+    };
+    let given = Given {
+        nocase: true,
+        ..st.given
+    };
+    insert_modifier(st, last, st.given.nocase, p, given)
 }
 
 // The distance of the last pattern.
-pub fn insert_distance(st: State, last: Slot, d: DistanceValue) -> Inserted
+pub fn insert_distance(st: State, last: Slot, d: DistanceValue) -> Result<Inserted, Refusal>
     ensures { result ≡ modifier_inserted st last (modifier.Distance d) }
 {
-    let p = pattern_of(last);
-    let context = p.context;
-    let within = p.within;
-    let q = Pattern {
-        negated: p.negated,
-        len: p.len,
-        context,
-        nocase: p.nocase,
+    let p = Pattern {
         distance: Some(d),
-        within,
+        ..pattern_of(last)
     };
-    let mut given = st.given;
-    let again = given.distance;
-    given.distance = true;
-    insert_modifier(st, last, again, q, given)
+    let given = Given {
+        distance: true,
+        ..st.given
+    };
+    insert_modifier(st, last, st.given.distance, p, given)
 }
 
 // How far the last pattern reaches.
-pub fn insert_within(st: State, last: Slot, w: WithinValue) -> Inserted
+pub fn insert_within(st: State, last: Slot, w: WithinValue) -> Result<Inserted, Refusal>
     ensures { result ≡ modifier_inserted st last (modifier.Within w) }
 {
-    let p = pattern_of(last);
-    let context = p.context;
-    let distance = p.distance;
-    let q = Pattern {
-        negated: p.negated,
-        len: p.len,
-        context,
-        nocase: p.nocase,
-        distance,
+    let p = Pattern {
         within: Some(w),
+        ..pattern_of(last)
     };
-    let mut given = st.given;
-    let again = given.within;
-    given.within = true;
-    insert_modifier(st, last, again, q, given)
+    let given = Given {
+        within: true,
+        ..st.given
+    };
+    insert_modifier(st, last, st.given.within, p, given)
 }

@@ -1,6 +1,7 @@
 -- The state that options make, with the pattern bytes and items beside it, and what inserting promises of it.
-use Rattle.std.specs.Prelude.{ℕ, suc, ◌+◌, ◌≤◌, ◌≡◌, Bool, List, [], ◌∷◌, ◌++◌, map, length, take, drop, get_or, set, eqb, if◌then◌else◌, Ok}
+use Rattle.std.specs.Prelude.{ℕ, suc, ◌+◌, ◌≤◌, ◌<◌, ◌≡◌, Bool, List, [], ◌∷◌, ◌++◌, map, length, take, drop, get_or, set, eqb, if◌then◌else◌, Option, Some, None, Result, Ok, Err}
 use Rattle.std.proofs.lemmas.List.Edits.{sets}
+use Rattle.definitions.specs.declared.answers.Refusal.{Refusal}
 use Rattle.definitions.specs.declared.table.Address.{Address}
 use Rattle.definitions.specs.declared.table.Flow.TheVariants.{Any}
 use Rattle.definitions.specs.declared.table.Item.TheVariants as item
@@ -16,6 +17,7 @@ use Rattle.read_value.specs.declared.Value.TheVariants as value
 use Rattle.read_value.specs.Values.{option_value_of}
 use Rattle.read_state.specs.declared.Given.{Given}
 use Rattle.read_state.specs.declared.State.{State}
+use Rattle.read_state.specs.declared.PlacedSlot.{PlacedSlot}
 use Rattle.read_state.specs.declared.Inserted.{Inserted}
 
 -- ---- the state of the options said
@@ -146,9 +148,23 @@ option_in {v = v} k = option_value_of k.text v k.al k.b
 abbrev pub located_also : List Located → ℕ → OptionValue → List Located
 located_also located dash e = located ++ (record { dash = dash; value = e } ∷ [])
 
--- whichever these are: what is due for the value is what the definition says, and if nothing is, the state holds one option more, with the value's bytes
--- stored and the slot put at its place
-pub record InsertedRight (st : State) (last : Slot) (dash : ℕ) (v : Value) (list : List Address) (used : ℕ) (r : Inserted) : Type 0 where
-  pub check : (k : After st last v list used) → r.check ≡ occurrence_check (option_values_of k.located) (option_in k)
-  pub holds : (k : After st last v list used) → r.check ≡ Ok tt
-      → Holds k.text (located_also k.located dash (option_in k)) r.state (sets k.bytes st.used k.b) (set k.items r.place r.slot)
+-- the items after a slot was put among them, if one was, and that its place is one of theirs
+abbrev pub put_in : List Slot → Option PlacedSlot → List Slot
+put_in items None = items
+put_in items (Some p) = set items p.place p.slot
+
+abbrev pub Inside : Option PlacedSlot → Type 0
+Inside None = Unit {0}
+Inside (Some p) = p.place < max_items
+
+-- an option more, whose pattern bytes are stored already: a refusal is what is due for it; else nothing is, and the state holds it, with its slot put
+abbrev pub Inserts : List ℕ → List Located → ℕ → OptionValue → List ℕ → List Slot → Result Inserted Refusal → Type 0
+Inserts s located dash e bytes items (Err r) = occurrence_check (option_values_of located) e ≡ Err r
+Inserts s located dash e bytes items (Ok n) =
+    (occurrence_check (option_values_of located) e ≡ Ok tt)
+    × Holds s (located_also located dash e) n.state bytes (put_in items n.put) × Inside n.put
+
+-- whichever these are, with the value's bytes stored
+abbrev pub InsertedRight : State → Slot → ℕ → Value → List Address → ℕ → Result Inserted Refusal → Type 0
+InsertedRight st last dash v list used r =
+    (k : After st last v list used) → Inserts k.text k.located dash (option_in k) (sets k.bytes st.used k.b) k.items r

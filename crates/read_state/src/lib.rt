@@ -9,7 +9,7 @@ ghost use Rattle.read_state.specs.Sound.{without_item};
 ghost use Rattle.read_state.specs.State.{state_of};
 
 use definitions::answers::Refusal;
-use definitions::limits::{ITEMS, PATTERNS};
+use definitions::limits::PATTERNS;
 use definitions::table::{Context, Flow, Item, Pattern, Slot};
 use read_value::no_addresses;
 
@@ -42,53 +42,41 @@ pub struct State {
     pub dashes: [usize; PATTERNS],
 }
 
-// What is due for a value, the state after it, and the slot that it puts at a place among the items; a place past their end is none. Where something is
-// due the others say nothing.
+// A slot, and the place among the items that it is put at.
 #[derive(Clone, Copy)]
-pub struct Inserted {
-    pub check: Result<(), Refusal>,
-    pub state: State,
+pub struct PlacedSlot {
     pub place: usize,
     pub slot: Slot,
+}
+
+// The state after a value, and the slot that it makes or changes, if any.
+#[derive(Clone, Copy)]
+pub struct Inserted {
+    pub state: State,
+    pub put: Option<PlacedSlot>,
 }
 
 // A slot that is not in use.
 pub fn no_slot() -> Slot
     ensures { result ≡ empty_slot }
 {
-    let addresses = no_addresses();
     Slot {
         item: Item::Unused,
-        addresses,
+        addresses: no_addresses(),
     }
 }
 
 // An option that makes no item and changes none.
-pub fn no_item(check: Result<(), Refusal>, state: State) -> Inserted
-    ensures { result ≡ without_item check state }
+pub fn no_item(state: State) -> Inserted
+    ensures { result ≡ without_item state }
 {
-    let slot = no_slot();
-    Inserted {
-        check,
-        state,
-        place: ITEMS,
-        slot,
-    }
+    Inserted { state, put: None }
 }
 
 // Nothing was said.
 pub fn fresh() -> State
     ensures { result ≡ state_of 0 [] }
 {
-    let given = Given {
-        name: false,
-        protocol: false,
-        flow: false,
-        context: false,
-        nocase: false,
-        distance: false,
-        within: false,
-    };
     State {
         from: 0,
         len: 0,
@@ -96,11 +84,19 @@ pub fn fresh() -> State
         flow: Flow::Any,
         used: 0,
         count: 0,
-        given,
+        given: Given {
+            name: false,
+            protocol: false,
+            flow: false,
+            context: false,
+            nocase: false,
+            distance: false,
+            within: false,
+        },
         patterns: 0,
         tests: 0,
         last: 0,
-        dashes: [0usize; PATTERNS],
+        dashes: [0; PATTERNS],
     }
 }
 

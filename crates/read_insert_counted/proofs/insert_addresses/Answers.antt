@@ -5,7 +5,7 @@ use Rattle.read_insert_counted.proofs.insert_addresses.Goals as goal
 
 pub returns-then-a-gt-ADDRESSES : goal.returns-then-a-gt-ADDRESSES
 unfolding addresses_inserted
-returns-then-a-gt-ADDRESSES c = simp (lt-ltb _ _ c.if-a-gt-ADDRESSES.true, c.no_item.ensures)
+returns-then-a-gt-ADDRESSES c = simp (lt-ltb _ _ c.if-a-gt-ADDRESSES.true)
 
 pub returns : goal.returns
 unfolding addresses_inserted

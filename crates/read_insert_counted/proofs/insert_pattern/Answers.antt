@@ -3,10 +3,10 @@ use borrow.Author.Tests.{le-leb, lt-leb}
 use Rattle.read_insert_counted.specs.Counting.{pattern_inserted}
 use Rattle.read_insert_counted.proofs.insert_pattern.Goals as goal
 
-pub returns-then-patterns-ge-PATTERNS : goal.returns-then-patterns-ge-PATTERNS
+pub returns-then-st-ge-PATTERNS : goal.returns-then-st-ge-PATTERNS
 unfolding pattern_inserted
-returns-then-patterns-ge-PATTERNS c = simp (le-leb _ _ c.if-patterns-ge-PATTERNS.true, c.no_item.ensures)
+returns-then-st-ge-PATTERNS c = simp (le-leb _ _ c.if-st-ge-PATTERNS.true)
 
 pub returns : goal.returns
 unfolding pattern_inserted
-returns c = simp (lt-leb _ _ c.if-patterns-ge-PATTERNS.false, c.bare_pattern-pattern.ensures)
+returns c = simp (lt-leb _ _ c.if-st-ge-PATTERNS.false, c.bare_pattern.ensures, c.item_after.ensures)

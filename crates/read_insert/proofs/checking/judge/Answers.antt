@@ -2,30 +2,25 @@
 use borrow.Author.Tests.{lt-ltb, le-ltb}
 use Rattle.read_insert.specs.Checking.{outcome_in}
 use Rattle.read_insert.proofs.checking.judge.Goals as goal
+use Rattle.read_insert.proofs.checking.judge.Goals.{then-not-st-via-then-not-st, then-not-st-via-else-not-st+then-not-st-2}
 
 pub returns-then-usable-st : goal.returns-then-usable-st
 unfolding outcome_in
-returns-then-usable-st c =
-    let counted = c.usable_count-usable.ensures in
-    rw (← counted, lt-ltb _ _ c.if-usable-st.true, c.dash_of-place.ensures)
+returns-then-usable-st c = rw (← c.usable_count-usable.ensures, lt-ltb _ _ c.if-usable-st.true)
 
-pub returns-then-not-given : goal.returns-then-not-given
+pub returns-then-not-st : goal.returns-then-not-st
 unfolding outcome_in
-returns-then-not-given c =
+returns-then-not-st c =
     let counted = c.usable_count-usable.ensures in
-    let all-usable = le-ltb _ _ c.if-usable-st.false in
-    rw (← counted, all-usable, c.if-not-given.true)
-
-pub returns-then-not-given-2 : goal.returns-then-not-given-2
-unfolding outcome_in
-returns-then-not-given-2 c =
-    let counted = c.usable_count-usable.ensures in
-    let all-usable = le-ltb _ _ c.if-usable-st.false in
-    rw (← counted, all-usable, c.if-not-given.false, c.if-not-given-2.true)
+    let all_usable = le-ltb _ _ c.if-usable-st.false in
+    elim c.then-not-st.branch [
+      | then-not-st-via-then-not-st w ↦ rw (← counted, all_usable, w.if-not-st.true)
+      | then-not-st-via-else-not-st+then-not-st-2 w ↦ rw (← counted, all_usable, w.if-not-st.false, w.if-not-st-2.true)
+    ]
 
 pub returns : goal.returns
 unfolding outcome_in
 returns c =
     let counted = c.usable_count-usable.ensures in
-    let all-usable = le-ltb _ _ c.if-usable-st.false in
-    rw (← counted, all-usable, c.if-not-given.false, c.if-not-given-2.false)
+    let all_usable = le-ltb _ _ c.if-usable-st.false in
+    rw (← counted, all_usable, c.if-not-st.false, c.if-not-st-2.false)

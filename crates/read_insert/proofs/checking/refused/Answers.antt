@@ -4,4 +4,4 @@ use Rattle.read_insert.proofs.checking.refused.Goals as goal
 
 pub returns : goal.returns
 unfolding table_of name_in protocol_in flow_in bytes_in slots_in
-returns c = simp c.no_slot-slot.ensures
+returns c = simp c.no_slot.ensures

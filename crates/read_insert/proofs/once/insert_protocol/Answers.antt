@@ -1,7 +1,17 @@
--- The stores are those of the definition, with what the two callees ensure.
+-- It is refused where it was given already; else the state is that of the definition.
+use Rattle.std.specs.Prelude.{Ok, Err}
+use Rattle.std.proofs.lemmas.Result.{err_from_is_err_and}
+use mathlib.Core.Path.{sym, ap, ◌∙◌}
 use Rattle.read_insert.specs.Inserting.{protocol_inserted}
+use Rattle.read_insert.proofs.SaidOnce.{new_once, refused_once}
 use Rattle.read_insert.proofs.once.insert_protocol.Goals as goal
+
+pub returns-in_err-check_again : goal.returns-in_err-check_again
+unfolding protocol_inserted
+returns-in_err-check_again c =
+    let p = err_from_is_err_and c.from_residual.result c.from_residual.ensures.1 in
+    p.1 ∙ refused_once _ _ p.0 (sym c.check_again.ensures ∙ c.in_err-check_again.was ∙ ap Err (sym p.2))
 
 pub returns : goal.returns
 unfolding protocol_inserted
-returns c = simp (c.no_item.ensures, c.check_again-check.ensures)
+returns c = ap Ok c.no_item.ensures ∙ new_once _ _ (sym c.check_again.ensures ∙ c.in_ok-check_again.was)
