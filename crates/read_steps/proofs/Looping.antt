@@ -1,36 +1,38 @@
 -- One step of the loop over a text, as the definition takes it.
+use Rattle.std.specs.Prelude.{Result, Ok, Err}
 use mathlib.Core.Path.{◌≡◌, refl, sym, ap, ◌∙◌, subst}
 use mathlib.Core.Bool.{true, false}
 use mathlib.Core.List.{List, ◌∷◌, ◌++◌}
 use Prim.Native.Nat.{ℕ, ◌+◌, ◌-◌, ◌≤◌, ◌<◌}
 use native.Mathlib.Omega.{arith}
-use lib.ListN.{length, get_or, set, take, drop, length-take, length-drop, take-append-drop, drop_of_length-le}
+use lib.ListN.{length, get_or, take, drop, length-take, length-drop, take-append-drop, drop_of_length-le}
 use lib.Seq.{drop-drop}
 use lib.Dec.{eqb}
 use borrow.Author.Tests.{ne_eqb, eqb-true, eqb-false}
 use Rattle.forms.proofs.Bools.{by_cases}
 use Rattle.definitions.specs.declared.answers.Refusal.TheVariants as refusal
+use Rattle.definitions.specs.declared.answers.TextRefusal.{TextRefusal}
 use Rattle.definitions.specs.declared.table.Slot.{Slot}
 use Rattle.definitions.specs.Options.{option_at}
 use Rattle.definitions.specs.Reading.{Located, option_values_of, refused, at_letter, option_step, dashes, options}
 use Rattle.syntax.proofs.Loop.{passed_over}
 use Rattle.read_frame.proofs.Dashes.{head}
 use Rattle.read_state.specs.declared.State.{State}
+use Rattle.read_state.specs.Sound.{without_item}
 use Rattle.read_state.specs.State.{Holds, last_slot, located_also}
 use Rattle.read_steps.specs.declared.Step.{Step}
-use Rattle.read_steps.specs.declared.Step.TheVariants.{Next, Done, Refused}
-use Rattle.read_steps.specs.declared.Stepped.{Stepped}
+use Rattle.read_steps.specs.declared.Step.TheVariants.{Next, Done}
 use Rattle.read_steps.specs.Stepping.{closing_step, StepsTo, GoesTo, Goes}
 
 -- ---- what the definition's loop does at a byte
 
 module _ (s : List ℕ) (at : ℕ) (h : at < length s) (located : List Located) (st : State) (bytes : List ℕ) where
   pub goes_space : {items : List Slot} → Holds s located st bytes items → st.used ≤ at → get_or s at 0 ≡ 32
-      → GoesTo s located at bytes (Next (at + 1)) st bytes items
+      → GoesTo s located at bytes (Ok (Next (at + 1) (without_item st))) bytes items
   unfolding options
-  goes_space held after e = (located, rw (head s at h, e), held, omega arith, omega arith, omega arith)
+  goes_space held after e = (located, rw (head s at h, e), held, tt, omega arith, omega arith, omega arith)
 
-  pub goes_close : (items : List Slot) → get_or s at 0 ≡ 41 → GoesTo s located at bytes (closing_step (at + 1) (length s)) st bytes items
+  pub goes_close : (items : List Slot) → get_or s at 0 ≡ 41 → GoesTo s located at bytes (closing_step (at + 1) (length s)) bytes items
   unfolding options
   goes_close items e =
       by_cases (eqb (at + 1) (length s))
@@ -38,7 +40,7 @@ module _ (s : List ℕ) (at : ℕ) (h : at < length s) (located : List Located) 
       (λ t. let n = eqb-false (at + 1) (length s) t in rw t (rw (head s at h, e, head s (at + 1) (omega arith))))
 
   module _ (space : get_or s at 0 ≡ 32 → ⊥) (close : get_or s at 0 ≡ 41 → ⊥) where
-    pub goes_nowhere : (items : List Slot) → dashes (drop at s) ≡ false → GoesTo s located at bytes (Refused refusal.NeitherOptionNorEnd at) st bytes items
+    pub goes_nowhere : (items : List Slot) → dashes (drop at s) ≡ false → GoesTo s located at bytes (Err (record { refusal = refusal.NeitherOptionNorEnd; place = at })) bytes items
     unfolding options
     goes_nowhere items e =
         let d : dashes (get_or s at 0 ∷ drop (at + 1) s) ≡ false = rw (head s at h) at e in
@@ -68,25 +70,26 @@ module _ (s : List ℕ) (at : ℕ) (h : at < length s) (located : List Located) 
         ∙ passed_over s x (drop n s) (at + 1) more
         ∙ ap (λ (m : ℕ). options at_letter s (drop n s) 0 m more) z)
 
-    pub goes_option : (after : List ℕ) (items : List Slot) → dashes (drop at s) ≡ true → (t : Step) (u : State) → StepsTo s located at t u after items
-        → GoesTo s located at bytes t u after items
-    goes_option after items e (Next n) u w = (
+    pub goes_option : (after : List ℕ) (items : List Slot) → dashes (drop at s) ≡ true → (r : Result Step TextRefusal) → StepsTo s located at r after items
+        → GoesTo s located at bytes r after items
+    goes_option after items e (Ok (Next n i)) w = (
       located_also located at w.0,
-      to_option e ∙ w.1 _ ∙ passes n (located_also located at w.0) w.4 w.5,
+      to_option e ∙ w.1 _ ∙ passes n (located_also located at w.0) w.5 w.6,
       w.2,
       w.3,
-      (let a = w.4 in omega arith),
-      w.5,
+      w.4,
+      (let a = w.5 in omega arith),
+      w.6,
     )
-    goes_option after items e Done u w = absurd w
-    goes_option after items e (Refused q p) u w = to_option e ∙ w _
+    goes_option after items e (Ok Done) w = absurd w
+    goes_option after items e (Err q) w = to_option e ∙ w _
 
 -- what a step promises, at the step that it is
-pub goes_told : (s bytes : List ℕ) (st : State) (last : Slot) (at : ℕ) (after : List ℕ) (r : Stepped) → Goes s bytes st last at after r
-    → (t : Step) → r.step ≡ t → (located : List Located) (items : List Slot) → Holds s located st bytes items → last ≡ last_slot items st → st.used ≤ at
-    → GoesTo s located at bytes t r.state after (set items r.place r.slot)
+pub goes_told : (s bytes : List ℕ) (st : State) (last : Slot) (at : ℕ) (after : List ℕ) (r : Result Step TextRefusal) → Goes s bytes st last at after r
+    → (t : Result Step TextRefusal) → r ≡ t → (located : List Located) (items : List Slot) → Holds s located st bytes items → last ≡ last_slot items st → st.used ≤ at
+    → GoesTo s located at bytes t after items
 goes_told s bytes st last at after r g t e located items h l u =
-    subst (λ (w : Step). GoesTo s located at bytes w r.state after (set items r.place r.slot)) e (g located items h l u)
+    subst (λ (w : Result Step TextRefusal). GoesTo s located at bytes w after items) e (g located items h l u)
 
 -- the text ends where an option or `)` is due
 pub loop_out : (s : List ℕ) (at : ℕ) (located : List Located) → length s ≤ at

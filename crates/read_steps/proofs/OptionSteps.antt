@@ -1,6 +1,6 @@
 -- What an option's reading and inserting say of the definition's step.
 use Rattle.std.specs.Prelude.{Result, Ok, Err}
-use mathlib.Core.Path.{◌≡◌, refl, sym, ap, ◌∙◌, subst}
+use mathlib.Core.Path.{◌≡◌, sym, ap, ◌∙◌, subst}
 use mathlib.Core.List.{List, [], ◌∷◌, ◌++◌, append-nil}
 use Prim.Native.Nat.{ℕ, ◌+◌, ◌≤◌}
 use native.Mathlib.Omega.{arith}
@@ -11,10 +11,10 @@ use Rattle.definitions.specs.declared.table.Slot.{Slot}
 use Rattle.definitions.specs.Limits.{document_limits, max_items}
 use Rattle.definitions.specs.declared.answers.Refusal.{Refusal}
 use Rattle.definitions.specs.declared.answers.Refusal.TheVariants as refusal
+use Rattle.definitions.specs.declared.answers.TextRefusal.{TextRefusal}
 use Rattle.definitions.specs.declared.table.Address.{Address}
 use Rattle.definitions.specs.OptionValues.{OptionValue}
 use Rattle.definitions.specs.Options.{unlisted, listed, option_at}
-use Rattle.definitions.specs.Occurrences.{occurrence_check}
 use Rattle.definitions.specs.Lists.{keep}
 use Rattle.definitions.specs.Tables.{name_in, bytes_in, slots_in, no_slot}
 use Rattle.definitions.specs.Reading.{Located, option_values_of, Options, refused, at_letter, option_step}
@@ -26,7 +26,8 @@ use Rattle.scan_cursors.specs.declared.Cursor.TheVariants as cursor
 use Rattle.scan_cursors.specs.Reads.{read_by, place_of}
 use Rattle.read_frame.specs.Framing.{ended_by}
 use Rattle.read_state.specs.declared.State.{State}
-use Rattle.read_state.specs.State.{Holds, last_slot, Apart, After, located_also, state_from, state_of}
+use Rattle.read_state.specs.declared.Inserted.{Inserted}
+use Rattle.read_state.specs.State.{Holds, last_slot, Apart, After, located_also, put_in, Inserts, state_from, state_of}
 use Rattle.read_by_name.specs.declared.parsed.ParsedOption.{ParsedOption}
 use Rattle.read_by_name.specs.Parsing.{Parses}
 use Rattle.read_insert.proofs.OptionEffects.{bytes_append}
@@ -37,11 +38,11 @@ module _ (s : List ℕ) (at : ℕ) (es : List OptionValue) (K : OptionValue → 
   pub taken_unlisted : option_at s at ≡ unlisted → option_step at_letter (option_at s at) es at K ≡ refused refusal.NotListed at
   taken_unlisted e = rw e
 
-  pub taken_refused : (v : OptionValue) (d : Cursor) {q : Refusal} {place : ℕ} → option_at s at ≡ listed (read_by v d) → ended_by d ≡ Err (record { refusal = q; place = place })
-      → option_step at_letter (option_at s at) es at K ≡ refused q place
+  pub taken_refused : (v : OptionValue) (d : Cursor) {r : TextRefusal} → option_at s at ≡ listed (read_by v d) → ended_by d ≡ Err r
+      → option_step at_letter (option_at s at) es at K ≡ refused r.refusal r.place
   taken_refused v d e f = rw e (go d f)
     where
-      go : (d : Cursor) {q : Refusal} {place : ℕ} → ended_by d ≡ Err (record { refusal = q; place = place }) → option_step at_letter (listed (read_by v d)) es at K ≡ refused q place
+      go : (d : Cursor) {r : TextRefusal} → ended_by d ≡ Err r → option_step at_letter (listed (read_by v d)) es at K ≡ refused r.refusal r.place
       go (cursor.Parsed n) g = absurd (let z : ◌≡◌ {A = ℕ} 0 1 = cc in omega arith)
       go (cursor.OutOfRange p n) g = cc
       go (cursor.Failed p) g = cc
@@ -102,17 +103,23 @@ read_after {s = s} {bytes = bytes} {items = items} located r p h l n q after ins
     }
 
 -- the option is read and inserted: on after it, unless something is due
-module _ (s : List ℕ) (located : List Located) (st u : State) (bytes after : List ℕ) (items put : List Slot) (at n : ℕ) (v : Value)
+module _ (s : List ℕ) (located : List Located) (st : State) (bytes stored after : List ℕ) (items : List Slot) (at n : ℕ) (v : Value)
     (al : List Address) (b : List ℕ)
-    (apart : Apart s v al b) (held : Holds s located st bytes items)
+    (apart : Apart s v al b) (held : Holds s located st bytes items) (same : stored ≡ after)
     (is : option_at s at ≡ listed (Parsed (option_value_of s v al b) n)) (inside : n ≤ length s) (onward : at + 2 ≤ n) (grown : st.used + length b ≤ n) where
-  pub stepped : (check : Result Unit Refusal) → check ≡ occurrence_check (option_values_of located) (option_value_of s v al b)
-      → (check ≡ Ok tt → Holds s (located_also located at (option_value_of s v al b)) u after put)
-      → StepsTo s located at (step_by check at n) u after put
-  stepped (Ok tt) e h =
-      let g = h refl in
-      (option_value_of s v al b, (λ K. rw (is, sym e)), g, (let q = used_also at v al b apart held g in omega (arith, q, grown)), onward, inside)
-  stepped (Err r) e h = λ K. rw (is, sym e)
+  pub stepped : (r : Result Inserted Refusal) → Inserts s located at (option_value_of s v al b) stored items r
+      → StepsTo s located at (step_by r at n) after items
+  stepped (Ok i) w =
+      let g = subst (λ (l : List ℕ). Holds s (located_also located at (option_value_of s v al b)) i.state l (put_in items i.put)) same w.1 in (
+        option_value_of s v al b,
+        (λ K. rw (is, w.0)),
+        g,
+        w.2,
+        (let q = used_also at v al b apart held g in omega (arith, q, grown)),
+        onward,
+        inside,
+      )
+  stepped (Err r) w = λ K. rw (is, w)
 
 -- the place after a cursor that goes on
 pub parsed_inside : (s : List ℕ) (d : Cursor) (n : ℕ) → place_of d ≤ length s → d ≡ cursor.Parsed n → n ≤ length s

@@ -4,11 +4,10 @@ use Rattle.read_frame.proofs.Dashes.{dashes_two}
 use Rattle.read_steps.proofs.Looping.{goes_close, goes_nowhere, goes_option}
 use Rattle.read_steps.proofs.step_at.Goals as goal
 
-pub returns-then-b-eq41 : goal.returns-then-b-eq41
-returns-then-b-eq41 c = λ located items held latest after.
-    rw (c.step_only.ensures, c.closing_step.ensures)
-    (goes_close c.args.s.now c.args.at c.requires.inside located c.args.st c.args.bytes.now _
-    c.if-b-eq41.true)
+pub returns-then-s-at-eq41 : goal.returns-then-s-at-eq41
+returns-then-s-at-eq41 c = λ located items held latest after.
+    rw c.closing_step.ensures
+    (goes_close c.args.s.now c.args.at c.requires.inside located c.args.st c.args.bytes.now items c.if-s-at-eq41.true)
 
 pub option_step-requires : goal.option_step-requires
 option_step-requires c =
@@ -29,14 +28,12 @@ returns-then-dashes_at c = λ located items held latest after.
     let pre = c.requires in
     let stepped = c.option_step in
     let dashed = sym c.dashes_at.ensures ∙ c.if-dashes_at.true in
-    let unclosed = c.if-b-eq41.false in
-    goes_option x.s.now x.at pre.inside located x.st x.bytes.now pre.solid unclosed _ _ dashed
-    stepped.result.step stepped.result.state (stepped.ensures located items held latest)
+    goes_option x.s.now x.at pre.inside located x.st x.bytes.now pre.solid c.if-s-at-eq41.false _ items dashed
+    stepped.result (stepped.ensures located items held latest)
 
 pub returns : goal.returns
 returns c = λ located items held latest after.
     let x = c.args in
     let pre = c.requires in
     let none = sym c.dashes_at.ensures ∙ c.if-dashes_at.false in
-    rw c.step_only-2.ensures
-    (goes_nowhere x.s.now x.at pre.inside located x.st x.bytes.now pre.solid c.if-b-eq41.false items none)
+    goes_nowhere x.s.now x.at pre.inside located x.st x.bytes.now pre.solid c.if-s-at-eq41.false items none
