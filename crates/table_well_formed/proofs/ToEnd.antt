@@ -7,7 +7,7 @@ use mathlib.Core.List.{List, [], ◌∷◌}
 use Prim.Native.Nat.{ℕ, suc, ◌+◌, ◌-◌, ◌≤◌, ◌<◌}
 use native.Mathlib.Omega.{arith}
 use native.Mathlib.Nat.{add-zero, zero-add}
-use lib.ListN.{length, get_or, take, drop}
+use lib.ListN.{length, get_or, drop, drop_of_length-le}
 use lib.Dec.{eqb, leb, eqb-zero-suc, eqb-suc-suc}
 use borrow.Author.Tests.{leb-true, leb-false, eqb-true, eqb-false, eq-eqb, ne_eqb}
 use Rattle.forms.proofs.Bools.{by_cases, both_left, both_right}
@@ -19,7 +19,7 @@ use Rattle.definitions.specs.Items.{Kind, unused, addressed, patterned, plain_te
 use Rattle.definitions.specs.Starts.{start_at}
 use Rattle.definitions.specs.References.{last_after, usable, usable_run}
 use Rattle.definitions.specs.WellFormed.{slot_fits, bytes_of}
-use Rattle.list_laws.proofs.Firsts.{first_here, first_out}
+use Rattle.list_laws.proofs.Every.{drop_here}
 use Rattle.table_items.specs.declared.Passed.{Passed}
 use Rattle.definitions.specs.declared.packets.Match.{Match}
 use Rattle.table_items.specs.Passing.{none_passed, may_follow, kind_passes, may_pass, past_kind, past_item, ends_well}
@@ -115,11 +115,10 @@ module _ (count : ℕ) where
         (λ t. rw (t, kind_not count w (patterns_of sls) (kind_of sl.item) (rw t at f)) (and-false (all? slot_fits sls)))
         (λ n. rw n)
 
--- what the loop keeps at the place i, where `count` of the items are in use
-pub record Walked (items : List Slot) (count used i : ℕ) (w : Passed) : Type 0 where
-  pub inside : i ≤ count
+-- what the loop keeps at the place i of the slots in use
+pub record Walked (sls : List Slot) (count used i : ℕ) (w : Passed) : Type 0 where
   pub few : w.patterns ≤ i
-  pub same : slots_fit count used (take count items) ≡ answer count w (drop i (take count items))
+  pub same : slots_fit count used sls ≡ answer count w (drop i sls)
 
 past_few : (w : Passed) (k : Kind) → (past_kind w k).patterns ≤ w.patterns + 1
 past_few w unused = omega arith
@@ -127,21 +126,20 @@ past_few w (addressed a) = omega arith
 past_few w (patterned p) = omega arith
 past_few w plain_test = omega arith
 
-module _ (items : List Slot) (count used : ℕ) where
-  pub walked_in : Walked items count used 0 (none_passed used)
-  walked_in = record { inside = omega arith; few = omega arith; same = sym (walk_in count used (take count items)) }
+module _ (sls : List Slot) (count used : ℕ) where
+  pub walked_in : Walked sls count used 0 (none_passed used)
+  walked_in = record { few = omega arith; same = sym (walk_in count used sls) }
 
-  module _ (i : ℕ) (w : Passed) (k : Walked items count used i w) where
-    pub walked_out : count ≤ i → slots_fit count used (take count items) ≡ ends_well w count
-    walked_out h = k.same ∙ ap (answer count w) (first_out items count i h) ∙ walk_out count w
+  module _ (i : ℕ) (w : Passed) (k : Walked sls count used i w) where
+    pub walked_out : length sls ≤ i → slots_fit count used sls ≡ ends_well w count
+    walked_out h = k.same ∙ ap (answer count w) (drop_of_length-le sls {i = i} h) ∙ walk_out count w
 
-    module _ (d : Slot) (h : i < count) (g : count ≤ length items) where
-      pub walked_on : may_pass w (get_or items i d) ≡ true → Walked items count used (i + 1) (past_item w (get_or items i d))
+    module _ (d : Slot) (h : i < length sls) where
+      pub walked_on : may_pass w (get_or sls i d) ≡ true → Walked sls count used (i + 1) (past_item w (get_or sls i d))
       walked_on t = record {
-        inside = omega arith;
-        few = omega (arith, k.few, past_few w (kind_of (get_or items i d).item));
-        same = k.same ∙ ap (answer count w) (first_here items count i d h g) ∙ walk_on count w (get_or items i d) _ t;
+        few = omega (arith, k.few, past_few w (kind_of (get_or sls i d).item));
+        same = k.same ∙ ap (answer count w) (drop_here sls i d h) ∙ walk_on count w (get_or sls i d) _ t;
       }
 
-      pub walked-not : may_pass w (get_or items i d) ≡ false → slots_fit count used (take count items) ≡ false
-      walked-not f = k.same ∙ ap (answer count w) (first_here items count i d h g) ∙ walk_not count w (get_or items i d) _ f
+      pub walked-not : may_pass w (get_or sls i d) ≡ false → slots_fit count used sls ≡ false
+      walked-not f = k.same ∙ ap (answer count w) (drop_here sls i d h) ∙ walk_not count w (get_or sls i d) _ f

@@ -22,23 +22,13 @@ fn items_fit(items: [Slot; ITEMS], count: usize, used: usize) -> bool
         return false;
     }
     let mut w = none_passed(used);
-    let mut i = 0;
-    while i < count {
-        let slot = items[i];
-        if !may_pass(w, slot) {
+    for slot in &items[..count] {
+        if !may_pass(w, *slot) {
             return false;
         }
-        w = past_item(w, slot);
-        i += 1;
+        w = past_item(w, *slot);
     }
-    while i < ITEMS {
-        let slot = items[i];
-        if !slot_unused(slot) {
-            return false;
-        }
-        i += 1;
-    }
-    ends_well(w, count)
+    items[count..].iter().all(|slot| slot_unused(*slot)) && ends_well(w, count)
 }
 
 // Whether some text, of whatever length, reads as the table of these parts, of whatever flow and protocol: that is a byte by its type.
@@ -52,11 +42,5 @@ pub fn well_formed(
 ) -> bool
     ensures { (protocol : ℕ) (flow : Flow) → protocol ≤ max_byte → result ≡ well_formed (table_with name len protocol flow bytes.now used items count) }
 {
-    if !name_fits(name, len) {
-        return false;
-    }
-    if !items_fit(items, count, used) {
-        return false;
-    }
-    room_fits(bytes, used)
+    name_fits(name, len) && items_fit(items, count, used) && room_fits(bytes, used)
 }
