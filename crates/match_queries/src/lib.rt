@@ -55,14 +55,10 @@ pub fn run<'a>(
         return false;
     }
     let mut h = held;
-    let mut i = 0;
-    while i < queries.len() {
-        let query = query_of(queries[i]);
-        let a = answer_to(t, p, decoded, dir, m, h, query);
-        put_answer(&mut *out, i * NUMBERS, a);
-        let placement = a.placement;
-        h = placement;
-        i += 1;
+    for (i, query) in queries.iter().enumerate() {
+        let a = answer_to(t, p, decoded, dir, m, h, query_of(*query));
+        put_answer(out, i * NUMBERS, a);
+        h = a.placement;
     }
     true
 }
