@@ -15,11 +15,9 @@ use write_keywords::{byte_operator_keyword, put_keyword};
 fn put_comparison(out: &mut [u8], at: usize, t: ByteTest) -> usize
     ensures { Puts out.old at (comparison_text t) out.new result }
 {
-    let width = t.width;
-    let operator = t.operator;
-    let a1 = put_decimal(out, at, byte_count(width));
+    let a1 = put_decimal(out, at, byte_count(t.width));
     let a2 = put(out, a1, b',');
-    let a3 = put_keyword(out, a2, byte_operator_keyword(operator));
+    let a3 = put_keyword(out, a2, byte_operator_keyword(t.operator));
     let a4 = put(out, a3, b',');
     let a5 = put_decimal(out, a4, t.value as u64);
     put(out, a5, b',')

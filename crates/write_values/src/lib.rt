@@ -39,8 +39,7 @@ pub fn put_address(out: &mut [u8], at: usize, a: Address) -> usize
 pub fn put_mask(out: &mut [u8], at: usize, t: FieldTest) -> usize
     ensures { Puts out.old at (mask_text t) out.new result }
 {
-    let field = t.field;
-    if t.mask as u64 == field_most(field) {
+    if t.mask as u64 == field_most(t.field) {
         return at;
     }
     let a1 = put_word(out, at, b"& ");
