@@ -16,31 +16,24 @@ use write_pattern_bytes::put_bytes;
 fn magnitude(z: i32) -> u64
     ensures { result ≡ nat_abs z }
 {
-    let wide = z as i64;
-    if wide < 0 {
-        (-wide) as u64
-    } else {
-        wide as u64
-    }
+    z.unsigned_abs() as u64
 }
 
 // A signed number: its sign, if it is negative, and its digits.
 fn put_signed(out: &mut [u8], at: usize, z: i32) -> usize
     ensures { Puts out.old at (decimalℤ z) out.new result }
 {
-    let n = magnitude(z);
     let a1 = put_if(out, at, z < 0, b"-");
-    put_decimal(out, a1, n)
+    put_decimal(out, a1, magnitude(z))
 }
 
 // The option distance.
 fn put_distance_value(out: &mut [u8], at: usize, d: DistanceValue) -> usize
     ensures { Puts out.old at (modifier_text (entry.Distance d)) out.new result }
 {
-    let reference = d.reference;
     let a1 = put_word(out, at, b" --distance ");
     let a2 = put_signed(out, a1, d.offset);
-    let a3 = put_keyword(out, a2, reference_keyword(reference));
+    let a3 = put_keyword(out, a2, reference_keyword(d.reference));
     let a4 = put_if(out, a3, d.reverse, b",reverse");
     put(out, a4, b';')
 }
@@ -49,10 +42,9 @@ fn put_distance_value(out: &mut [u8], at: usize, d: DistanceValue) -> usize
 fn put_within_value(out: &mut [u8], at: usize, w: WithinValue) -> usize
     ensures { Puts out.old at (modifier_text (entry.Within w)) out.new result }
 {
-    let reference = w.reference;
     let a1 = put_word(out, at, b" --within ");
     let a2 = put_decimal(out, a1, w.number as u64);
-    let a3 = put_keyword(out, a2, reference_keyword(reference));
+    let a3 = put_keyword(out, a2, reference_keyword(w.reference));
     put(out, a3, b';')
 }
 
@@ -92,13 +84,10 @@ fn put_quoted(out: &mut [u8], at: usize, negated: bool, b: &[u8]) -> usize
 pub fn put_pattern(out: &mut [u8], at: usize, p: Pattern, b: &[u8]) -> usize
     ensures { Puts out.old at (options_text (pattern_options p b.now)) out.new result }
 {
-    let context = p.context;
-    let distance = p.distance;
-    let within = p.within;
     let n = at_most(p.len, b.len());
-    let a1 = put_quoted(out, at, p.negated, &b[0..n]);
-    let a2 = put_keyword(out, a1, context_keyword(context));
+    let a1 = put_quoted(out, at, p.negated, &b[..n]);
+    let a2 = put_keyword(out, a1, context_keyword(p.context));
     let a3 = put_if(out, a2, p.nocase, b" --no_case;");
-    let a4 = put_distance(out, a3, distance);
-    put_within(out, a4, within)
+    let a4 = put_distance(out, a3, p.distance);
+    put_within(out, a4, p.within)
 }

@@ -1,9 +1,10 @@
-use mathlib.Core.Path.{refl, ap, ◌∙◌}
+use mathlib.Core.Path.{refl, sym, ap, ◌∙◌}
 use native.Mathlib.Omega.{arith}
 use lib.ListN.{length}
+use lib.Seq.{length-take-le}
 use Rattle.definitions.specs.OptionValues as entry
 use Rattle.definitions.specs.Canonical.{option_text}
-use Rattle.write_bytes.proofs.Clipping.{at_most_le, part_most}
+use Rattle.write_bytes.proofs.Clipping.{at_most_le, taken_most}
 use Rattle.write_bytes.proofs.Putting.{then, told}
 use Rattle.write_keywords.proofs.Options.{context_option_lem}
 use Rattle.write_patterns.proofs.OptionTexts.{pattern_options_lem, no_case_text}
@@ -12,13 +13,14 @@ use Rattle.write_patterns.proofs.put_pattern.Goals as goal
 pub slice_bounds-put_quoted-end : goal.slice_bounds-put_quoted-end
 slice_bounds-put_quoted-end c =
     let x = c.args in
-    omega (arith, c.at_most-n.ensures, at_most_le x.p.len (length x.b.now))
+    let few = at_most_le x.p.len (length x.b.now) in
+    sym (length-take-le c.at_most-n.result x.b.now (omega (arith, c.at_most-n.ensures, few)))
 
 pub returns : goal.returns
 returns c =
     let p = c.args.p in
     let b = c.args.b.now in
-    let quoted = ap (λ l. option_text (entry.Pattern p.negated l)) (part_most p.len b refl c.at_most-n.ensures) in
+    let quoted = ap (λ l. option_text (entry.Pattern p.negated l)) (taken_most p.len b refl c.at_most-n.ensures) in
     let context = context_option_lem p.context ∙ c.context_keyword.ensures.1 in
     told (pattern_options_lem p b)
     (then (told quoted c.put_quoted-a1.ensures)

@@ -10,4 +10,4 @@ use Rattle.write_patterns.proofs.put_signed.Goals as goal
 pub returns : goal.returns
 returns c =
     let z : to_z w32 (of_z w32 c.args.z) ≡ c.args.z = search rules in
-    told (kept_text c.args.z z) (then c.put_if-a1.ensures (told (ap decimal (sym c.magnitude-n.ensures)) c.put_decimal.ensures))
+    told (kept_text c.args.z z) (then c.put_if-a1.ensures (told (ap decimal (sym c.magnitude.ensures)) c.put_decimal.ensures))
