@@ -1,11 +1,11 @@
 -- The text of a table's items, each by its kind.
 use mathlib.Core.Path.{◌≡◌, refl, sym, ap, ◌∙◌}
 use mathlib.Core.List.{List, [], ◌++◌}
-use Prim.Native.Nat.{ℕ, ◌+◌, ◌-◌, ◌≤◌, ◌<◌}
+use Prim.Native.Nat.{ℕ, suc, ◌+◌, ◌-◌, ◌≤◌, ◌<◌}
 use native.Mathlib.Omega.{arith}
-use lib.ListN.{length, take, drop, get_or, length-drop}
-use lib.Seq.{drop-drop}
-use Rattle.list_laws.proofs.Firsts.{first_here, first_out}
+use native.Mathlib.Numerals.{add-one}
+use lib.ListN.{length, take, drop, get_or, length-drop, drop_of_length-le}
+use lib.Seq.{drop-drop, drop-cons}
 use Rattle.definitions.specs.declared.table.AddressTest.{AddressTest}
 use Rattle.definitions.specs.declared.table.Item.{Item}
 use Rattle.definitions.specs.declared.table.Item.TheVariants as item
@@ -44,19 +44,19 @@ module _ (sl : Slot) (b : List ℕ) where
   pub pattern_text_lem : (p : Pattern) → sl.item ≡ item.Pattern p → item_text ≡ options_text (pattern_options p b)
   pattern_text_lem p e = by_kind (patterned p) (ap kind_of e)
 
--- one item more of the n in use
-pub items_on : (l : List Slot) (n i : ℕ) (d : Slot) (b : List ℕ) → i < n → n ≤ length l
-    → options_text (slot_options (drop i (take n l)) b)
+-- one item more
+pub items_on : (l : List Slot) (i : ℕ) (d : Slot) (b : List ℕ) → i < length l
+    → options_text (slot_options (drop i l) b)
     ≡ options_text (item_options (kind_of (get_or l i d).item) (get_or l i d) b)
-    ++ options_text (slot_options (drop (i + 1) (take n l)) (after_item (kind_of (get_or l i d).item) b))
+    ++ options_text (slot_options (drop (i + 1) l) (after_item (kind_of (get_or l i d).item) b))
 unfolding slot_options
-items_on l n i d b h long =
+items_on l i d b h =
     let k = kind_of (get_or l i d).item in
-    rw (first_here l n i d h long) (options_append (item_options k (get_or l i d) b) (slot_options (drop (i + 1) (take n l)) (after_item k b)))
+    rw (drop-cons l i d h, add-one i) (options_append (item_options k (get_or l i d) b) (slot_options (drop (suc i) l) (after_item k b)))
 
-pub items_end : (l : List Slot) (n i : ℕ) (b : List ℕ) → n ≤ i → options_text (slot_options (drop i (take n l)) b) ≡ []
+pub items_end : (l : List Slot) (i : ℕ) (b : List ℕ) → length l ≤ i → options_text (slot_options (drop i l) b) ≡ []
 unfolding slot_options options_text
-items_end l n i b h = rw (first_out l n i h)
+items_end l i b h = rw (drop_of_length-le l h)
 
 -- the pattern bytes after an item
 pub after_is : (k : Kind) (bytes : List ℕ) (from : ℕ) → from ≤ length bytes

@@ -23,7 +23,7 @@ pub fn put_name(out: &mut [u8], at: usize, name: [u8; NAME_BYTES], len: usize) -
     ensures { Puts out.old at (option_text (Name (take len name))) out.new result }
 {
     let a1 = put_word(out, at, b" --name \"");
-    let a2 = put_front(out, a1, &name[..], len);
+    let a2 = put_front(out, a1, &name, len);
     let a3 = put(out, a2, b'"');
     put(out, a3, b';')
 }
@@ -41,11 +41,9 @@ pub fn put_protocol(out: &mut [u8], at: usize, p: u8) -> usize
 fn put_slot(out: &mut [u8], at: usize, slot: Slot, b: &[u8]) -> usize
     ensures { Puts out.old at (options_text (item_options (kind_of slot.item) slot b.now)) out.new result }
 {
-    let item = slot.item;
-    let addresses = slot.addresses;
-    match item {
+    match slot.item {
         Item::Unused => at,
-        Item::Address(a) => put_address_test(out, at, a, addresses),
+        Item::Address(a) => put_address_test(out, at, a, slot.addresses),
         Item::SameIp => put_word(out, at, b" --same_ip;"),
         Item::Number(t) => put_number_test(out, at, t),
         Item::Ttl(t) => put_ttl_test(out, at, t),
@@ -62,11 +60,10 @@ fn place_after(slot: Slot, from: usize, len: usize) -> usize
     requires { from ≤ len }
     ensures { result ≡ place_after (kind_of slot.item) from len }
 {
-    let item = slot.item;
-    let Item::Pattern(p) = item else {
-        return from;
-    };
-    from + at_most(p.len, len - from)
+    match slot.item {
+        Item::Pattern(p) => from + at_most(p.len, len - from),
+        _ => from,
+    }
 }
 
 // The options of the first `count` items, whose pattern bytes stand one after the other.
@@ -82,12 +79,9 @@ pub fn put_items(
     let n = at_most(count, ITEMS);
     let mut next = at;
     let mut from = 0;
-    let mut i = 0;
-    while i < n {
-        let slot = items[i];
-        next = put_slot(out, next, slot, &bytes[from..]);
-        from = place_after(slot, from, bytes.len());
-        i += 1;
+    for slot in &items[..n] {
+        next = put_slot(out, next, *slot, &bytes[from..]);
+        from = place_after(*slot, from, bytes.len());
     }
     next
 }
