@@ -1,4 +1,4 @@
-// Result<usize, Refusal> a table as canonical text into a lent buffer.
+// Writes a table as canonical text into a lent buffer.
 #![tactic(auto)]
 
 ghost use Rattle.std.specs.Prelude.{◌≡◌, true, length};
@@ -24,11 +24,8 @@ pub fn write_formed(t: Table, room: &mut [u8; CANONICAL_BYTES]) -> Result<usize,
     ensures answer { result ≡ writes document_limits t room.old }
     ensures put { Puts room.old 0 (canonical_text t) room.new (at_most (length (canonical_text t)) max_counted) }
 {
-    let name = t.name;
-    let flow = t.flow;
-    let items = t.items;
     let n = put_canonical(
-        room, name, t.len, t.protocol, flow, items, t.count, &t.bytes,
+        room, t.name, t.len, t.protocol, t.flow, t.items, t.count, &t.bytes,
     );
     if CANONICAL_BYTES < n {
         return Err(Refusal::CanonicalLength);
@@ -43,19 +40,13 @@ pub fn write(t: Table, out: &mut [u8]) -> Result<usize, Refusal>
     ensures buffer { out.new ≡ buffer_after document_limits t out.old }
     ensures numbers { write_numbers result ≡ write_in_numbers document_limits t (length out.old) }
 {
-    let name = t.name;
-    let items = t.items;
-    if !well_formed(name, t.len, items, t.count, &t.bytes, t.used) {
+    if !well_formed(t.name, t.len, t.items, t.count, &t.bytes, t.used) {
         return Err(Refusal::IllFormed);
     }
     let mut room = [0u8; CANONICAL_BYTES];
-    let w = write_formed(t, &mut room);
-    let Ok(n) = w else {
-        return w;
-    };
+    let n = write_formed(t, &mut room)?;
     if out.len() < n {
         return Err(Refusal::ShortBuffer);
     }
-    let len = put_front(out, 0, &room[..], n);
-    Ok(len)
+    Ok(put_front(out, 0, &room, n))
 }
