@@ -1,7 +1,6 @@
 -- The starts of a placement, and the list of placements, as a search from the placement written last has what is left of it.
-use Rattle.std.specs.Prelude.{Result, Ok, Err}
+use Rattle.std.specs.Prelude.{Option, Some, Result, Ok, Err}
 use mathlib.Core.Path.{◌≡◌, refl, sym, ap, ◌∙◌}
-use mathlib.Core.Bool.{true, false, false≢true}
 use mathlib.Core.List.{List, [], ◌∷◌, ◌++◌}
 use Prim.Native.Nat.{ℕ, suc, ◌+◌, ◌-◌, ◌≤◌, ◌<◌}
 use native.Mathlib.Omega.{arith}
@@ -9,20 +8,19 @@ use lib.ListN.{length, take, drop, get_or}
 use Rattle.forms.specs.Bytes.{text}
 use Rattle.definitions.specs.declared.packets.Start.{Start}
 use Rattle.definitions.specs.declared.packets.Placement.{Placement}
-use Rattle.definitions.specs.declared.answers.Found.TheVariants.{Placed}
+use Rattle.definitions.specs.declared.answers.Found.TheVariants.{Placed, Nothing}
 use Rattle.definitions.specs.declared.answers.Answer.{Answer}
 use Rattle.definitions.specs.Starts.{start_at}
 use Rattle.definitions.specs.Lists.{keep}
 use Rattle.definitions.specs.Placements.{lex_less}
-use Rattle.definitions.specs.Answers.{starts_of, head_of, unless}
+use Rattle.definitions.specs.Answers.{starts_of, placement_of, head_of, unless}
 use Rattle.list_laws.proofs.Firsts.{first_here, first_out}
 use Rattle.write_bytes.specs.Puts.{puts, Puts}
 use Rattle.write_bytes.proofs.Putting.{then, onward}
 use Rattle.match_starts.specs.StartTexts.{start_text}
-use Rattle.search_state.specs.declared.outcomes.Outcome.{Outcome}
 use Rattle.definitions.specs.declared.answers.Refusal.{Refusal}
 use Rattle.search_state.specs.Outcomes.{outcome_of}
-use Rattle.case_lists.specs.AnswerTexts.{starts_after, starts_text, placement_text, placements_after, max_after, list_text, check_text, answer_text}
+use Rattle.case_lists.specs.AnswerTexts.{starts_after, starts_text, placement_text, placements_after, max_after, list_text, check_text, refused_text}
 use Rattle.case_lists.proofs.Rest.{starts_back, Ordered, first_rest, list_rest}
 
 -- ---- starts
@@ -44,23 +42,32 @@ starts_first l n h g = ap starts_text (first_here l n 0 (start_at 0) h g)
 
 -- ---- what a search says of the placements left
 
-after_none : (x : Outcome) (qs : List (List Start)) (k : ℕ) → x ≡ outcome_of qs → x.found ≡ false → placements_after k qs ≡ []
+after_none : (x : Option Placement) (qs : List (List Start)) (k : ℕ) → x ≡ outcome_of qs → ((h : Placement) → x ≡ Some h → ⊥) → placements_after k qs ≡ []
 unfolding placements_after
 after_none x [] k e n = refl
-after_none x (q ∷ qs) k e n = absurd (false≢true (sym n ∙ ap (λ (y : Outcome). y.found) e))
+after_none x (q ∷ qs) k e n = absurd (n (placement_of q) e)
 
-after_over : (x : Outcome) (qs : List (List Start)) → x ≡ outcome_of qs → x.found ≡ true → placements_after 0 qs ≡ text ";..."
+after_over : (qs : List (List Start)) (h : Placement) → Some h ≡ outcome_of qs → placements_after 0 qs ≡ text ";..."
 unfolding placements_after
-after_over x [] e n = absurd (false≢true (sym (ap (λ (y : Outcome). y.found) e) ∙ n))
-after_over x (q ∷ qs) e n = refl
+after_over [] h e = cc
+after_over (q ∷ qs) h e = refl
 
 -- ---- what "first" answers: a refusal that is due, none, or a placement
 
-pub first_not : (w : Result Unit Refusal) (l : List (List Start)) (a : Answer) → a ≡ unless w (head_of l) → (a.found ≡ Ok Placed → ⊥)
-    → check_text w (list_text l) ≡ answer_text a
-first_not (Ok tt) [] a e n = sym (ap answer_text e)
-first_not (Ok tt) (q ∷ l) a e n = absurd (n (ap (λ (x : Answer). x.found) e))
-first_not (Err r) l a e n = sym (ap answer_text e)
+pub first_none : (w : Result Unit Refusal) (l : List (List Start)) (a : Answer) → a ≡ unless w (head_of l) → a.found ≡ Ok Nothing
+    → check_text w (list_text l) ≡ text "none"
+first_none (Ok tt) [] a e n = refl
+first_none (Ok tt) (q ∷ l) a e n = let f = ap (λ (x : Answer). x.found) e in cc
+first_none (Err r) l a e n = let f = ap (λ (x : Answer). x.found) e in cc
+
+pub first_err : (w : Result Unit Refusal) (l : List (List Start)) (a : Answer) → a ≡ unless w (head_of l) → {r : Refusal} → a.found ≡ Err r
+    → check_text w (list_text l) ≡ refused_text r
+first_err (Ok tt) [] a e n = let f = ap (λ (x : Answer). x.found) e in cc
+first_err (Ok tt) (q ∷ l) a e n = let f = ap (λ (x : Answer). x.found) e in cc
+first_err (Err s) l a e {r} n =
+    let f = ap (λ (x : Answer). x.found) e in
+    let g : s ≡ r = cc in
+    ap refused_text g
 
 module _ (l : List (List Start)) (v : Ordered l) where
   -- a placement, and k of those after it
@@ -77,36 +84,38 @@ module _ (l : List (List Start)) (v : Ordered l) where
 
   -- ---- one placement more
 
-  after_one : (b : List Start) (x : Outcome) → x ≡ outcome_of (keep (lex_less b) l) → x.found ≡ true → (k : ℕ)
-      → placements_after (suc k) (keep (lex_less b) l) ≡ text ";" ++ from_one k x.placement
+  after_one : (b : List Start) (h : Placement) → Some h ≡ outcome_of (keep (lex_less b) l) → (k : ℕ)
+      → placements_after (suc k) (keep (lex_less b) l) ≡ text ";" ++ from_one k h
   unfolding placements_after
-  after_one b x e n k = go (keep (lex_less b) l) refl e
+  after_one b h e k = go (keep (lex_less b) l) refl e
     where
-      go : (j : List (List Start)) → keep (lex_less b) l ≡ j → x ≡ outcome_of j → placements_after (suc k) j ≡ text ";" ++ from_one k x.placement
-      go [] le h = cc
-      go (q ∷ qs) le h = sym (ap (λ (y : Outcome). text ";" ++ from_one k y.placement) h ∙ rw (starts_back q, list_rest l v b q qs le))
+      go : (j : List (List Start)) → keep (lex_less b) l ≡ j → Some h ≡ outcome_of j → placements_after (suc k) j ≡ text ";" ++ from_one k h
+      go [] le f = cc
+      go (q ∷ qs) le f =
+          let g : h ≡ placement_of q = cc in
+          sym (ap (λ (y : Placement). text ";" ++ from_one k y) g ∙ rw (starts_back q, list_rest l v b q qs le))
 
   -- ---- the loop: of the bytes to write, those of the placements after b are still to come, where k are written already; x is what the search found
 
   module _ (all start : List ℕ) (at : ℕ) (b : List Start) (out : List ℕ) (next k : ℕ)
       (left : puts start at all ≡ puts out next (placements_after (max_after - k) (keep (lex_less b) l)))
-      (x : Outcome) (e : x ≡ outcome_of (keep (lex_less b) l)) where
-    pub left_none : x.found ≡ false → Puts start at all out next
+      {x : Option Placement} (e : x ≡ outcome_of (keep (lex_less b) l)) where
+    pub left_none : ((h : Placement) → x ≡ Some h → ⊥) → Puts start at all out next
     unfolding puts
     left_none n = record { is = sym (left ∙ ap (puts out next) (after_none x (keep (lex_less b) l) (max_after - k) e n)) }
 
-    pub left_on : k < max_after → x.found ≡ true → {o o' : List ℕ} {i j : ℕ} → Puts out next (59 ∷ []) o i
-        → Puts o i (placement_text (starts_of x.placement)) o' j
-        → puts start at all ≡ puts o' j (placements_after (max_after - (k + 1)) (keep (lex_less x.placement.starts) l))
-    left_on g n c d =
+    pub left_on : k < max_after → {h : Placement} → x ≡ Some h → {o o' : List ℕ} {i j : ℕ} → Puts out next (59 ∷ []) o i
+        → Puts o i (placement_text (starts_of h)) o' j
+        → puts start at all ≡ puts o' j (placements_after (max_after - (k + 1)) (keep (lex_less h.starts) l))
+    left_on g {h} n c d =
         let less : max_after - k ≡ suc (max_after - (k + 1)) = omega arith in
         left
         ∙ ap (λ (y : ℕ). puts out next (placements_after y (keep (lex_less b) l))) less
-        ∙ ap (puts out next) (after_one b x e n (max_after - (k + 1)))
-        ∙ onward (placements_after (max_after - (k + 1)) (keep (lex_less x.placement.starts) l)) (then c d)
+        ∙ ap (puts out next) (after_one b h (sym n ∙ e) (max_after - (k + 1)))
+        ∙ onward (placements_after (max_after - (k + 1)) (keep (lex_less h.starts) l)) (then c d)
 
-    pub left_over : max_after ≤ k → x.found ≡ true → {o : List ℕ} {i : ℕ} → Puts out next (text ";...") o i → Puts start at all o i
-    left_over g n c =
+    pub left_over : max_after ≤ k → {h : Placement} → x ≡ Some h → {o : List ℕ} {i : ℕ} → Puts out next (text ";...") o i → Puts start at all o i
+    left_over g {h} n c =
         let none : max_after - k ≡ 0 = omega arith in
         let rest = left ∙ ap (λ (y : ℕ). puts out next (placements_after y (keep (lex_less b) l))) none in
-        record { is = c.is ∙ sym (rest ∙ ap (puts out next) (after_over x (keep (lex_less b) l) e n)) }
+        record { is = c.is ∙ sym (rest ∙ ap (puts out next) (after_over (keep (lex_less b) l) h (sym n ∙ e))) }

@@ -19,10 +19,8 @@ pub fn put_refused(out: &mut [u8], at: usize, r: Refusal) -> usize
 pub fn put_answer(out: &mut [u8], at: usize, a: Answer) -> usize
     ensures { Puts out.old at (answer_text a) out.new result }
 {
-    let found = a.found;
-    let placement = a.placement;
-    match found {
-        Ok(Found::Placed) => put_placement(out, at, placement),
+    match a.found {
+        Ok(Found::Placed) => put_placement(out, at, a.placement),
         Ok(Found::Nothing) => put_word(out, at, b"none"),
         Err(r) => put_refused(out, at, r),
     }

@@ -8,7 +8,7 @@ ghost use Rattle.search.specs.Searching.{searched_table, Searchable};
 ghost use Rattle.match_placements.specs.Listing.{list_in};
 ghost use Rattle.case_lists.specs.AnswerTexts.{placements_after, max_after, list_text, check_text};
 
-use crate::answers::{put_answer, put_refused};
+use crate::answers::put_refused;
 use crate::placement_text::put_placement;
 use definitions::answers::Found;
 use definitions::limits::{ITEMS, PATTERNS};
@@ -45,27 +45,23 @@ fn put_after<'a>(
 {
     let mut bound = starts;
     let mut next = at;
-    let mut k = 0;
-    while k < AFTER {
-        let x = find(
+    for _ in 0..AFTER {
+        let Some(placement) = find(
             protocol, flow, items, count, bytes, header, payload, decoded, dir, m, bound, true,
-        );
-        if !x.found {
+        ) else {
             return next;
-        }
-        let placement = x.placement;
+        };
         next = put(out, next, b';');
         next = put_placement(out, next, placement);
         bound = placement.starts;
-        k += 1;
     }
     let more = find(
         protocol, flow, items, count, bytes, header, payload, decoded, dir, m, bound, true,
     );
-    if !more.found {
-        return next;
+    match more {
+        Some(_) => put_word(out, next, b";..."),
+        None => next,
     }
-    put_word(out, next, b";...")
 }
 
 // By a datagram's header fields and payload: refusal 35, or the list.
@@ -89,16 +85,18 @@ fn put_seen<'a>(
     let a = first_in(
         protocol, flow, items, count, bytes, header, payload, decoded, dir, m,
     );
-    let found = a.found;
-    let Ok(Found::Placed) = found else {
-        return put_answer(out, at, a);
-    };
-    let placement = a.placement;
-    let next = put_placement(out, at, placement);
-    let starts = placement.starts;
-    put_after(
-        out, next, protocol, flow, items, count, bytes, header, payload, decoded, dir, m, starts,
-    )
+    match a.found {
+        Ok(Found::Placed) => {
+            let next = put_placement(out, at, a.placement);
+            let starts = a.placement.starts;
+            put_after(
+                out, next, protocol, flow, items, count, bytes, header, payload, decoded, dir, m,
+                starts,
+            )
+        }
+        Ok(Found::Nothing) => put_word(out, at, b"none"),
+        Err(r) => put_refused(out, at, r),
+    }
 }
 
 // The first refusal that is due, or the list.
@@ -113,18 +111,14 @@ pub fn put_list<'a>(
 ) -> usize
     ensures { Puts out.old at (check_text (input_check t p.now decoded.now dir m) (list_text (placements_of t p.now decoded.now dir m))) out.new result }
 {
-    let name = t.name;
-    let items = t.items;
-    let formed = well_formed(name, t.len, items, t.count, &t.bytes, t.used);
-    let seen = check_input(formed, p, decoded);
-    match seen {
+    let formed = well_formed(t.name, t.len, t.items, t.count, &t.bytes, t.used);
+    match check_input(formed, p, decoded) {
         Err(r) => put_refused(out, at, r),
         Ok(header) => {
             let payload = payload_of(p, header);
-            let flow = t.flow;
             put_seen(
-                out, at, t.protocol, flow, items, t.count, &t.bytes, header, payload, decoded, dir,
-                m,
+                out, at, t.protocol, t.flow, t.items, t.count, &t.bytes, header, payload, decoded,
+                dir, m,
             )
         }
     }

@@ -17,11 +17,9 @@ fn put_starts_after(out: &mut [u8], at: usize, starts: [Start; PATTERNS], n: usi
     ensures { Puts out.old at (starts_after (drop 1 (take n starts))) out.new result }
 {
     let mut next = at;
-    let mut i = 1;
-    while i < n {
+    for i in 1..n {
         next = put(out, next, b',');
         next = put_start(out, next, starts[i]);
-        i += 1;
     }
     next
 }
@@ -42,8 +40,7 @@ fn put_starts(out: &mut [u8], at: usize, starts: [Start; PATTERNS], count: usize
 pub fn put_placement(out: &mut [u8], at: usize, h: Placement) -> usize
     ensures { Puts out.old at (placement_text (starts_of h)) out.new result }
 {
-    let starts = h.starts;
     let a1 = put(out, at, b'(');
-    let a2 = put_starts(out, a1, starts, h.count);
+    let a2 = put_starts(out, a1, h.starts, h.count);
     put(out, a2, b')')
 }

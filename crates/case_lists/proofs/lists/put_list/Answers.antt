@@ -10,7 +10,7 @@ pub put_seen-requires : goal.put_seen-requires
 put_seen-requires c =
     let x = c.args in
     let formed = c.well_formed-formed.ensures x.t.protocol x.t.flow (omega arith) in
-    let told-input = input_told x.t x.p.now x.decoded.now formed c.check_input-seen.ensures in
+    let told-input = input_told x.t x.p.now x.decoded.now formed c.check_input.ensures in
     let ok = seen_checked x.t x.p.now x.decoded.now told-input c.in-Ok.is c.payload_of-payload.ensures.bytes in
     searchable ok (omega arith)
 
@@ -18,7 +18,7 @@ pub returns-in-Err : goal.returns-in-Err
 returns-in-Err c =
     let x = c.args in
     let formed = c.well_formed-formed.ensures x.t.protocol x.t.flow (omega arith) in
-    let told-input = input_told x.t x.p.now x.decoded.now formed c.check_input-seen.ensures in
+    let told-input = input_told x.t x.p.now x.decoded.now formed c.check_input.ensures in
     let check = refused_check x.t x.p.now x.decoded.now told-input c.in-Err.is x.dir x.m in
     told (rw check) c.put_refused.ensures
 
@@ -26,7 +26,7 @@ pub returns-in-Ok : goal.returns-in-Ok
 returns-in-Ok c =
     let x = c.args in
     let formed = c.well_formed-formed.ensures x.t.protocol x.t.flow (omega arith) in
-    let told-input = input_told x.t x.p.now x.decoded.now formed c.check_input-seen.ensures in
+    let told-input = input_told x.t x.p.now x.decoded.now formed c.check_input.ensures in
     let ok = seen_checked x.t x.p.now x.decoded.now told-input c.in-Ok.is c.payload_of-payload.ensures.bytes in
     let l = list_here ok x.dir x.m ∙ sym (list_by_parts x.t _ c.payload_of-payload.result.now x.decoded.now x.dir x.m) in
     told (rw (check_here ok x.dir x.m, l)) c.put_seen.ensures

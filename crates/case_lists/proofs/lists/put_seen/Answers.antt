@@ -1,28 +1,43 @@
 -- The answer to "first" is written where it is no placement; else the placement, and those after it.
+use Rattle.std.specs.Prelude.{Ok}
+use mathlib.Core.Path.{◌≡◌, ap, ◌∙◌}
+use Rattle.definitions.specs.declared.answers.Found.TheVariants.{Placed, Nothing}
 use Rattle.definitions.specs.Fields.{fields_check}
 use Rattle.write_bytes.proofs.Putting.{then, told}
 use Rattle.search.specs.Searching.{searched_table}
 use Rattle.match_placements.specs.Listing.{list_in, first_in_list}
 use Rattle.case_lists.proofs.Rest.{list_ordered}
-use Rattle.case_lists.proofs.Listing.{first_not, first_one}
+use Rattle.case_lists.proofs.Listing.{first_none, first_err, first_one}
 use Rattle.case_lists.proofs.lists.put_seen.Goals as goal
 
-pub returns-in_default : goal.returns-in_default
+pub returns-in-Ok-Placed : goal.returns-in-Ok-Placed
 unfolding first_in_list
-returns-in_default c =
-    let x = c.args in
-    let t = searched_table x.protocol x.flow x.items x.count x.bytes.now in
-    let w = fields_check x.payload.now x.decoded.now x.m in
-    let l = list_in t x.header x.payload.now x.decoded.now x.dir x.m in
-    let a = c.first_in-a in
-    told (first_not w l a.result a.ensures c.in_default.not-Ok-Placed) c.put_answer.ensures
-
-pub returns : goal.returns
-unfolding first_in_list
-returns c =
+returns-in-Ok-Placed c =
     let x = c.args in
     let t = searched_table x.protocol x.flow x.items x.count x.bytes.now in
     let w = fields_check x.payload.now x.decoded.now x.m in
     let v = list_ordered t x.header x.payload.now x.decoded.now x.dir x.m in
-    told (first_one _ v w c.first_in-a.result c.first_in-a.ensures c.in-Ok-Placed.is)
+    let arm = c.in-Ok-Placed in
+    let placed : c.first_in-a.result.found ≡ Ok Placed = arm.is ∙ ap Ok (rw arm.is at arm.field-0-is) in
+    told (first_one _ v w c.first_in-a.result c.first_in-a.ensures placed)
     (then c.put_placement-next.ensures c.put_after.ensures)
+
+pub returns-in-Ok-Nothing : goal.returns-in-Ok-Nothing
+unfolding first_in_list
+returns-in-Ok-Nothing c =
+    let x = c.args in
+    let t = searched_table x.protocol x.flow x.items x.count x.bytes.now in
+    let w = fields_check x.payload.now x.decoded.now x.m in
+    let l = list_in t x.header x.payload.now x.decoded.now x.dir x.m in
+    let arm = c.in-Ok-Nothing in
+    let none : c.first_in-a.result.found ≡ Ok Nothing = arm.is ∙ ap Ok (rw arm.is at arm.field-0-is) in
+    told (first_none w l c.first_in-a.result c.first_in-a.ensures none) c.put_word.ensures
+
+pub returns-in-Err : goal.returns-in-Err
+unfolding first_in_list
+returns-in-Err c =
+    let x = c.args in
+    let t = searched_table x.protocol x.flow x.items x.count x.bytes.now in
+    let w = fields_check x.payload.now x.decoded.now x.m in
+    let l = list_in t x.header x.payload.now x.decoded.now x.dir x.m in
+    told (first_err w l c.first_in-a.result c.first_in-a.ensures c.in-Err.is) c.put_refused.ensures
