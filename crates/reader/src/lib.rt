@@ -1,81 +1,86 @@
 // Reading a text into its table.
 #![tactic(auto)]
 
-ghost use Rattle.std.specs.Prelude.{◌≡◌};
-ghost use Rattle.definitions.specs.Limits.{document_limits};
+ghost use Rattle.std.specs.Prelude.{◌≡◌, replicate, Ok};
+ghost use Rattle.definitions.specs.Limits.{document_limits, max_items};
+ghost use Rattle.definitions.specs.Tables.{no_slot as empty_slot};
 ghost use Rattle.definitions.specs.Reading.{read as readText};
 ghost use Rattle.definitions.specs.AnswerNumbers.{read_numbers, read_in_numbers};
+ghost use Rattle.read_frame.specs.Framing.{Fronts};
+ghost use Rattle.reader.specs.Stored.{StoresOptions};
 
-use definitions::answers::{Reading, Refusal};
+use definitions::answers::{Reading, Refusal, TextRefusal};
 use definitions::limits::{ITEMS, PATTERN_BYTES};
-use definitions::table::Table;
+use definitions::table::{Slot, Table};
 use read_frame::{OPENING_BYTES, front_of};
 use read_insert::checking::{name_of, refused};
 use read_insert::finish;
-use read_state::{fresh, no_slot};
+use read_state::{State, fresh, no_slot};
 use read_steps::{Step, step_at};
+
+// The options after `F-SBID(`, up to the last `)`: the state after them, with their pattern bytes and items in the arrays, which hold none before. After a
+// refusal the arrays are of no use.
+fn read_options(
+    s: &[u8],
+    bytes: &mut [u8; PATTERN_BYTES],
+    items: &mut [Slot; ITEMS],
+) -> Result<State, TextRefusal>
+    requires opened { Fronts s.now (Ok tt) }
+    requires no_bytes { bytes.old ≡ replicate document_limits.room 0 }
+    requires no_items { items.old ≡ replicate max_items empty_slot }
+    ensures { StoresOptions s.now bytes.new items.new result }
+{
+    let mut st = fresh();
+    let mut at = OPENING_BYTES;
+    while at < s.len() {
+        if s[at] == b' ' {
+            at += 1;
+            continue;
+        }
+        match step_at(s, bytes, st, items[st.last], at)? {
+            Step::Next(next, inserted) => {
+                if let Some(put) = inserted.put {
+                    items[put.place] = put.slot;
+                }
+                st = inserted.state;
+                at = next;
+            }
+            Step::Done => {
+                finish(s.len(), st, *items)?;
+                return Ok(st);
+            }
+        }
+    }
+    Err(TextRefusal {
+        refusal: Refusal::NeitherOptionNorEnd,
+        place: at,
+    })
+}
 
 // THE READER: any bytes in, the table or a refusal with its place out.
 pub fn read(s: &[u8]) -> Reading
     ensures answer { result ≡ readText document_limits s.now }
     ensures numbers { read_numbers result.outcome ≡ read_in_numbers document_limits s.now }
 {
-    let front = front_of(s);
-    if let Err(e) = front {
+    if let Err(e) = front_of(s) {
         return refused(e.refusal, e.place);
     }
-    let none = no_slot();
-    let mut bytes = [0u8; PATTERN_BYTES];
-    let mut items = [none; ITEMS];
-    let mut st = fresh();
-    let mut at = OPENING_BYTES;
-    while at < s.len() {
-        let b = s[at];
-        if b == b' ' {
-            at += 1;
-        } else {
-            let k = st.last;
-            let last = items[k];
-            let t = step_at(s, &mut bytes, st, last, at);
-            let step = t.step;
-            match step {
-                Step::Next(n) => {
-                    let place = t.place;
-                    if place < ITEMS {
-                        let slot = t.slot;
-                        items[place] = slot;
-                    }
-                    let state = t.state;
-                    st = state;
-                    at = n;
-                }
-                Step::Done => {
-                    let outcome = finish(s.len(), st, items);
-                    if let Err(e) = outcome {
-                        return refused(e.refusal, e.place);
-                    }
-                    let name = name_of(s, st.from, st.len);
-                    let flow = st.flow;
-                    let table = Table {
-                        name,
-                        len: st.len,
-                        protocol: st.protocol,
-                        flow,
-                        bytes,
-                        used: st.used,
-                        items,
-                        count: st.count,
-                    };
-                    return Reading {
-                        outcome: Ok(()),
-                        table,
-                    };
-                }
-                Step::Refused(r, p) => {
-                    return refused(r, p);
-                }
-            }
-        }
+    let mut bytes = [0; PATTERN_BYTES];
+    let mut items = [no_slot(); ITEMS];
+    match read_options(s, &mut bytes, &mut items) {
+        Ok(st) => Reading {
+            outcome: Ok(()),
+            table: Table {
+                name: name_of(s, st.from, st.len),
+                len: st.len,
+                protocol: st.protocol,
+                flow: st.flow,
+                bytes,
+                used: st.used,
+                items,
+                count: st.count,
+            },
+        },
+        Err(e) => refused(e.refusal, e.place),
     }
-    refused(Refusal::NeitherOptionNorEnd, at)
 }

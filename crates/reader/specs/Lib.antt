@@ -1,0 +1,2 @@
+-- What reading the options of a text promises.
+pub mod Stored
