@@ -24,9 +24,6 @@ pub record Word (s : List ℕ) (at : ℕ) (w : List ℕ) (i : ℕ) : Type 0 wher
   pub inside : at + i ≤ length s
   pub rest : (d : Cursor) → Reads (word (drop i w)) s (Parsed (at + i)) 0 d → Reads (word w) s (Parsed at) 0 d
 
-pub word_start : (s : List ℕ) (at : ℕ) (w : List ℕ) → at ≤ length s → Word s at w 0
-word_start s at w h = let e : at + 0 ≡ at = omega arith in record { inside = omega arith; rest = λ d r. rw e at r }
-
 module _ (s : List ℕ) (at : ℕ) (w : List ℕ) (i : ℕ) (u : Word s at w i) where
   tail : i < length w → drop i w ≡ get_or w i 0 ∷ drop (i + 1) w
   tail h = rw add-one (drop-cons w i 0 h)

@@ -1,9 +1,6 @@
 use mathlib.Core.Path.{sym, ◌∙◌}
-use Rattle.scan_pieces.proofs.Wording.{word_start, word_on, word_halt, word_out}
+use Rattle.scan_pieces.proofs.Wording.{word_on, word_halt, word_out}
 use Rattle.scan_pieces.proofs.words.word_at.Goals as goal
-
-pub loop-i-init : goal.loop-i-init
-loop-i-init c = word_start _ _ _ c.requires
 
 pub returns-then-not-starts : goal.returns-then-not-starts
 returns-then-not-starts c = word_halt _ _ _ _ c.loop-i.invariant c.loop-i-test.true (sym c.starts.ensures ∙ c.if-not-starts.true)
