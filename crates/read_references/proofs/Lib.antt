@@ -1,2 +1,2 @@
--- The count of usable patterns with what is still to come.
-pub mod ToCome
+-- The walk over the slots.
+pub mod Counted

@@ -1,27 +1,22 @@
--- The loop keeps the sum of the patterns counted and those to come (`slot_on`); after the last item nothing is to come.
+-- The loop keeps what is counted and what is still to come (`Counted`).
 use mathlib.Core.Path.{sym, ◌∙◌}
-use Prim.Native.Nat.{◌+◌, ◌-◌, ◌≤◌}
-use native.Mathlib.Omega.{arith}
-use lib.ListN.{length}
-use Rattle.read_references.proofs.ToCome.{none_passed_lem, slot_on, slots_end, past_count}
+use Rattle.read_references.proofs.Counted.{counted_in, counted_past, counted_on, counted_not, counted_out}
 use Rattle.read_references.proofs.usable_count.Goals as goal
 
-pub loop-i-init : goal.loop-i-init
-loop-i-init c = (omega arith, omega arith, none_passed_lem _)
+pub loop-slot-init : goal.loop-slot-init
+loop-slot-init c = counted_in _
 
-pub loop-i-preserved : goal.loop-i-preserved
-loop-i-preserved c =
-    let args = c.args in
-    let loop = c.loop-i in
-    let long : args.count ≤ length args.items = omega arith in
-    let q : c.past_slot-run.result.count ≤ loop.run.count + 1 = rw c.past_slot-run.ensures (past_count _ _) in (
-      omega arith,
-      omega (arith, q),
-      rw c.past_slot-run.ensures (sym (slot_on loop.run args.items args.count loop.i _ c.loop-i-test.true long) ∙ loop.invariant.2),
-    )
+pub loop-slot-preserved-in_default : goal.loop-slot-preserved-in_default
+loop-slot-preserved-in_default c = counted_past _ _ _ _ c.loop-slot.invariant _ c.loop-slot-test.true c.in_default.not-Pattern
+
+pub returns-then-not-is_usable : goal.returns-then-not-is_usable
+returns-then-not-is_usable c =
+    counted_not _ _ _ _ c.loop-slot.invariant _ c.loop-slot-test.true _ c.in-Pattern.is (sym c.is_usable.ensures ∙ c.if-not-is_usable.true)
+
+pub loop-slot-preserved : goal.loop-slot-preserved
+loop-slot-preserved c =
+    rw c.last_after-last.ensures
+    (counted_on _ _ _ _ c.loop-slot.invariant _ c.loop-slot-test.true _ c.in-Pattern.is (sym c.is_usable.ensures ∙ c.if-not-is_usable.false))
 
 pub returns : goal.returns
-returns c =
-    let args = c.args in
-    let loop = c.loop-i in
-    sym (slots_end loop.run args.items args.count loop.i c.loop-i-test.false) ∙ loop.invariant.2
+returns c = counted_out _ _ _ _ c.loop-slot.invariant c.loop-slot-test.false
