@@ -7,7 +7,9 @@ ghost use Rattle.definitions.specs.Refusals.{write_number, write_length};
 
 use definitions::answers::Refusal;
 use definitions::limits::{ITEMS, NAME_BYTES, PATTERN_BYTES};
-use definitions::table::{FieldTest, Flow, HeaderField, Item, NumberField, NumberTest, Operator, Slot, Table};
+use definitions::table::{
+    FieldTest, Flow, HeaderField, Item, NumberField, NumberTest, Operator, Slot, Table,
+};
 use read_state::no_slot;
 use refusal_numbers::number_of;
 use write_bytes::{put, put_decimal, put_word};
@@ -30,10 +32,7 @@ fn write_number(w: Result<usize, Refusal>) -> u64
 fn write_length(w: Result<usize, Refusal>) -> usize
     ensures { result ≡ write_length w }
 {
-    match w {
-        Ok(n) => n,
-        Err(_) => 0,
-    }
+    w.unwrap_or(0)
 }
 
 // The line that is shown: number, bytes written, buffer.
@@ -51,7 +50,7 @@ fn show(rt: &impl Print, w: Result<usize, Refusal>, buffer: &[u8]) {
     let mut out = [0u8; SHOWN];
     let end = put_line(&mut out, w, buffer);
     if end <= SHOWN {
-        let _ = rt.write_all(&out[0..end]);
+        let _ = rt.write_all(&out[..end]);
     }
 }
 
@@ -73,10 +72,8 @@ fn try_whole(rt: &impl Print, t: Table) {
 
 // Of two tables that no text reads as: with a name of no bytes, and with a byte in room that is not used.
 fn try_edited(rt: &impl Print, t: Table) {
-    let mut nameless = t;
-    nameless.len = 0;
     let mut buffer = [b'.'; 37];
-    try_in(rt, nameless, &mut buffer);
+    try_in(rt, Table { len: 0, ..t }, &mut buffer);
     let mut stale = t;
     stale.bytes[PATTERN_BYTES - 1] = 1;
     try_in(rt, stale, &mut buffer);
@@ -84,11 +81,8 @@ fn try_edited(rt: &impl Print, t: Table) {
 
 // The table with one test.
 fn with_test(t: Table, item: Item) -> Table {
-    let none = no_slot();
-    let addresses = none.addresses;
-    let mut tested = t;
-    tested.items[0] = Slot { item, addresses };
-    tested.count = 1;
+    let mut tested = Table { count: 1, ..t };
+    tested.items[0] = Slot { item, ..no_slot() };
     tested
 }
 
@@ -111,7 +105,6 @@ fn try_ip_id(rt: &impl Print, t: Table) {
 
 // The table that the rule with the name `n`, protocol 6 and no items reads as.
 fn small_rule() -> Table {
-    let none = no_slot();
     let mut name = [0u8; NAME_BYTES];
     name[0] = b'n';
     Table {
@@ -121,7 +114,7 @@ fn small_rule() -> Table {
         flow: Flow::Any,
         bytes: [0u8; PATTERN_BYTES],
         used: 0,
-        items: [none; ITEMS],
+        items: [no_slot(); ITEMS],
         count: 0,
     }
 }
