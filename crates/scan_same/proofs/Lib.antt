@@ -1,2 +1,2 @@
--- Laws of two lists that are compared element by element.
+-- Equality of bytes in pairs.
 pub mod SameBytes
