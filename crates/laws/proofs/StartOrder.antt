@@ -58,11 +58,3 @@ number_before x a h = lt-ltb x a.at h
 pub number_not_before : (x : ℕ) (a : Start) → a.at ≤ x → start_before (start_at x) a ≡ false
 unfolding start_before
 number_not_before x a h = le-ltb x a.at h
-
-pub before_number : (x : ℕ) (a : Start) → start_before (start_at x) a ≡ true → x < a.at
-unfolding start_before
-before_number x a h = ltb-true x a.at h
-
-pub not_before_number : (x : ℕ) (a : Start) → start_before (start_at x) a ≡ false → a.at ≤ x
-unfolding start_before
-not_before_number x a h = ltb-false x a.at h

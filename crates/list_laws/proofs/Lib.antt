@@ -1,5 +1,4 @@
--- Laws of lists that belong to no one part: choices, the first elements, every element, runs, padded arrays.
-pub mod Choices
+-- Laws of lists that belong to no one part: the first elements, every element, runs, padded arrays.
 pub mod Firsts
 pub mod Every
 pub mod Runs
