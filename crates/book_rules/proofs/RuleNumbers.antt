@@ -1,13 +1,14 @@
 -- A rule's number: a number of 16 bits whose first digit is not 0; and what the answer for it tells of the bytes.
 use Rattle.std.specs.Prelude.{Some, None}
-use mathlib.Core.Path.{◌≡◌, refl}
+use Rattle.std.specs.Cmp.Lexicographic.{pointwise}
+use mathlib.Core.Path.{◌≡◌, refl, sym}
 use mathlib.Core.Bool.{true, false, not, false≢true, and-false}
 use mathlib.Core.List.{List, [], ◌∷◌}
 use Prim.Native.Nat.{ℕ, ◌≤◌}
 use native.Mathlib.Omega.{arith}
-use lib.ListN.{length, get_or}
+use lib.ListN.{get_or, take}
 use lib.Dec.{eqb}
-use borrow.Author.Tests.{eq-eqb, ne_eqb}
+use borrow.Author.Tests.{eq-eqb, ne_eqb, eqb-true, eqb-false}
 use Rattle.forms.proofs.Bools.{by_cases, both_left}
 use Rattle.definitions.specs.Limits.{max_word}
 use Rattle.definitions.specs.Numbers.{value_of, is_number}
@@ -17,12 +18,14 @@ use Rattle.line_numbers.specs.Decimals.{parsed_number}
 use Rattle.line_numbers.proofs.Digits.{number_le}
 use Rattle.book_rules.specs.RuleLines.{parsed_rule_number}
 
--- ---- the code's three ways
+-- ---- the code's two ways
 
-pub empty_number : (s : List ℕ) → length s ≡ 0 → None ≡ parsed_rule_number s
-unfolding parsed_rule_number is_rule_number is_number
-empty_number [] e = refl
-empty_number (b ∷ s) e = absurd (omega (arith, e))
+pub begins_zero : (s : List ℕ) → pointwise eqb (48 ∷ []) (take 1 s) ≡ eqb (get_or s 0 0) 48
+begins_zero [] = refl
+begins_zero (b ∷ s) =
+    by_cases (eqb b 48)
+    (λ t. rw (t, eq-eqb 48 b (sym (eqb-true b 48 t))))
+    (λ f. rw (f, ne_eqb 48 b (λ e. eqb-false b 48 f (sym e))))
 
 module _ (s : List ℕ) where
   pub zero_number : get_or s 0 0 ≡ 48 → None ≡ parsed_rule_number s

@@ -13,10 +13,7 @@ use line_parts::{contains, is_word, part_after, part_before};
 fn parse_number(s: &[u8]) -> Option<u64>
     ensures { result ≡ parsed_rule_number s.now }
 {
-    if s.len() == 0 {
-        return None;
-    }
-    if s[0] == b'0' {
+    if s.starts_with(b"0") {
         return None;
     }
     parse_decimal(s, MAX_WORD)

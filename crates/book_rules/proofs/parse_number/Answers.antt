@@ -1,13 +1,15 @@
--- No byte, or a first byte 0, is no number of a rule; every other number is one.
-use mathlib.Core.Path.{◌∙◌}
-use Rattle.book_rules.proofs.RuleNumbers.{empty_number, zero_number, other_number}
+-- A first byte 0 is no number of a rule; every other number is one.
+use mathlib.Core.Path.{sym, ◌∙◌}
+use borrow.Author.Tests.{eqb-true, eqb-false}
+use Rattle.book_rules.proofs.RuleNumbers.{begins_zero, zero_number, other_number}
 use Rattle.book_rules.proofs.parse_number.Goals as goal
 
-pub returns-then-s-eq0 : goal.returns-then-s-eq0
-returns-then-s-eq0 c = empty_number _ c.if-s-eq0.true
-
-pub returns-then-s-eq48 : goal.returns-then-s-eq48
-returns-then-s-eq48 c = zero_number _ c.if-s-eq48.true
+pub returns-then-starts_with : goal.returns-then-starts_with
+returns-then-starts_with c =
+    let s = c.args.s.now in
+    zero_number s (eqb-true _ 48 (sym (begins_zero s) ∙ sym c.starts_with.ensures.value ∙ c.if-starts_with.true))
 
 pub returns : goal.returns
-returns c = c.parse_decimal.ensures ∙ other_number _ c.if-s-eq48.false
+returns c =
+    let s = c.args.s.now in
+    c.parse_decimal.ensures ∙ other_number s (eqb-false _ 48 (sym (begins_zero s) ∙ sym c.starts_with.ensures.value ∙ c.if-starts_with.false))
