@@ -1,12 +1,11 @@
 -- A line's check, refusal by refusal in their order: each test that the code makes decides the definition's.
-use Rattle.std.specs.Prelude.{if◌then◌else◌, Option, Some, None, Ok, Err}
+use Rattle.std.specs.Prelude.{Option, Some, None, Ok, Err, ok_or}
 use mathlib.Core.Path.{◌≡◌, refl, sym, ap, ◌∙◌}
-use mathlib.Core.Bool.{Bool, true, false, not, false≢true}
+use mathlib.Core.Bool.{true, false≢true}
 use mathlib.Core.List.{List}
 use Prim.Native.Nat.{ℕ, suc, ◌+◌, ◌-◌, ◌<◌, ◌≤◌}
 use native.Mathlib.Omega.{arith}
 use lib.ListN.{length, take, drop}
-use lib.Dec.{ltb, leb}
 use borrow.Author.Tests.{lt-ltb, le-ltb, le-leb, lt-leb}
 use Rattle.definitions.specs.declared.answers.Refusal.{Refusal}
 use Rattle.definitions.specs.declared.answers.Refusal.TheVariants as refusal
@@ -27,6 +26,15 @@ apart v e = false≢true cc
 
 same : (v w : LoadedRule) → Some v ≡ Some w → v ≡ w
 same v w e = cc
+
+-- a line's form as the answer to it, with the refusal where it has none
+pub formed : (x : Option LoadedRule) {v : LoadedRule} → ok_or x refusal.RuleForm ≡ Ok v → x ≡ Some v
+formed None e = cc
+formed (Some w) e = cc
+
+pub unformed : (x : Option LoadedRule) {r : Refusal} → ok_or x refusal.RuleForm ≡ Err r → (x ≡ None) × (refusal.RuleForm ≡ r)
+unformed None e = (refl, cc)
+unformed (Some w) e = (cc, cc)
 
 -- from a place up to so many bytes further, as a slice has it
 pub part_long : (start len : ℕ) (l : List ℕ) → take (start + len - start) (drop start l) ≡ take len (drop start l)

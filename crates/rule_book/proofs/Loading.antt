@@ -3,11 +3,11 @@
 -- the book's end (`loading_out`), decides.
 use Rattle.std.specs.Prelude.{Result, Ok, Err}
 use mathlib.Core.Path.{◌≡◌, refl, sym, ap, ◌∙◌}
-use mathlib.Core.Bool.{Bool, true, false, not, false≢true}
+use mathlib.Core.Bool.{true, false, false≢true}
 use mathlib.Core.List.{List, [], ◌∷◌, ◌++◌, append-nil}
-use Prim.Native.Nat.{ℕ, zero, suc, ◌+◌, ◌-◌, ◌<◌, ◌≤◌}
+use Prim.Native.Nat.{ℕ, zero, suc, ◌+◌, ◌<◌, ◌≤◌}
 use native.Mathlib.Omega.{arith}
-use lib.ListN.{length, get_or, take, drop, set, replicate, length-take, length-drop, drop_of_length-le}
+use lib.ListN.{length, take, drop, set, replicate, length-take, length-drop, drop_of_length-le}
 use lib.Seq.{drop-drop, take_all, take-suc-set, append_snoc}
 use lib.Dec.{ltb}
 use borrow.Author.Tests.{lt-ltb, le-ltb, ltb-false}
@@ -18,8 +18,8 @@ use Rattle.definitions.specs.declared.books.LoadedBook.{LoadedBook}
 use Rattle.definitions.specs.Limits.{document_limits, max_book, max_rules}
 use Rattle.definitions.specs.Lists.{padded}
 use Rattle.definitions.specs.Parts.{find}
-use Rattle.definitions.specs.Books.{book_lines, rule_number, rule_of, line_check, unless_line, judge_lines, judge}
-use Rattle.definitions.specs.LoadedBooks.{source_start, loaded_at, loaded_from, unused_rule, rules_with, loaded_if, loaded}
+use Rattle.definitions.specs.Books.{book_lines, rule_number, rule_of, line_check, judge_lines, judge}
+use Rattle.definitions.specs.LoadedBooks.{source_start, loaded_at, loaded_from, unused_rule, loaded_if, loaded}
 use Rattle.list_laws.proofs.Padded.{padded_one, padded_full}
 use Rattle.laws.proofs.Checks.{refuse_fine}
 use Rattle.book_laws.proofs.Lines.{lines_first}

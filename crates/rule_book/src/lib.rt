@@ -15,14 +15,11 @@ use definitions::limits::{BOOK_BYTES, RULES};
 use line_parts::part_before;
 
 // The first line of what is left of a book, with its LF if it has one.
-fn first_line<'a>(s: &'a [u8]) -> &'a [u8]
+fn first_line(s: &[u8]) -> &[u8]
     ensures { result.now ≡ first_line s.now }
 {
     let n = part_before(s, b'\n').len();
-    if n < s.len() {
-        return &s[0..n + 1];
-    }
-    s
+    if n < s.len() { &s[..n + 1] } else { s }
 }
 
 // A line after n others, of which the last has the number `last`: 53, 51, 52, the text's own refusal, or its rule.
@@ -36,11 +33,7 @@ fn check_line(l: &[u8], n: usize, last: u16) -> Result<LoadedRule, Refusal>
     if rule.number <= last {
         return Err(Refusal::RuleOrder);
     }
-    let start = rule.start;
-    let end = start + rule.len;
-    let reading = reader::read(&l[start..end]);
-    let outcome = reading.outcome;
-    match outcome {
+    match reader::read(&l[rule.start..rule.start + rule.len]).outcome {
         Ok(()) => Ok(rule),
         Err(e) => Err(e.refusal),
     }
@@ -51,14 +44,9 @@ fn moved_to(at: usize, rule: LoadedRule) -> LoadedRule
     requires { at + rule.start ≤ max_book }
     ensures { result ≡ moved_to at rule }
 {
-    let state = rule.state;
-    let action = rule.action;
     LoadedRule {
-        number: rule.number,
-        state,
-        action,
         start: at + rule.start,
-        len: rule.len,
+        ..rule
     }
 }
 
@@ -79,10 +67,12 @@ fn no_rules() -> [LoadedRule; RULES]
 fn refused_book(r: Refusal, line: usize) -> LoadedBook
     ensures { result ≡ refused_book r line }
 {
-    let list = no_rules();
     LoadedBook {
         judgement: Err(BookRefusal { refusal: r, line }),
-        rules: Rules { count: 0, list },
+        rules: Rules {
+            count: 0,
+            list: no_rules(),
+        },
     }
 }
 
@@ -95,21 +85,19 @@ pub fn load(book: &[u8]) -> LoadedBook
     }
     let mut list = no_rules();
     let mut n = 0;
-    let mut last = 0u16;
+    let mut last = 0;
     let mut at = 0;
+    // By the place of each line, since a rule is kept by where its text stands.
     while at < book.len() {
         let l = first_line(&book[at..]);
-        let checked = check_line(l, n, last);
-        match checked {
-            Err(r) => {
-                return refused_book(r, n + 1);
-            }
+        match check_line(l, n, last) {
             Ok(rule) => {
                 list[n] = moved_to(at, rule);
                 last = rule.number;
                 n += 1;
                 at += l.len();
             }
+            Err(r) => return refused_book(r, n + 1),
         }
     }
     LoadedBook {
@@ -123,20 +111,16 @@ pub fn judge(book: &[u8]) -> Result<usize, BookRefusal>
     ensures answer { result ≡ judgement document_limits book.now }
     ensures numbers { judgement_numbers result ≡ judgement_in_numbers document_limits book.now }
 {
-    let b = load(book);
-    b.judgement
+    load(book).judgement
 }
 
 // The bytes at a place of the book, as many of them as there are.
-pub fn text_at<'a>(book: &'a [u8], start: usize, len: usize) -> &'a [u8]
+pub fn text_at(book: &[u8], start: usize, len: usize) -> &[u8]
     ensures { result.now ≡ take len (drop start book.now) }
 {
     if book.len() < start {
-        return &book[0..0];
+        return &[];
     }
     let rest = &book[start..];
-    if rest.len() < len {
-        return rest;
-    }
-    &rest[0..len]
+    &rest[..len.min(rest.len())]
 }

@@ -9,7 +9,7 @@ use Rattle.rule_book.proofs.judge.Goals as goal
 pub returns : goal.returns
 returns c =
     let book = c.args.book.now in
-    let e = ap (λ (b : LoadedBook). b.judgement) c.load-b.ensures ∙ loaded_judgement document_limits book in
+    let e = ap (λ (b : LoadedBook). b.judgement) c.load.ensures ∙ loaded_judgement document_limits book in
     record {
       answer = e;
       numbers = ap judgement_numbers e;

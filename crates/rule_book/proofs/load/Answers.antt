@@ -1,6 +1,6 @@
 -- The loop keeps `Loading`; each way out is a law of it.
 use mathlib.Core.Path.{refl, ap, ◌∙◌}
-use Prim.Native.Nat.{◌-◌, ◌<◌}
+use Prim.Native.Nat.{◌<◌}
 use native.Mathlib.Omega.{arith}
 use lib.ListN.{length}
 use borrow.Author.Rules.{part_to_end}
@@ -18,19 +18,19 @@ pub returns-in-Err : goal.returns-in-Err
 returns-in-Err c =
     let book = c.args.book.now in
     loading-not c.loop-at.invariant (omega (arith, c.loop-at-test.true)) c.first_line-l.result.now (c.first_line-l.ensures ∙ ap first_line (part_to_end book c.loop-at.at))
-    c.check_line-checked.ensures _ c.in-Err.is c.refused_book-in-Err.ensures
+    c.check_line.ensures _ c.in-Err.is c.refused_book-in-Err.ensures
 
 pub moved_to-requires : goal.moved_to-requires
 moved_to-requires c =
     let book = c.args.book.now in
     start-short c.loop-at.invariant (omega (arith, c.loop-at-test.true)) c.first_line-l.result.now (c.first_line-l.ensures ∙ ap first_line (part_to_end book c.loop-at.at))
-    c.check_line-checked.ensures _ c.in-Ok.is
+    c.check_line.ensures _ c.in-Ok.is
 
 pub bounds-list-n : goal.bounds-list-n
 bounds-list-n c =
     let book = c.args.book.now in
     line_few c.loop-at.invariant (omega (arith, c.loop-at-test.true)) c.first_line-l.result.now (c.first_line-l.ensures ∙ ap first_line (part_to_end book c.loop-at.at))
-    c.check_line-checked.ensures _ c.in-Ok.is
+    c.check_line.ensures _ c.in-Ok.is
 
 pub loop-at-smaller : goal.loop-at-smaller
 loop-at-smaller c =
@@ -43,7 +43,7 @@ pub loop-at-preserved : goal.loop-at-preserved
 loop-at-preserved c =
     let book = c.args.book.now in
     loading-on c.loop-at.invariant (omega (arith, c.loop-at-test.true)) c.first_line-l.result.now (c.first_line-l.ensures ∙ ap first_line (part_to_end book c.loop-at.at))
-    c.check_line-checked.ensures _ c.in-Ok.is c.moved_to.result c.moved_to.ensures
+    c.check_line.ensures _ c.in-Ok.is c.moved_to.result c.moved_to.ensures
 
 pub returns : goal.returns
 returns c = loading_out c.loop-at.invariant (omega (arith, c.loop-at-test.false)) refl
