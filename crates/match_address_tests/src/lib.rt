@@ -22,7 +22,7 @@ fn packet_address(f: PacketHeader, side: Side) -> u32
 fn bits_after(prefix: u8) -> u64
     ensures { result ≡ max_prefix - prefix }
 {
-    if prefix < 32 { (32 - prefix) as u64 } else { 0 }
+    u64::from(32u8.saturating_sub(prefix))
 }
 
 // Equal in the first bits, as many as the prefix says.
@@ -30,35 +30,26 @@ fn same_bits(prefix: u8, a: u32, b: u32) -> bool
     ensures { result ≡ same_bits prefix a b }
 {
     let k = bits_after(prefix);
-    (a as u64) >> k == (b as u64) >> k
+    u64::from(a) >> k == u64::from(b) >> k
 }
 
 // Equal in its prefix to one of the first addresses.
 fn in_addresses(x: u32, addresses: [Address; ADDRESSES], count: usize) -> bool
     ensures { result ≡ in_addresses x (take count addresses) }
 {
-    let mut i = 0;
-    while i < ADDRESSES {
-        if count <= i {
-            return false;
-        }
-        let a = addresses[i];
-        if same_bits(a.prefix, x, a.number) {
-            return true;
-        }
-        i += 1;
-    }
-    false
+    addresses
+        .iter()
+        .take(count)
+        .any(|a| same_bits(a.prefix, x, a.number))
 }
 
 // src_addr and dst_addr: `!` turns the whole answer.
+#[tactic(auto, unfolding(definitions::specs::Tests::address_holds))]
 pub fn address_holds(f: PacketHeader, a: AddressTest, addresses: [Address; ADDRESSES]) -> bool
     ensures { result ≡ address_holds f a addresses }
 {
-    let side = a.side;
-    let x = packet_address(f, side);
-    let among = in_addresses(x, addresses, a.count);
-    if a.negated { !among } else { among }
+    let among = in_addresses(packet_address(f, a.side), addresses, a.count);
+    among != a.negated
 }
 
 // same_ip: source and destination are the same address.

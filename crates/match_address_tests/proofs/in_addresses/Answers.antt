@@ -1,34 +1,16 @@
--- The invariant says what is still to look at: the addresses in use from `i` on.
-use mathlib.Core.Path.{sym, ◌∙◌}
-use Prim.Native.Nat.{◌-◌, ◌≤◌, ◌<◌}
-use native.Mathlib.Omega.{arith}
-use lib.ListN.{length}
-use Rattle.match_address_tests.proofs.Among.{among_none, among_out, among_more, among_found}
+-- A test of any of the first addresses.
+use Rattle.std.proofs.Common.{sym, ◌∙◌, take, rules, tests}
+use Rattle.std.proofs.lemmas.Iterator.{YieldsList-from_slice, YieldsList-from_take}
+use Rattle.std.proofs.lemmas.Iterator.Consumers.{YieldsList-at}
+use Rattle.std.proofs.lemmas.Iterator.Search.{any_from_yields_List}
+use Rattle.definitions.specs.declared.table.Address.{Address}
+use Rattle.definitions.specs.Tests.{same_bits}
+use Rattle.match_address_tests.proofs.Among.{among_any}
 use Rattle.match_address_tests.proofs.in_addresses.Goals as goal
-
-pub returns-then-count-i : goal.returns-then-count-i
-returns-then-count-i c =
-    let a = c.args in
-    let l = c.loop-i in
-    sym (l.invariant.1 ∙ among_none a.x a.count a.addresses l.i c.if-count-i.true)
-
-pub returns-then-same_bits : goal.returns-then-same_bits
-returns-then-same_bits c =
-    let a = c.args in
-    let l = c.loop-i in
-    let long : l.i < length a.addresses = omega arith in
-    sym (l.invariant.1 ∙ among_found a.x a.count a.addresses l.i _ (omega arith) long (sym c.same_bits.ensures ∙ c.if-same_bits.true))
-
-pub loop-i-preserved : goal.loop-i-preserved
-loop-i-preserved c =
-    let a = c.args in
-    let l = c.loop-i in
-    let long : l.i < length a.addresses = omega arith in
-    (omega arith, l.invariant.1 ∙ among_more a.x a.count a.addresses l.i _ (omega arith) long (sym c.same_bits.ensures ∙ c.if-same_bits.false))
 
 pub returns : goal.returns
 returns c =
     let a = c.args in
-    let l = c.loop-i in
-    let long : length a.addresses ≤ l.i = omega arith in
-    sym (l.invariant.1 ∙ among_out a.x a.count a.addresses l.i long)
+    let first = YieldsList-from_take a.count (YieldsList-at c.take.ensures.source (YieldsList-from_slice a.addresses cc)) c.take.ensures.count in
+    any_from_yields_List (λ (b : Address). same_bits b.prefix a.x b.number) _ _ _ c.any.ensures.ran first (λ x b q k. search (rules, tests))
+    ∙ sym (among_any a.x (take a.count a.addresses))
