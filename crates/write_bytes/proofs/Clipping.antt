@@ -1,9 +1,9 @@
 -- A number kept within a list's length takes what the number itself takes.
-use mathlib.Core.Path.{◌≡◌, sym, ap, ◌∙◌}
+use mathlib.Core.Path.{◌≡◌, sym, ◌∙◌}
 use mathlib.Core.List.{List}
-use Prim.Native.Nat.{ℕ, ◌-◌, ◌≤◌}
+use Prim.Native.Nat.{ℕ, ◌≤◌}
 use native.Mathlib.Omega.{arith}
-use native.Mathlib.Nat.{le_refl, sub-zero}
+use native.Mathlib.Nat.{le_refl}
 use lib.ListN.{length, take, drop, drop_of_length-le}
 use lib.Seq.{take_all, take-length}
 use lib.Dec.{leb}
@@ -25,11 +25,7 @@ take_most n l =
 pub taken_most : {A : Type 0} (n : ℕ) (l : List A) {most r : ℕ} → length l ≡ most → r ≡ at_most n most → take n l ≡ take r l
 taken_most n l e d = rw (d, sym e) (sym (take_most n l))
 
--- as a part of a slice has it
-pub part_most : {A : Type 0} (n : ℕ) (l : List A) {most r : ℕ} → length l ≡ most → r ≡ at_most n most → take n l ≡ take (r - 0) (drop 0 l)
-part_most n l {r = r} e d = taken_most n l e d ∙ ap (λ (k : ℕ). take k l) (sym (sub-zero r))
-
--- and drops what the number drops
+-- what is left out is the same
 pub drop_most : {A : Type 0} (n : ℕ) (l : List A) → drop (at_most n (length l)) l ≡ drop n l
 unfolding at_most
 drop_most n l =
