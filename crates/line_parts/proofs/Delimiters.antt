@@ -2,7 +2,7 @@
 use mathlib.Core.Path.{◌≡◌, refl, sym, ap, ◌∙◌}
 use mathlib.Core.Bool.{false, not}
 use mathlib.Core.List.{List, []}
-use Prim.Native.Nat.{ℕ, zero, suc, ◌+◌, ◌-◌, ◌≤◌}
+use Prim.Native.Nat.{ℕ, zero, suc, ◌+◌, ◌≤◌}
 use native.Mathlib.Omega.{arith}
 use native.Mathlib.Nat.{le_refl}
 use lib.ListN.{length, take, drop, length-drop, drop_of_length-le}
@@ -19,9 +19,9 @@ module _ (d : ℕ) (l : List ℕ) where
 
   -- the code's place of the first delimiter, r
   module _ (r : ℕ) (e : r ≡ find d l) where
-    pub before_is : take (r - 0) (drop 0 l) ≡ part_before d l
+    pub before_is : take r l ≡ part_before d l
     unfolding part_before
-    before_is = let z : r - 0 ≡ find d l = omega (arith, e) in ap (λ (n : ℕ). take n l) z
+    before_is = ap (λ (n : ℕ). take n l) e
 
     pub after_is : drop (r + 1) l ≡ part_after d l
     unfolding part_after

@@ -27,7 +27,7 @@ pub fn part_before<'a>(s: &'a [u8], d: u8) -> &'a [u8]
     ensures { result.now ≡ parts.part_before d s.now }
 {
     let end = find(s, d);
-    &s[0..end]
+    &s[..end]
 }
 
 // The bytes after the first delimiter, or none.

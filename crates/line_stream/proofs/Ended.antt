@@ -8,7 +8,7 @@ use Prim.Native.Nat.{ℕ, suc, ◌+◌, ◌≤◌, ◌<◌}
 use native.Mathlib.Omega.{arith}
 use native.Mathlib.Numerals.{add-one}
 use lib.Dec.{eqb}
-use lib.ListN.{length, get_or, take, drop, drop_of_length-le}
+use lib.ListN.{length, get_or, take, drop}
 use lib.Seq.{drop-cons, take-suc}
 use borrow.Author.Tests.{not-true}
 use Rattle.forms.proofs.Bools.{by_cases, both_left, both_right}
@@ -80,13 +80,6 @@ module _ (s : List ℕ) (at : ℕ) where
       ∙ ap (ended_lines l) (drop-cons s end 0 h)
       ∙ ap (λ (b : ℕ). ended_lines l (b ∷ drop (suc end) s)) (line_lf s at h)
       ∙ ap (λ (k : ℕ). l ∷ ended_lines [] (drop k s)) (sym (add-one end))
-
-  -- or there is none
-  pub ended_none : length s ≤ lf_from s at → ended_lines [] (drop at s) ≡ []
-  unfolding ended_lines
-  ended_none h =
-      let l = line_from s at in
-      ap (ended_lines []) (line_rest s at ∙ ap (λ (x : List ℕ). l ++ x) (drop_of_length-le s h) ∙ append-nil l) ∙ ended_inside [] l (line_inside s at)
 
 -- ---- all of the input
 

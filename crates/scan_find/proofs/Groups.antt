@@ -43,10 +43,7 @@ module _ (b : ℕ) where
       (λ f. let more : suc k ≤ suc (find b l) = rw f at h in rw f (omega (arith, find_past l k (omega (arith, more)))))
 
 module _ (s : List ℕ) (b : ℕ) where
-  -- no byte of a group, and its next one
-  pub group_none : (at : ℕ) → true ≡ leb 0 (find b (drop at s))
-  group_none at = sym (le-leb 0 (find b (drop at s)) (omega arith))
-
+  -- the next byte of a group
   pub group_more : (at k : ℕ) → at + k < length s
       → leb (k + 1) (find b (drop at s)) ≡ (leb k (find b (drop at s)) && not (eqb (get_or s (at + k) 0) b))
   group_more at k h =
