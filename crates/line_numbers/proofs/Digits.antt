@@ -12,7 +12,7 @@ use lib.Dec.{leb}
 use borrow.Author.Tests.{le-leb, lt-leb, leb-true}
 use Rattle.forms.specs.Bytes.{between}
 use Rattle.forms.specs.Form.{has}
-use Rattle.forms.proofs.Bools.{both_left, both_right, or-false}
+use Rattle.forms.proofs.Bools.{both_right, or-false}
 use Rattle.definitions.specs.Lists.{all?, none?}
 use Rattle.definitions.specs.Numbers.{decimal_digits, digit_value, value_of, is_number}
 use Rattle.line_numbers.specs.Decimals.{parsed_number}
@@ -24,9 +24,6 @@ unfolding has
 digit_between b = or-false (between 48 57 b)
 
 module _ (b : ℕ) (t : between 48 57 b ≡ true) where
-  pub digit_low : 48 ≤ b
-  digit_low = leb-true 48 b (both_left (leb 48 b) (leb b 57) t)
-
   pub digit_high : b ≤ 57
   digit_high = leb-true b 57 (both_right (leb 48 b) (leb b 57) t)
 

@@ -1,6 +1,6 @@
 -- What canonical text leaves out: the prefix /32, and a full mask.
 use mathlib.Core.Path.{◌≡◌, sym, ◌∙◌}
-use mathlib.Core.List.{[], ◌++◌, append-nil}
+use mathlib.Core.List.{[], ◌++◌}
 use Prim.Native.Nat.{ℕ}
 use borrow.Author.Tests.{eq-eqb, ne_eqb}
 use Rattle.forms.specs.Bytes.{text}
@@ -10,9 +10,6 @@ use Rattle.definitions.specs.Limits.{max_prefix}
 use Rattle.definitions.specs.Forms.{max_field}
 use Rattle.definitions.specs.Canonical.{decimal, octets, address_text}
 use Rattle.write_values.specs.Parts.{mask_text}
-
-pub prefix_full : (a : Address) → a.prefix ≡ max_prefix → address_text a ≡ octets a.number
-prefix_full a e = rw (eq-eqb a.prefix max_prefix e) (append-nil (octets a.number))
 
 pub prefix_given : (a : Address) → (a.prefix ≡ max_prefix → ⊥) → address_text a ≡ octets a.number ++ (text "/" ++ decimal a.prefix)
 prefix_given a n = rw (ne_eqb a.prefix max_prefix n)
