@@ -4,15 +4,12 @@ use mathlib.Core.List.{List, ◌∷◌, ◌++◌, map}
 use Prim.Native.Nat.{ℕ, suc, ◌+◌, ◌≤◌, ◌<◌}
 use native.Mathlib.Numerals.{add-one}
 use native.Mathlib.Omega.{arith}
-use lib.ListN.{length, take, drop, get_or, set, drop_of_length-le, length-map, get_or-map}
+use lib.ListN.{length, take, drop, get_or, set, length-map, get_or-map}
 use lib.Seq.{drop-cons, sets, sets-eq}
 use Rattle.definitions.specs.declared.packets.Start.{Start}
 use Rattle.definitions.specs.Starts.{start_at, start_number}
 
 -- ---- a list, number by number: what is still to be stored
-
-pub stores_none : (out : List ℕ) (at : ℕ) (vs : List ℕ) → sets out at vs ≡ sets out (at + 0) (drop 0 vs)
-stores_none out at vs = let e : at + 0 ≡ at = omega arith in rw e
 
 stores_one : (out : List ℕ) (at : ℕ) (vs : List ℕ) (j : ℕ) → j < length vs
     → sets out (at + j) (drop j vs) ≡ sets (set out (at + j) (get_or vs j 0)) (at + (j + 1)) (drop (j + 1) vs)
@@ -26,9 +23,6 @@ pub stores_start : (out : List ℕ) (at : ℕ) (ss : List Start) (j : ℕ) (n : 
 stores_start out at ss j n h e =
     stores_one out at (map start_number ss) j (omega (arith, h, length-map ss start_number))
     ∙ ap (λ (k : ℕ). sets (set out (at + j) k) (at + (j + 1)) (drop (j + 1) (map start_number ss))) (get_or-map start_number ss j (start_at 0) ∙ sym e)
-
-pub stores_all : (out : List ℕ) (at : ℕ) (vs : List ℕ) (j : ℕ) → length vs ≤ j → sets out (at + j) (drop j vs) ≡ out
-stores_all out at vs j h = rw (drop_of_length-le vs h)
 
 -- ---- three numbers and a list after them
 

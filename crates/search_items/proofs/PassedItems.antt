@@ -1,6 +1,6 @@
 -- The items that the search has gone over: tests and negated patterns that hold leave the answer to the items after them.
 use Rattle.std.specs.Prelude.{Option, None}
-use mathlib.Core.Path.{◌≡◌, refl, sym, ap, ◌∙◌}
+use mathlib.Core.Path.{◌≡◌, sym, ap, ◌∙◌}
 use mathlib.Core.Bool.{Bool, true, false}
 use mathlib.Core.List.{List, [], ◌∷◌}
 use Prim.Native.Nat.{ℕ, ◌+◌, ◌-◌, ◌≤◌, ◌<◌}
@@ -53,10 +53,6 @@ pub record Gone (q : SearchInput) (k : ℕ) (b s d : List ℕ) (l : Option Match
   pub inside : from ≤ length b
   pub ready : ReadyItems (items_left q i) (drop from b) s d l chosen
   pub same : found q s d l chosen on-bound (constraints (items_left q k) b) ≡ found q s d l chosen on-bound (constraints (items_left q i) (drop from b))
-
-pub gone_none : {q : SearchInput} {k : ℕ} {b s d : List ℕ} {l : Option Match} {chosen : Placement} {on-bound : Bool} → q.count ≤ max_items
-    → q.count ≤ length q.items → ReadyItems (items_left q k) b s d l chosen → Gone q k b s d l chosen on-bound k 0
-gone_none few h rd = record { few = few; held = h; on = omega arith; inside = omega arith; ready = rd; same = refl }
 
 module _ {q : SearchInput} {k : ℕ} {b s d : List ℕ} {l : Option Match} {chosen : Placement} {on-bound : Bool} {i from : ℕ}
     (g : Gone q k b s d l chosen on-bound i from) where
