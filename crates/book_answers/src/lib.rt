@@ -5,10 +5,10 @@ ghost use Rattle.definitions.specs.Limits.{document_limits};
 ghost use Rattle.write_bytes.specs.Puts.{Puts};
 ghost use Rattle.book_answers.specs.BookAnswers.{judgement_text, book_output};
 
+use definitions::answers::BookRefusal;
 use line_refusals::put_refused;
 use rule_book::judge;
 use write_bytes::{put, put_decimal, put_word};
-use definitions::answers::BookRefusal;
 
 // `ok`, tab and the number of rules; or the refusal, tab and the line.
 fn put_judgement(out: &mut [u8], at: usize, j: Result<usize, BookRefusal>) -> usize
