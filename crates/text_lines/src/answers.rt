@@ -24,16 +24,12 @@ pub fn answer_text(out: &mut [u8], at: usize, s: &[u8]) -> usize
     ensures { Puts out.old at (line_of document_limits s.now) out.new result }
 {
     let reading = read(s);
-    let outcome = reading.outcome;
-    match outcome {
-        Ok(()) => {
-            let mut room = [0u8; CANONICAL_BYTES];
-            let w = write_formed(reading.table, &mut room);
-            match w {
-                Ok(n) => put_ok(out, at, &room, n),
-                Err(r) => put_refused(out, at, r, 0),
-            }
-        }
-        Err(e) => put_refused(out, at, e.refusal, e.place),
+    if let Err(e) = reading.outcome {
+        return put_refused(out, at, e.refusal, e.place);
+    }
+    let mut room = [0; CANONICAL_BYTES];
+    match write_formed(reading.table, &mut room) {
+        Ok(n) => put_ok(out, at, &room, n),
+        Err(r) => put_refused(out, at, r, 0),
     }
 }
