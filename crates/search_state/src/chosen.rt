@@ -11,7 +11,7 @@ ghost use Rattle.search_state.specs.Choosing.{push, answer, start_from};
 use definitions::limits::PATTERNS;
 use definitions::packets::{Match, Placement, Start};
 use definitions::table::Pattern;
-use match_starts::same_start;
+use match_starts::{same_start, start_at, start_before};
 use table_references::usable::last_ending;
 
 // No start: the placement to begin with, and that of none and of a refusal.
@@ -46,7 +46,14 @@ pub fn with_start(chosen: Placement, s: Start) -> Placement
 pub fn start_from(on_bound: bool, b: Start, from: usize) -> usize
     ensures { result ≡ start_from on_bound b from }
 {
-    if on_bound { from.max(b.at) } else { from }
+    if !on_bound {
+        return from;
+    }
+    if start_before(start_at(from), b) {
+        b.at
+    } else {
+        from
+    }
 }
 
 // Whether the starts chosen, with `s`, are still those of the placement to pass.
