@@ -21,7 +21,8 @@ use Rattle.line_packets.specs.declared.packets.PacketColumns.{PacketColumns}
 use Rattle.definitions.specs.declared.answers.TextRefusal.{TextRefusal}
 use Rattle.line_packets.specs.Packets.{is_packet, packet_of}
 use Rattle.line_packets.proofs.FourColumns.{packet_and}
-use Rattle.case_columns.specs.Queries.{Query, is_query, query_of}
+use Rattle.case_columns.specs.declared.Query.{Query}
+use Rattle.case_columns.specs.Queries.{is_query, query_of}
 use Rattle.case_lines.specs.CaseLines.{max_line, is_case, case_of}
 use Rattle.case_lines.specs.CaseAnswers.{query_text, unread_text, outcome_text, reading_text, case_answer}
 use Rattle.case_lines.specs.Columns.{max_pairs, are_columns, columns_text}

@@ -13,7 +13,8 @@ use Rattle.definitions.specs.Refusals.{number_of}
 use Rattle.definitions.specs.Reading.{read}
 use Rattle.definitions.specs.Canonical.{decimal}
 use Rattle.definitions.specs.Answers.{input_check, placements_of, first_answer, next_answer}
-use Rattle.case_columns.specs.Queries.{Query, all, first, next}
+use Rattle.case_columns.specs.declared.Query.{Query}
+use Rattle.case_columns.specs.declared.Query.TheVariants.{All, First, Next}
 use Rattle.case_lists.specs.AnswerTexts.{list_text, check_text, answer_text}
 use Rattle.case_lines.specs.CaseLines.{is_case, CaseLine, case_of}
 
@@ -23,9 +24,9 @@ unread_text r place = text "text " ++ (decimal (number_of r) ++ (text " " ++ dec
 
 module _ (p decoded : List ℕ) (dir : Direction) (m : FieldMap) where
   unfoldable pub query_text : Table → Query → List ℕ
-  query_text t all = check_text (input_check t p decoded dir m) (list_text (placements_of t p decoded dir m))
-  query_text t first = answer_text (first_answer t p decoded dir m)
-  query_text t (next h) = answer_text (next_answer t p decoded dir m h)
+  query_text t All = check_text (input_check t p decoded dir m) (list_text (placements_of t p decoded dir m))
+  query_text t First = answer_text (first_answer t p decoded dir m)
+  query_text t (Next h) = answer_text (next_answer t p decoded dir m h)
 
   -- the answer for a text's table, or its refusal
   abbrev pub outcome_text : Result Unit TextRefusal → Table → Query → List ℕ

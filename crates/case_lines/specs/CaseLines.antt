@@ -8,7 +8,8 @@ use Rattle.definitions.specs.Parts.{contains, after_parts, part}
 use Rattle.line_numbers.specs.HexPairs.{is_hex}
 use Rattle.line_packets.specs.Directions.{is_direction, direction_of}
 use Rattle.line_fields.specs.FieldMaps.{is_map, map_of}
-use Rattle.case_columns.specs.Queries.{Query, is_query, query_of}
+use Rattle.case_columns.specs.declared.Query.{Query}
+use Rattle.case_columns.specs.Queries.{is_query, query_of}
 
 -- bytes of a line before its LF
 abbrev pub max_line : ℕ

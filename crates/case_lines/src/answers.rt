@@ -5,12 +5,11 @@ ghost use Rattle.definitions.specs.Limits.{document_limits};
 ghost use Rattle.definitions.specs.Reading.{read as readText};
 ghost use Rattle.write_bytes.specs.Puts.{Puts};
 ghost use Rattle.line_numbers.specs.HexPairs.{is_hex};
-ghost use Rattle.case_columns.specs.Queries.{query_by};
 ghost use Rattle.case_lines.specs.CaseLines.{max_line};
 ghost use Rattle.case_lines.specs.CaseAnswers.{query_text, unread_text, reading_text, case_answer};
 ghost use Rattle.case_lines.specs.Columns.{columns_text};
 
-use case_columns::{Kind, Queried, is_query, parse_query};
+use case_columns::{Query, parse_query};
 use case_lists::answers::put_answer;
 use case_lists::lists::put_list;
 use definitions::answers::Refusal;
@@ -27,7 +26,7 @@ pub const CASE_BYTES: usize = 16384;
 // Bytes that the pairs of a column write at most.
 pub const PAIRS: usize = CASE_BYTES / 2;
 
-// The answer to a query; the last arm is `First`, since a line whose query is `Bad` is answered before.
+// The answer to a query.
 fn put_query<'a>(
     out: &mut [u8],
     at: usize,
@@ -35,20 +34,19 @@ fn put_query<'a>(
     p: &'a [u8],
     decoded: &'a [u8],
     located: PacketColumns,
-    queried: Queried,
+    query: Query,
 ) -> usize
-    ensures { Puts out.old at (query_text p.now decoded.now located.direction located.fields t (query_by queried.kind queried.placement)) out.new result }
+    ensures { Puts out.old at (query_text p.now decoded.now located.direction located.fields t query) out.new result }
 {
-    let kind = queried.kind;
-    let dir = located.direction;
-    match kind {
-        Kind::All => put_list(out, at, t, p, decoded, dir, located.fields),
-        Kind::Next => put_answer(
+    let PacketColumns { direction, fields } = located;
+    match query {
+        Query::All => put_list(out, at, t, p, decoded, direction, fields),
+        Query::First => put_answer(out, at, matcher::first(t, p, decoded, direction, fields)),
+        Query::Next(placement) => put_answer(
             out,
             at,
-            matcher::next(t, p, decoded, dir, located.fields, queried.placement),
+            matcher::next(t, p, decoded, direction, fields, placement),
         ),
-        _ => put_answer(out, at, matcher::first(t, p, decoded, dir, located.fields)),
     }
 }
 
@@ -69,30 +67,27 @@ fn put_formed(
     packet: &[u8],
     decoded: &[u8],
     located: PacketColumns,
-    queried: Queried,
+    query: Query,
     text: &[u8],
     room: &mut [u8; PAIRS],
     more: &mut [u8; PAIRS],
 ) -> usize
     requires { (is_hex packet.now ≡ true) × (is_hex decoded.now ≡ true) × (length packet.now ≤ max_line) × (length decoded.now ≤ max_line) }
-    ensures { Puts out.old at (reading_text (pairs packet.now) (pairs decoded.now) located.direction located.fields (readText document_limits text.now) (query_by queried.kind queried.placement)) out.new result }
+    ensures { Puts out.old at (reading_text (pairs packet.now) (pairs decoded.now) located.direction located.fields (readText document_limits text.now) query) out.new result }
 {
     let reading = reader::read(text);
-    let outcome = reading.outcome;
-    match outcome {
+    match reading.outcome {
         Ok(()) => {
             let n = put_pairs(room, 0, packet);
             let d = put_pairs(more, 0, decoded);
-            let packet_bytes = &room[..];
-            let decoded_bytes = &more[..];
             put_query(
                 out,
                 at,
                 reading.table,
-                &packet_bytes[0..n],
-                &decoded_bytes[0..d],
+                &room[0..n],
+                &more[0..d],
                 located,
-                queried,
+                query,
             )
         }
         Err(e) => put_unread(out, at, e.refusal, e.place),
@@ -115,15 +110,13 @@ fn put_columns(
     requires { (length packet.now ≤ max_line) × (length decoded.now ≤ max_line) }
     ensures { Puts out.old at (columns_text origin.now packet.now fields.now decoded.now query.now text.now) out.new result }
 {
-    let queried = parse_query(query);
-    let kind = queried.kind;
-    if !is_query(kind) {
+    let Some(query) = parse_query(query) else {
         return put_word(out, at, b"bad");
-    }
+    };
     let Some(located) = parse_packet(origin, packet, fields, decoded) else {
         return put_word(out, at, b"bad");
     };
-    put_formed(out, at, packet, decoded, located, queried, text, room, more)
+    put_formed(out, at, packet, decoded, located, query, text, room, more)
 }
 
 // THE ANSWER to a line, without its number and the LF. The caller lends room for the bytes of packet and decoded buffer.

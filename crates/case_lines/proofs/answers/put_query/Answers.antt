@@ -2,24 +2,21 @@ use mathlib.Core.Path.{sym, ap, ◌∙◌}
 use Rattle.write_bytes.proofs.Putting.{told}
 use Rattle.case_lists.specs.AnswerTexts.{answer_text}
 use Rattle.case_lines.specs.CaseAnswers.{query_text}
-use Rattle.case_lines.proofs.Queries.{queried, queried-first}
+use Rattle.case_lines.proofs.Queries.{queried}
 use Rattle.case_lines.proofs.answers.put_query.Goals as goal
 
 pub returns-in-All : goal.returns-in-All
 unfolding query_text
-returns-in-All c = told (queried _ _ _ _ _ _ c.in-All.is) c.put_list.ensures
+returns-in-All c = told (queried _ _ _ _ _ c.in-All.is) c.put_list.ensures
+
+pub returns-in-First : goal.returns-in-First
+unfolding query_text
+returns-in-First c = told
+    (queried _ _ _ _ _ c.in-First.is ∙ ap answer_text (sym c.first.ensures.answer))
+    c.put_answer.ensures
 
 pub returns-in-Next : goal.returns-in-Next
 unfolding query_text
 returns-in-Next c = told
-    (queried _ _ _ _ _ _ c.in-Next.is ∙ ap answer_text (sym c.next.ensures.answer))
-    c.put_answer.ensures
-
-pub returns-in_default : goal.returns-in_default
-unfolding query_text
-returns-in_default c =
-    let args = c.args in
-    told
-    (queried-first _ _ _ _ _ args.queried.placement args.queried.kind c.in_default.not-All c.in_default.not-Next
-    ∙ ap answer_text (sym c.first.ensures.answer))
-    c.put_answer-in_default.ensures
+    (queried _ _ _ _ _ c.in-Next.is ∙ ap answer_text (sym c.next.ensures.answer))
+    c.put_answer-in-Next.ensures
