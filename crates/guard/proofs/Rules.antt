@@ -1,14 +1,18 @@
--- When a rule decides: never where it is off (`off_never`) or its text is refused (`unread-never`), since a refused reading has no well-formed table; else exactly
+-- The rules that are gone through, one after the other. When a rule decides: never where it is off (`off_never`) or its text is refused (`unread-never`), since a refused reading has no well-formed table; else exactly
 -- if the table that was read is met (`on-met`). A table that was read is well formed (`read_formed`).
 use Rattle.std.specs.Prelude.{Result, Ok, Err}
 use mathlib.Core.Path.{◌≡◌, refl, sym, ap, ◌∙◌}
 use mathlib.Core.Bool.{true, false, false≢true, and-false}
-use mathlib.Core.List.{List, [], ◌∷◌}
-use Prim.Native.Nat.{ℕ}
+use mathlib.Core.List.{List, [], ◌∷◌, map}
+use Prim.Native.Nat.{ℕ, ◌+◌, ◌<◌, ◌≤◌, min}
 use native.Mathlib.Omega.{arith}
+use lib.ListN.{length, get_or, take, length-take, drop_of_length-le}
+use lib.Seq.{get_or-take}
 use Rattle.definitions.specs.declared.packets.Direction.{Direction}
 use Rattle.definitions.specs.declared.packets.FieldMap.{FieldMap}
 use Rattle.definitions.specs.declared.table.Table.{Table}
+use Rattle.definitions.specs.declared.books.LoadedRule.{LoadedRule}
+use Rattle.definitions.specs.declared.books.Rules.{Rules}
 use Rattle.definitions.specs.declared.answers.Refusal.{Refusal}
 use Rattle.definitions.specs.declared.answers.Reading.{Reading}
 use Rattle.definitions.specs.declared.books.Action.TheVariants.{Hold}
@@ -20,10 +24,25 @@ use Rattle.definitions.specs.WellFormed.{name_fits, well_formed}
 use Rattle.definitions.specs.Answers.{input_check, verdict_answer}
 use Rattle.definitions.specs.Books.{Rule}
 use Rattle.definitions.specs.Decisions.{is_on, is_met, decides, decided}
+use Rattle.definitions.specs.LoadedBooks.{rule_at}
+use Rattle.rule_book.proofs.RulesFrom.{rules_from, rules_here}
 use Rattle.laws.proofs.Refusing.{refused_empty}
 use Rattle.roundtrip.proofs.Read.{read_shaped, read_well}
 use Rattle.matcher.specs.Matching.{Matchable}
 use Rattle.matcher.proofs.Matching.{formed_matchable}
+
+-- the first n rules of an array of 64, as many as there are
+module _ (book : List ℕ) (rs : Rules) (n : ℕ) (few : n ≡ min rs.count 64) (i : ℕ) where
+  pub rules_next : (d : LoadedRule) → i < length (take n rs.list) → rules_from book rs i ≡ rule_at book (get_or (take n rs.list) i d) ∷ rules_from book rs (i + 1)
+  rules_next d h =
+      let long = length-take n rs.list in
+      rules_here book rs i d (omega (arith, few, h, long)) (omega (arith, h, long))
+      ∙ ap (λ (x : LoadedRule). rule_at book x ∷ rules_from book rs (i + 1)) (sym (get_or-take n rs.list i d (omega (arith, h, long))))
+
+  pub rules_none : length rs.list ≡ 64 → length (take n rs.list) ≤ i → rules_from book rs i ≡ []
+  rules_none size h =
+      let past : length (take rs.count rs.list) ≤ i = omega (arith, few, size, h, length-take n rs.list, length-take rs.count rs.list) in
+      ap (map (rule_at book)) (drop_of_length-le (take rs.count rs.list) past)
 
 -- the empty table is not well formed: it has no name
 empty_formed : (room : ℕ) → well_formed (table_of room []) ≡ false
@@ -49,7 +68,7 @@ module _ (p decoded : List ℕ) (dir : Direction) (m : FieldMap) where
           let t = refused_empty document_limits r.source (λ a. accepted_not (sym a ∙ o)) in
           rw (t, ill_formed_unmet (table_of document_limits.room []) (empty_formed document_limits.room)) (and-false (is_on r.state))
         where
-          accepted_not : (Ok tt) ≡ Err (record { refusal = c; place = place }) → ⊥
+          accepted_not : ◌≡◌ {A = Result Unit TextRefusal} (Ok tt) (Err (record { refusal = c; place = place })) → ⊥
           accepted_not q = let z : false ≡ true = cc in false≢true z
 
       pub on-met : is_on r.state ≡ true → is_met (verdict_answer x.table p decoded dir m) ≡ decides document_limits p decoded dir m r

@@ -21,10 +21,7 @@ pub use rule_book::text_at;
 pub fn is_on(s: State) -> bool
     ensures { result ≡ is_on s }
 {
-    match s {
-        State::On => true,
-        State::Off => false,
-    }
+    s == State::On
 }
 
 // Whether a rule is on and has a placement.
@@ -38,19 +35,15 @@ fn rule_decides<'a>(
 ) -> bool
     ensures { result ≡ decides document_limits p.now decoded.now dir m (rule_at book.now rule) }
 {
-    let state = rule.state;
-    if !is_on(state) {
+    if !is_on(rule.state) {
         return false;
     }
     let reading = reader::read(text_at(book, rule.start, rule.len));
-    let outcome = reading.outcome;
-    match outcome {
+    match reading.outcome {
         Ok(()) => {
             let t = reading.table;
-            let flow = t.flow;
-            let items = t.items;
             matcher::meets(
-                t.protocol, flow, items, t.count, &t.bytes, p, decoded, dir, m,
+                t.protocol, t.flow, t.items, t.count, &t.bytes, p, decoded, dir, m,
             )
         }
         Err(_) => false,
@@ -68,20 +61,13 @@ pub fn decide_by<'a>(
 ) -> Result<Decision, BookRefusal>
     ensures { result ≡ decided document_limits p.now decoded.now dir m (rules_in book.now rules) }
 {
-    let mut i = 0;
-    while i < RULES {
-        if rules.count <= i {
-            break;
-        }
-        let rule = rules.list[i];
-        if rule_decides(book, rule, p, decoded, dir, m) {
-            let action = rule.action;
+    for rule in &rules.list[..rules.count.min(RULES)] {
+        if rule_decides(book, *rule, p, decoded, dir, m) {
             return Ok(Decision {
-                action,
+                action: rule.action,
                 rule: rule.number,
             });
         }
-        i += 1;
     }
     Ok(Decision {
         action: Action::Hold,
@@ -101,8 +87,7 @@ pub fn decide<'a>(
     ensures numbers { decision_numbers result ≡ decision_in_numbers document_limits p.now decoded.now dir m book.now }
 {
     let b = load(book);
-    let judgement = b.judgement;
-    match judgement {
+    match b.judgement {
         Err(e) => Err(e),
         Ok(_) => decide_by(book, b.rules, p, decoded, dir, m),
     }
