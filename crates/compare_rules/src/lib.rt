@@ -4,45 +4,15 @@
 ghost use Rattle.std.specs.Prelude.{◌≡◌, not};
 ghost use Rattle.write_bytes.specs.Puts.{Puts};
 ghost use Rattle.table_equality.specs.SameTables.{same_table};
-ghost use Rattle.compare_laws.specs.Comparisons.{same_state, same_action, both_line, new_lines, rules_output};
+ghost use Rattle.compare_laws.specs.Comparisons.{both_line, new_lines, rules_output};
 ghost use Rattle.compare_rules.specs.LoadedRules.{read_at, read_from};
 
 use compare_lines::{put_changed, put_new, put_old};
-use definitions::books::{Action, LoadedRule, Rules, State};
+use definitions::books::{LoadedRule, Rules};
 use definitions::limits::RULES;
 use rule_book::text_at;
 use table_equality::same_table;
 use write_bytes::limits::at_most;
-
-fn states_differ(a: State, b: State) -> bool
-    ensures { result ≡ not (same_state a b) }
-{
-    match a {
-        State::On => match b {
-            State::On => false,
-            State::Off => true,
-        },
-        State::Off => match b {
-            State::On => true,
-            State::Off => false,
-        },
-    }
-}
-
-fn actions_differ(a: Action, b: Action) -> bool
-    ensures { result ≡ not (same_action a b) }
-{
-    match a {
-        Action::Pass => match b {
-            Action::Pass => false,
-            Action::Hold => true,
-        },
-        Action::Hold => match b {
-            Action::Pass => true,
-            Action::Hold => false,
-        },
-    }
-}
 
 // Whether the texts of two rules have different tables: both are read, whatever they look like.
 fn texts_differ(first: &[u8], a: LoadedRule, second: &[u8], b: LoadedRule) -> bool
@@ -64,12 +34,8 @@ fn put_both(
 ) -> usize
     ensures { Puts out.old at (both_line (read_at first.now a) (read_at second.now b)) out.new result }
 {
-    let s = a.state;
-    let t = b.state;
-    let c = a.action;
-    let d = b.action;
-    let state = states_differ(s, t);
-    let action = actions_differ(c, d);
+    let state = a.state != b.state;
+    let action = a.action != b.action;
     let table = texts_differ(first, a, second, b);
     put_changed(out, at, a.number, state, action, table)
 }
@@ -80,11 +46,8 @@ fn put_news(out: &mut [u8], at: usize, second: &[u8], rules: Rules, from: usize)
 {
     let n = at_most(rules.count, RULES);
     let mut next = at;
-    let mut j = from;
-    while j < n {
-        let y = rules.list[j];
-        next = put_new(out, next, y.number);
-        j += 1;
+    for j in from..n {
+        next = put_new(out, next, rules.list[j].number);
     }
     next
 }
@@ -103,6 +66,7 @@ pub fn put_rules(
     let n = at_most(a.count, RULES);
     let m = at_most(b.count, RULES);
     let mut next = at;
+    // A merge goes on in one list or in both, so that no `for` says it.
     let mut i = 0;
     let mut j = 0;
     while i < n {

@@ -1,9 +1,5 @@
-use Prim.Native.Nat.{◌-◌}
 use Rattle.compare_rules.proofs.Merging.{Ending}
 use Rattle.compare_rules.proofs.put_news.Given as goal
 
 abbrev pub invariant-loop-j : goal.invariant-loop-j
 invariant-loop-j l = Ending l.second l.rules l.n l.from l.initial.out l.initial.next l.out l.next l.j
-
-abbrev pub decreases-loop-j : goal.decreases-loop-j
-decreases-loop-j l = l.n - l.j
