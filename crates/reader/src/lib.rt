@@ -32,6 +32,7 @@ fn read_options(
 {
     let mut st = fresh();
     let mut at = OPENING_BYTES;
+    // A step says where the text goes on, so no range of places stands before.
     while at < s.len() {
         if s[at] == b' ' {
             at += 1;

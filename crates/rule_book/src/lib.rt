@@ -87,7 +87,7 @@ pub fn load(book: &[u8]) -> LoadedBook
     let mut n = 0;
     let mut last = 0;
     let mut at = 0;
-    // By the place of each line, since a rule is kept by where its text stands.
+    // A line says where the next begins, and a rule is kept by where its text stands.
     while at < book.len() {
         let l = first_line(&book[at..]);
         match check_line(l, n, last) {
