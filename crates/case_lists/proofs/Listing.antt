@@ -8,7 +8,7 @@ use lib.ListN.{length, take, drop, get_or}
 use Rattle.forms.specs.Bytes.{text}
 use Rattle.definitions.specs.declared.packets.Start.{Start}
 use Rattle.definitions.specs.declared.packets.Placement.{Placement}
-use Rattle.definitions.specs.declared.answers.Found.TheVariants.{Placed, Nothing}
+use Rattle.definitions.specs.declared.answers.Found.TheVariants.{Placed}
 use Rattle.definitions.specs.declared.answers.Answer.{Answer}
 use Rattle.definitions.specs.Starts.{start_at}
 use Rattle.definitions.specs.Lists.{keep}
@@ -20,7 +20,7 @@ use Rattle.write_bytes.proofs.Putting.{then, onward}
 use Rattle.match_starts.specs.StartTexts.{start_text}
 use Rattle.definitions.specs.declared.answers.Refusal.{Refusal}
 use Rattle.search_state.specs.Outcomes.{outcome_of}
-use Rattle.case_lists.specs.AnswerTexts.{starts_after, starts_text, placement_text, placements_after, max_after, list_text, check_text, refused_text}
+use Rattle.case_lists.specs.AnswerTexts.{starts_after, starts_text, placement_text, placements_after, max_after, list_text, check_text, answer_text}
 use Rattle.case_lists.proofs.Rest.{starts_back, Ordered, first_rest, list_rest}
 
 -- ---- starts
@@ -54,20 +54,11 @@ after_over (q ∷ qs) h e = refl
 
 -- ---- what "first" answers: a refusal that is due, none, or a placement
 
-pub first_none : (w : Result Unit Refusal) (l : List (List Start)) (a : Answer) → a ≡ unless w (head_of l) → a.found ≡ Ok Nothing
-    → check_text w (list_text l) ≡ text "none"
-first_none (Ok tt) [] a e n = refl
-first_none (Ok tt) (q ∷ l) a e n = let f = ap (λ (x : Answer). x.found) e in cc
-first_none (Err r) l a e n = let f = ap (λ (x : Answer). x.found) e in cc
-
-pub first_err : (w : Result Unit Refusal) (l : List (List Start)) (a : Answer) → a ≡ unless w (head_of l) → {r : Refusal} → a.found ≡ Err r
-    → check_text w (list_text l) ≡ refused_text r
-first_err (Ok tt) [] a e n = let f = ap (λ (x : Answer). x.found) e in cc
-first_err (Ok tt) (q ∷ l) a e n = let f = ap (λ (x : Answer). x.found) e in cc
-first_err (Err s) l a e {r} n =
-    let f = ap (λ (x : Answer). x.found) e in
-    let g : s ≡ r = cc in
-    ap refused_text g
+pub first_not : (w : Result Unit Refusal) (l : List (List Start)) (a : Answer) → a ≡ unless w (head_of l) → (a.found ≡ Ok Placed → ⊥)
+    → check_text w (list_text l) ≡ answer_text a
+first_not (Ok tt) [] a e n = sym (ap answer_text e)
+first_not (Ok tt) (q ∷ l) a e n = absurd (n (ap (λ (x : Answer). x.found) e))
+first_not (Err r) l a e n = sym (ap answer_text e)
 
 module _ (l : List (List Start)) (v : Ordered l) where
   -- a placement, and k of those after it

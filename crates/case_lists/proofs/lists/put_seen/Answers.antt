@@ -7,7 +7,7 @@ use Rattle.write_bytes.proofs.Putting.{then, told}
 use Rattle.search.specs.Searching.{searched_table}
 use Rattle.match_placements.specs.Listing.{list_in, first_in_list}
 use Rattle.case_lists.proofs.Rest.{list_ordered}
-use Rattle.case_lists.proofs.Listing.{first_none, first_err, first_one}
+use Rattle.case_lists.proofs.Listing.{first_not, first_one}
 use Rattle.case_lists.proofs.lists.put_seen.Goals as goal
 
 pub returns-in-Ok-Placed : goal.returns-in-Ok-Placed
@@ -31,7 +31,7 @@ returns-in-Ok-Nothing c =
     let l = list_in t x.header x.payload.now x.decoded.now x.dir x.m in
     let arm = c.in-Ok-Nothing in
     let none : c.first_in-a.result.found ≡ Ok Nothing = arm.is ∙ ap Ok (rw arm.is at arm.field-0-is) in
-    told (first_none w l c.first_in-a.result c.first_in-a.ensures none) c.put_word.ensures
+    told (first_not w l c.first_in-a.result c.first_in-a.ensures (λ e. cc) ∙ rw none) c.put_word.ensures
 
 pub returns-in-Err : goal.returns-in-Err
 unfolding first_in_list
@@ -40,4 +40,5 @@ returns-in-Err c =
     let t = searched_table x.protocol x.flow x.items x.count x.bytes.now in
     let w = fields_check x.payload.now x.decoded.now x.m in
     let l = list_in t x.header x.payload.now x.decoded.now x.dir x.m in
-    told (first_err w l c.first_in-a.result c.first_in-a.ensures c.in-Err.is) c.put_refused.ensures
+    let refused = c.in-Err.is in
+    told (first_not w l c.first_in-a.result c.first_in-a.ensures (λ e. cc) ∙ rw refused) c.put_refused.ensures
