@@ -24,9 +24,8 @@ pub fn feed(input: &[u8], line: &mut [u8; LINE_BYTES], out: &mut [u8], begun: Be
 {
     let mut t = first_line(input, line, out, begun);
     while t.waits {
-        let fed = t.fed;
-        let at = answer_text(out, t.at, kept(line, fed.begun));
-        t = next_line(input, line, out, fed, at);
+        let at = answer_text(out, t.at, kept(line, t.fed.begun));
+        t = next_line(input, line, out, t.fed, at);
     }
     t.fed
 }
