@@ -6,7 +6,7 @@ use mathlib.Core.Bool.{Bool, false}
 use mathlib.Core.List.{List, [], ◌∷◌, ◌++◌, map}
 use Prim.Native.Nat.{ℕ, ◌+◌, ◌<◌, ◌≤◌}
 use native.Mathlib.Omega.{arith}
-use lib.ListN.{length, get_or, take, drop, replicate, length-append, length-drop, length-replicate}
+use lib.ListN.{length, take, drop, replicate, length-append, length-drop, length-replicate}
 use Rattle.definitions.specs.declared.books.LoadedRule.{LoadedRule}
 use Rattle.definitions.specs.declared.books.Rules.{Rules}
 use Rattle.definitions.specs.declared.books.Answered.{Answered}
@@ -15,7 +15,7 @@ use Rattle.definitions.specs.Lists.{any?}
 use Rattle.definitions.specs.Books.{Rule}
 use Rattle.definitions.specs.LoadedBooks.{rule_at, rules_in}
 use Rattle.definitions.specs.Blocks.{PacketRecord, records_up_to, action_number, block_numbers, block_answered}
-use Rattle.rule_book.proofs.RulesFrom.{rules_from, rules_all, rules_here, rules_out}
+use Rattle.rule_book.proofs.RulesFrom.{rules_from, rules_all}
 use Rattle.guard_numbers.specs.OpenNumbers.{open_number, is_open, closed}
 use Rattle.guard_packets.proofs.Records.{records_le, records_again}
 use Rattle.guard_blocks.specs.Numbering.{renumbered, by_rule}
@@ -54,20 +54,20 @@ unfolding by_rule
 by_length ks r out = renumbered_length _ _ ks out
 
 module _ {book block : List ℕ} {rules : Rules} {packets : ℕ} {out₀ out : List ℕ} {i : ℕ} (w : Resolving book block rules packets out₀ out i) where
-  pub resolving_on : (d : LoadedRule) → i < rules.count → i < length rules.list
-      → action_number (get_or rules.list i d).action + (get_or rules.list i d).number < open_number
-      → {next : List ℕ} → next ≡ by_rule document_limits (records_up_to packets block) (rule_at book (get_or rules.list i d)) out
+  pub resolving_on : (d : LoadedRule) → rules_from book rules i ≡ rule_at book d ∷ rules_from book rules (i + 1)
+      → action_number d.action + d.number < open_number
+      → {next : List ℕ} → next ≡ by_rule document_limits (records_up_to packets block) (rule_at book d) out
       → Resolving book block rules packets out₀ next (i + 1)
   unfolding rule_at
-  resolving_on d h l b e =
-      let r : Rule = rule_at book (get_or rules.list i d) in
+  resolving_on d h b e =
+      let r : Rule = rule_at book d in
       let ks : List PacketRecord = records_up_to packets block in
       record {
         same = ap length e ∙ by_length ks r out ∙ w.same;
         answer =
             ap (resolved (rules_from book rules (i + 1)) ks) e
             ∙ sym (resolved_on r (rules_from book rules (i + 1)) ks out b)
-            ∙ ap (λ (rs : List Rule). resolved rs ks out) (sym (rules_here book rules i d h l))
+            ∙ ap (λ (rs : List Rule). resolved rs ks out) (sym h)
             ∙ w.answer;
       }
 
@@ -106,7 +106,7 @@ module _ (block entry : List ℕ) {x : Answered} (e : x ≡ block_answered block
         ∙ rw (records_are block entry e, count_is block entry e)
 
     -- all packets have theirs: no rule is left, or no number is open
-    pub block_closed : ((rules.count ≤ i) ⊎ (length rules.list ≤ i)) ⊎ (any? is_open (take x.packets out) ≡ false)
+    pub block_closed : (rules_from book rules i ≡ []) ⊎ (any? is_open (take x.packets out) ≡ false)
         → map closed (take x.packets out) ++ drop x.packets out ≡ block_numbers document_limits (rules_in book rules) block entry
     block_closed h = closed_is ∙ resolved_whole
       where
@@ -116,7 +116,7 @@ module _ (block entry : List ℕ) {x : Answered} (e : x ≡ block_answered block
             let room : length (records_up_to x.packets block) ≤ length out = omega (arith, n, still_room) in
             ap (λ (k : ℕ). map closed (take k out) ++ drop k out) (sym n)
             ∙ ⊎_elim
-            (λ o. sym (ap (λ (rs : List Rule). resolved rs (records_up_to x.packets block) out) (rules_out book rules i o)
+            (λ o. sym (ap (λ (rs : List Rule). resolved rs (records_up_to x.packets block) out) o
             ∙ resolved_out (records_up_to x.packets block) out room))
             (λ f. sym (resolved_all (rules_from book rules i) (records_up_to x.packets block) out room (rw n f)))
             h

@@ -64,25 +64,18 @@ fn decide_table(t: Table, answer: u32, block: &[u8], packets: usize, out: &mut [
     requires { (well_formed t ≡ true) × ((length (records_up_to packets block.now) ≡ packets) × (packets ≤ length out.old)) }
     ensures { out.new ≡ renumbered (meets_record t) answer (records_up_to packets block.now) out.old }
 {
-    let flow = t.flow;
-    let items = t.items;
-    let count = t.count;
-    let bytes = t.bytes;
-    let all = &bytes[..];
     let mut at = 0;
-    let mut i = 0;
-    while i < packets {
+    for i in 0..packets {
         let s = &block[at..];
         let is_open = out[i] == OPEN;
         if is_open {
-            if may_meet(t.protocol, flow, s) {
-                if meets(t.protocol, flow, items, count, all, s) {
+            if may_meet(t.protocol, t.flow, s) {
+                if meets(t.protocol, t.flow, t.items, t.count, &t.bytes, s) {
                     out[i] = answer;
                 }
             }
         }
         at += record_length(s);
-        i += 1;
     }
 }
 
@@ -92,15 +85,12 @@ fn decide_rule(book: &[u8], rule: LoadedRule, block: &[u8], packets: usize, out:
     ensures below { action_number rule.action + rule.number < open_number }
     ensures numbers { out.new ≡ by_rule document_limits (records_up_to packets block.now) (rule_at book.now rule) out.old }
 {
-    let action = rule.action;
-    let answer = answer_number(action, rule.number);
-    let state = rule.state;
-    if !is_on(state) {
+    let answer = answer_number(rule.action, rule.number);
+    if !is_on(rule.state) {
         return;
     }
     let reading = reader::read(text_at(book, rule.start, rule.len));
-    let outcome = reading.outcome;
-    match outcome {
+    match reading.outcome {
         Ok(()) => decide_table(reading.table, answer, block, packets, out),
         Err(_) => {}
     }
@@ -114,17 +104,11 @@ pub fn decide_block(book: &[u8], rules: Rules, block: &[u8], out: &mut [u32]) ->
     let answered = count_records(block, out.len());
     let packets = answered.packets;
     open_all(out, packets);
-    let mut i = 0;
-    while i < RULES {
-        if rules.count <= i {
-            break;
-        }
+    for rule in &rules.list[..rules.count.min(RULES)] {
         if !any_open(out, packets) {
             break;
         }
-        let rule = rules.list[i];
-        decide_rule(book, rule, block, packets, out);
-        i += 1;
+        decide_rule(book, *rule, block, packets, out);
     }
     close_all(out, packets);
     answered

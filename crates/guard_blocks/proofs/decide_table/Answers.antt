@@ -26,11 +26,11 @@ slice_bounds-s-end c = omega (arith, c.loop-i.invariant.within)
 
 pub bounds-out-i : goal.bounds-out-i
 bounds-out-i c = here-room (meets_record c.args.t) c.args.answer c.loop-i.invariant
-    (omega (arith, c.loop-i-test.true)) c.requires.1.1
+    (omega arith) c.requires.1.1
 
 pub may_meet-requires : goal.may_meet-requires
 may_meet-requires c = whole_part c.loop-i.at c.args.block.now
-    (here-whole (meets_record c.args.t) c.args.answer c.loop-i.invariant (omega (arith, c.loop-i-test.true)) c.requires.1.1)
+    (here-whole (meets_record c.args.t) c.args.answer c.loop-i.invariant (omega arith) c.requires.1.1)
 
 pub meets-requires : goal.meets-requires
 meets-requires c = (
@@ -40,25 +40,25 @@ meets-requires c = (
 )
 
 pub bounds-out-i-then-meets : goal.bounds-out-i-then-meets
-bounds-out-i-then-meets c = here-room (meets_record c.args.t) c.args.answer c.loop-i.invariant (omega (arith, c.loop-i-test.true)) c.requires.1.1
+bounds-out-i-then-meets c = here-room (meets_record c.args.t) c.args.answer c.loop-i.invariant (omega arith) c.requires.1.1
 
 pub record_length-at-requires : goal.record_length-at-requires
 record_length-at-requires c = head_within _
     (whole_part c.loop-i.at c.args.block.now
-    (here-whole (meets_record c.args.t) c.args.answer c.loop-i.invariant (omega (arith, c.loop-i-test.true)) c.requires.1.1))
+    (here-whole (meets_record c.args.t) c.args.answer c.loop-i.invariant (omega arith) c.requires.1.1))
 
 pub overflow_add-at : goal.overflow_add-at
 overflow_add-at c =
     let n = c.record_length-at.ensures ∙ ap record_length (part_to_end c.args.block.now c.loop-i.at) in
     omega
-    (arith, n, step_within (meets_record c.args.t) c.args.answer c.loop-i.invariant (omega (arith, c.loop-i-test.true)) c.requires.1.1)
+    (arith, n, step_within (meets_record c.args.t) c.args.answer c.loop-i.invariant (omega arith) c.requires.1.1)
 
 pub loop-i-preserved : goal.loop-i-preserved
 loop-i-preserved c =
     let x = c.args in
     let part = part_to_end x.block.now c.loop-i.at in
     let n = c.record_length-at.ensures ∙ ap record_length part in
-    let more : c.loop-i.i < x.packets = omega (arith, c.loop-i-test.true) in
+    let more : c.loop-i.i < x.packets = omega arith in
     let kept = renumbering-kept (meets_record x.t) x.answer c.loop-i.invariant more c.requires.1.1 in
     let met = renumbering-set (meets_record x.t) x.answer c.loop-i.invariant more c.requires.1.1 in
     elim c.if-is_open.branch [
@@ -74,4 +74,4 @@ loop-i-preserved c =
     ]
 
 pub returns : goal.returns
-returns c = renumbering_out (meets_record c.args.t) c.args.answer c.loop-i.invariant (omega (arith, c.loop-i-test.false))
+returns c = renumbering_out (meets_record c.args.t) c.args.answer c.loop-i.invariant (omega arith)
