@@ -103,7 +103,8 @@ fn try_starts<'a>(
         let more = with_start(chosen, s);
         let still = still_on_bound(on_bound, s, b);
         let found = from_item(input, k + 1, rest, payload, decoded, next, more, still);
-        if found.is_some() {
+        let is_found = found.is_some();
+        if is_found {
             return found;
         }
         at = next_start(p.nocase, own, f, at + 1, w.to);

@@ -82,12 +82,12 @@ try_starts-from_item-found-requires t c =
     let ready = chosen-ready o c.loop-at-test.true c.start_at-s.ensures c.last_after-next.ensures c.with_start-more.ensures in
     (omega (arith, c.decreases, o.few.0), (o.few.1, ready))
 
-pub try_starts-returns-then-is_some : goal.try_starts-returns-then-is_some
-try_starts-returns-then-is_some t c =
+pub try_starts-returns-then-is_found : goal.try_starts-returns-then-is_found
+try_starts-returns-then-is_found t c =
     let l = c.loop-at.invariant in
     let more = c.loop-at-test.true in
     tried-found l.tried more c.start_at-s.ensures c.last_after-next.ensures c.with_start-more.ensures (l.lies more)
-    c.still_on_bound-still.ensures c.from_item-found.ensures (sym c.is_some.ensures ∙ c.if-is_some.true)
+    c.still_on_bound-still.ensures c.from_item-found.ensures (sym c.is_some-is_found.ensures ∙ c.if-is_found.true)
 
 pub try_starts-next_start-at-requires-in-loop-at : goal.try_starts-next_start-at-requires-in-loop-at
 try_starts-next_start-at-requires-in-loop-at t c = own_fits c.loop-at.invariant.tried
@@ -101,7 +101,7 @@ try_starts-loop-at-preserved t c =
     let more = c.loop-at-test.true in
     reached
     (tried-vain l.tried more c.start_at-s.ensures c.last_after-next.ensures c.with_start-more.ensures (l.lies more)
-    c.still_on_bound-still.ensures c.from_item-found.ensures (sym c.is_some.ensures ∙ c.if-is_some.false))
+    c.still_on_bound-still.ensures c.from_item-found.ensures (sym c.is_some-is_found.ensures ∙ c.if-is_found.false))
     c.next_start-at-in-loop-at.ensures
 
 pub try_starts-returns : goal.try_starts-returns
