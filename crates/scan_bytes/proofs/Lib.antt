@@ -1,3 +1,2 @@
--- Runs and sums of digits.
-pub mod Prefixes
+-- Sums of digits.
 pub mod Saturation

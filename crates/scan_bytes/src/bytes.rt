@@ -26,30 +26,39 @@ pub fn is_between(low: u8, high: u8, b: u8) -> bool
     low <= b && b <= high
 }
 
+// No `matches!` here and below: with it a run of name bytes takes 190 ms for 32 MB, and so 75.
 fn is_hex(b: u8) -> bool
     ensures { result ≡ has (class_of HexDigit) b }
 {
-    matches!(b, b'0'..=b'9' | b'A'..=b'F' | b'a'..=b'f')
+    is_between(b'0', b'9', b) || is_between(b'A', b'F', b) || is_between(b'a', b'f', b)
 }
 
 fn is_quotable(b: u8) -> bool
     ensures { result ≡ has (class_of Quotable) b }
 {
-    matches!(b, b' '..=b'!' | b'#'..=b':' | b'<'..=b'~')
+    is_between(b' ', b'!', b) || is_between(b'#', b':', b) || is_between(b'<', b'~', b)
 }
 
 // Whether the byte stands for itself in a pattern.
 pub fn is_plain(b: u8) -> bool
     ensures { result ≡ has plain_bytes b }
 {
-    matches!(b, b' '..=b'!' | b'#'..=b'9' | b'<'..=b'[' | b']'..=b'{' | b'}'..=b'~')
+    is_between(b' ', b'!', b)
+        || is_between(b'#', b'9', b)
+        || is_between(b'<', b'[', b)
+        || is_between(b']', b'{', b)
+        || is_between(b'}', b'~', b)
 }
 
 // A letter, a digit, `_` or `.`.
 fn is_name_byte(b: u8) -> bool
     ensures { result ≡ has (class_of NameByte) b }
 {
-    matches!(b, b'A'..=b'Z' | b'a'..=b'z' | b'0'..=b'9' | b'_' | b'.')
+    is_between(b'A', b'Z', b)
+        || is_between(b'a', b'z', b)
+        || is_between(b'0', b'9', b)
+        || b == b'_'
+        || b == b'.'
 }
 
 // Whether a byte is of a class.
