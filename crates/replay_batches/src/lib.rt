@@ -35,16 +35,11 @@ fn add_line(block: &mut [u8], marks: &mut [u32], g: Gathered, line: &[u8]) -> Ga
     requires { g.lines < length marks.old }
     ensures { Adds block.old block.new marks.old marks.new g line.now result }
 {
-    let r = put_line(block, g.bytes, line);
-    let i = g.lines;
-    if r.good {
-        marks[i] = 0;
-    } else {
-        marks[i] = BAD;
-    }
+    let next = put_line(block, g.bytes, line);
+    marks[g.lines] = if next.is_some() { 0 } else { BAD };
     Gathered {
-        lines: i + 1,
-        bytes: r.next,
+        lines: g.lines + 1,
+        bytes: next.unwrap_or(g.bytes),
     }
 }
 
@@ -59,6 +54,7 @@ fn gather(
 {
     let none = Gathered { lines: 0, bytes: 0 };
     let mut g = add_line(block, marks, none, first);
+    // Each LF is found by groups of bytes, and three things end it, so that no `for` is plainer.
     let mut at = 0;
     while g.lines < LINES {
         if RECORDS - MAX_RECORD < g.bytes {
@@ -80,13 +76,11 @@ fn number_lines(marks: &mut [u32], n: usize, numbers: &[u32])
     ensures { take n marks.new ≡ numbered (take n marks.old) numbers.now }
 {
     let mut k = 0;
-    let mut i = 0;
-    while i < n {
+    for i in 0..n {
         if marks[i] != BAD {
             marks[i] = numbers[k];
             k += 1;
         }
-        i += 1;
     }
 }
 
@@ -103,9 +97,7 @@ pub fn decide_lines(
     ensures { Decides document_limits (rules_in book.now rules) (first.now ∷ ended_lines [] rest.now) answers.new result }
 {
     let g = gather(first, rest, block, answers);
-    let bytes = g.bytes;
-    let all = &block[..];
-    decide_block(book, rules, &all[0..bytes], numbers);
+    decide_block(book, rules, &block[0..g.bytes], numbers);
     number_lines(answers, g.lines, numbers);
     g.lines
 }

@@ -4,18 +4,19 @@ use native.Mathlib.Numerals.{add-one}
 use lib.ListN.{set}
 use Rattle.replay_batches.proofs.Gathering.{good_mark, bad_mark}
 use Rattle.replay_batches.proofs.add_line.Goals as goal
-use Rattle.replay_batches.proofs.add_line.Goals.{then-r, else-r}
+use Rattle.replay_batches.proofs.add_line.Goals.{then-is_some, else-is_some}
 
 pub returns : goal.returns
 returns c =
     let x = c.args in
-    let is = sym c.put_line-r.ensures.good in
+    let is = sym c.put_line-next.ensures.good ∙ sym c.is_some.ensures in
     record {
-      put = c.put_line-r.ensures.put;
+      put = rw c.unwrap_or.ensures c.put_line-next.ensures.put;
       noted =
-          elim c.if-r.branch [
-            | then-r w ↦ w.marks-is ∙ sym (ap (set x.marks.now x.g.lines) (good_mark x.line.now (is ∙ w.if-r.true)))
-            | else-r w ↦ w.marks-is ∙ sym (ap (set x.marks.now x.g.lines) (bad_mark x.line.now (is ∙ w.if-r.false)))
-          ];
+          ap (set x.marks.now x.g.lines)
+          (elim c.if-is_some.branch [
+            | then-is_some w ↦ w.marks-is ∙ sym (good_mark x.line.now (is ∙ w.if-is_some.true))
+            | else-is_some w ↦ w.marks-is ∙ sym (bad_mark x.line.now (is ∙ w.if-is_some.false))
+          ]);
       more = add-one x.g.lines;
     }
