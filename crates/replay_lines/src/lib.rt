@@ -1,7 +1,7 @@
 // The replay's work on slices: a book is opened, a trace comes in parts of any length, answers go out, and the totals after the last line.
 #![tactic(auto)]
 
-ghost use Rattle.std.specs.Prelude.{◌≡◌, [], ◌∷◌, ◌<◌, length, get_or, take, if◌then◌else◌};
+ghost use Rattle.std.specs.Prelude.{◌≡◌, [], ◌∷◌, ◌<◌, take, if◌then◌else◌};
 ghost use Rattle.definitions.specs.Limits.{document_limits};
 ghost use Rattle.definitions.specs.Books.{judge};
 ghost use Rattle.definitions.specs.LoadedBooks.{rules_in, loaded};
@@ -25,7 +25,7 @@ use rule_book::load;
 // Bytes of a line that are kept: one more than a line of a trace may have, so that a longer line is known to be longer.
 pub const LINE_BYTES: usize = TRACE_BYTES + 1;
 
-// A book that was judged: its rules, none if it is refused, and how many bytes were put, none if it is accepted.
+// A book that was judged: its rules, none if it is refused, and how many bytes were put, none if it is accepted. A public entry answers with it, so it stays as it is.
 #[derive(Clone, Copy)]
 pub struct Opened {
     pub rules: Rules,
@@ -61,19 +61,14 @@ pub fn open(book: &[u8], out: &mut [u8]) -> Opened
     ensures put { Puts out.old 0 (opened_text (judge document_limits book.now)) out.new result.put }
 {
     let b = load(book);
-    let judgement = b.judgement;
-    let rules = b.rules;
-    match judgement {
-        Err(e) => {
-            let put = put_refused_book(out, e.refusal, e.line);
-            Opened {
-                rules,
-                accepted: false,
-                put,
-            }
-        }
+    match b.judgement {
+        Err(e) => Opened {
+            rules: b.rules,
+            accepted: false,
+            put: put_refused_book(out, e.refusal, e.line),
+        },
         Ok(_) => Opened {
-            rules,
+            rules: b.rules,
             accepted: true,
             put: 0,
         },
@@ -100,23 +95,6 @@ fn look_ahead(
     }
     let count = decide_lines(book, rules, first, rest, block, numbers, answers);
     Ahead { next: 0, count }
-}
-
-// The element at a place.
-fn element(s: &[u32], i: usize) -> u32
-    requires { i < length s.now }
-    ensures { result ≡ get_or s.now i 0 }
-{
-    s[i]
-}
-
-// The number at a place, which is within the array.
-fn number_at(numbers: &[u32; LINES], i: usize) -> u32
-    requires { i < length numbers.now }
-    ensures is { result ≡ get_or numbers.now i 0 }
-    ensures within { i < 8192 }
-{
-    element(numbers, i)
 }
 
 // The totals with a line of this number, if it was answered.
@@ -164,17 +142,19 @@ pub fn feed(
             ahead,
         );
         let i = ready.next;
-        let n = number_at(&answers, i);
+        let n = answers[i];
         let at = put_outcome(out, t.at, n);
         t = next_line(input, line, out, fed, at);
         sum = count_if(fed.taken < t.fed.taken, sum, n);
         ahead = Ahead {
             next: i + 1,
-            count: ready.count,
+            ..ready
         };
     }
-    let fed = t.fed;
-    Replayed { fed, totals: sum }
+    Replayed {
+        fed: t.fed,
+        totals: sum,
+    }
 }
 
 // After the last byte: the answer to a line that lacks its LF, and the totals. The answer is how many bytes it has, more than the buffer's if it has no room.

@@ -1,5 +1,5 @@
 -- The loop is line_stream's; a turn is `replaying_goes`.
-use mathlib.Core.Path.{◌≡◌, ◌∙◌}
+use mathlib.Core.Path.{◌≡◌, refl, ◌∙◌}
 use Prim.Native.Nat.{◌+◌}
 use native.Mathlib.Omega.{arith}
 use lib.ListN.{length}
@@ -37,8 +37,8 @@ look_ahead-ready-requires c =
     let after = c.loop-t.t.fed.taken + 1 in
     rw (c.kept.ensures, part_to_end x.input.now after) (c.loop-t.invariant.ready c.loop-t-test.true)
 
-pub number_at-n-requires : goal.number_at-n-requires
-number_at-n-requires c =
+pub bounds-answers-i : goal.bounds-answers-i
+bounds-answers-i c =
     let ready = c.look_ahead-ready.ensures in
     omega (arith, ready.ready.room, ready.some)
 
@@ -53,7 +53,7 @@ loop-t-preserved c =
     let x = c.args in
     replaying_goes _ (typed_narrow _ _ _ c.well_formed.1.0) c.loop-t.invariant c.loop-t-test.true c.kept.ensures
     (part_to_end x.input.now (c.loop-t.t.fed.taken + 1)) c.look_ahead-ready.ensures.ready c.look_ahead-ready.ensures.some
-    c.number_at-n.ensures.is c.put_outcome-at.ensures c.next_line-t.ensures c.count_if-sum.ensures
+    refl c.put_outcome-at.ensures c.next_line-t.ensures c.count_if-sum.ensures
 
 pub returns : goal.returns
 returns c =

@@ -16,7 +16,7 @@ returns-in-Err c =
     record {
       rules = ap (λ (x : LoadedBook). x.rules) b;
       accepted = sym (ap is_accepted judged);
-      put = told (ap opened_text judged) c.put_refused_book-put.ensures;
+      put = told (ap opened_text judged) c.put_refused_book.ensures;
     }
 
 pub returns-in-Ok : goal.returns-in-Ok
