@@ -73,15 +73,11 @@ fn put_formed(
     let n = put_pairs(room, 0, packet);
     let d = put_pairs(more, 0, decoded);
     let b = put_pairs(book_room, 0, book);
-    let packet_bytes = &room[..];
-    let decoded_bytes = &more[..];
-    let book_bytes = &book_room[..];
-    let direction = located.direction;
     let answer = guard::decide(
-        &book_bytes[0..b],
-        &packet_bytes[0..n],
-        &decoded_bytes[0..d],
-        direction,
+        &book_room[0..b],
+        &room[0..n],
+        &more[0..d],
+        located.direction,
         located.fields,
     );
     put_decision(out, at, answer)
