@@ -14,13 +14,11 @@ pub fn compare(out: &mut [u8], at: usize, first: &[u8], second: &[u8]) -> usize
     ensures { Puts out.old at (compare_output document_limits first.now second.now) out.new result }
 {
     let x = load(first);
-    let j = x.judgement;
-    match j {
+    match x.judgement {
         Err(e) => put_refused_book(out, at, b"first\t", e.refusal, e.line),
         Ok(_) => {
             let y = load(second);
-            let k = y.judgement;
-            match k {
+            match y.judgement {
                 Err(e) => put_refused_book(out, at, b"second\t", e.refusal, e.line),
                 Ok(_) => put_rules(out, at, first, x.rules, second, y.rules),
             }

@@ -10,15 +10,15 @@ returns-in-Err c =
     let z = c.args in
     told (first_told z.first.now z.second.now c.load-x.ensures _ _ c.in-Err.is) c.put_refused_book.ensures
 
-pub returns-in-Err-k : goal.returns-in-Err-k
+pub returns-in-Err-judgement : goal.returns-in-Err-judgement
 unfolding refused_output
-returns-in-Err-k c =
+returns-in-Err-judgement c =
     let z = c.args in
-    told (second_told z.first.now z.second.now c.load-x.ensures _ c.in-Ok.is c.load-y.ensures _ _ c.in-Err-k.is)
-    c.put_refused_book-in-Err-k.ensures
+    told (second_told z.first.now z.second.now c.load-x.ensures _ c.in-Ok.is c.load-y.ensures _ _ c.in-Err-judgement.is)
+    c.put_refused_book-in-Err-judgement.ensures
 
-pub returns-in-Ok-k : goal.returns-in-Ok-k
-returns-in-Ok-k c =
+pub returns-in-Ok-judgement : goal.returns-in-Ok-judgement
+returns-in-Ok-judgement c =
     let z = c.args in
-    told (both_told z.first.now z.second.now c.load-x.ensures _ c.in-Ok.is c.load-y.ensures _ c.in-Ok-k.is)
+    told (both_told z.first.now z.second.now c.load-x.ensures _ c.in-Ok.is c.load-y.ensures _ c.in-Ok-judgement.is)
     c.put_rules.ensures
