@@ -31,9 +31,9 @@ usable_held st items = usable_run None (patterns_of (take st.count items))
 -- what the judgement answers, of a text of n bytes
 unfoldable pub outcome_in : ℕ → State → List Slot → Result Unit TextRefusal
 outcome_in n st items =
-    if ltb (usable_held st items) st.patterns then Err (record { refusal = refusal.Unusable; place = (get_or st.dashes (usable_held st items) 0) })
+    if ltb (usable_held st items) st.patterns then Err (record { refusal = refusal.Unusable; place = get_or st.dashes (usable_held st items) 0 })
     else if not st.given.name || not st.given.protocol then Err (record { refusal = refusal.Missing; place = n })
-    else (Ok tt)
+    else Ok tt
 
 -- the reading of an answer and the table of what was read: a refusal's table is that of no options
 abbrev pub reading_by : Result Unit TextRefusal → Table → Reading
