@@ -5,3 +5,4 @@ pub mod WidenedWriting
 pub mod WidenedAnswers
 pub mod LongerBooks
 pub mod LongerTexts
+pub mod Named
