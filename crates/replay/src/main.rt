@@ -2,8 +2,6 @@
 // (crate replay_lines). Nothing is written for a file that can't be read.
 #![tactic(auto)]
 
-ghost use Rattle.std.specs.Prelude.{◌≤◌};
-
 use book_file::{ROOM, read_book};
 use definitions::books::Rules;
 use replay_lines::{LINE_BYTES, feed, finish, open};
@@ -60,11 +58,8 @@ fn write_refusal(rt: &(impl Print + Eprint), out: &[u8], put: usize) {
     }
 }
 
-// Opens the book of the first n bytes: the trace is replayed through it, or it is refused.
-fn run_book(rt: &(impl Print + Eprint), input: &mut impl Read, room: &[u8; ROOM], n: usize)
-    requires { n ≤ 65537 }
-{
-    let book = &room[..n];
+// Opens a book: the trace is replayed through it, or it is refused.
+fn run_book(rt: &(impl Print + Eprint), input: &mut impl Read, book: &[u8]) {
     let mut out = [0u8; BLOCK];
     let opened = open(book, &mut out);
     if opened.accepted {
@@ -77,6 +72,6 @@ fn run_book(rt: &(impl Print + Eprint), input: &mut impl Read, room: &[u8; ROOM]
 fn main(rt: HostRuntime) {
     let mut room = [0u8; ROOM];
     if let Some(n) = read_book(&rt, &mut room) {
-        run_book(&rt, &mut rt.stdin(), &room, n);
+        run_book(&rt, &mut rt.stdin(), &room[..n]);
     }
 }
