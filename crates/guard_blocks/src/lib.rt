@@ -18,7 +18,9 @@ use definitions::limits::{ITEMS, RULES};
 use definitions::table::{Flow, Slot, Table};
 use guard::is_on;
 use guard_numbers::{OPEN, answer_number, any_open, close_all, open_all};
-use guard_packets::{HEAD, count_records, number_at, record_direction, record_fields, record_length};
+use guard_packets::{
+    HEAD, count_records, number_at, record_direction, record_fields, record_length,
+};
 use rule_book::text_at;
 
 // Whether protocol and flow leave it open that a table meets the packet of the record at the front.
