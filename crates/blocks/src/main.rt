@@ -51,12 +51,8 @@ fn fill(rt: &impl Eprint, input: &mut impl Read, block: &mut [u8], held: usize) 
     ensures { IfSome result (λ n. n ≤ length block.old) }
 {
     match read_into(input, &mut block[held..]) {
-        Ok(n) => {
-            if n == 0 {
-                return None;
-            }
-            Some(held + n)
-        }
+        Ok(0) => None,
+        Ok(n) => Some(held + n),
         Err(error) => {
             let _ = eprintln!(rt; "standard input: {error}");
             None
@@ -69,13 +65,8 @@ fn keep_rest(block: &mut [u8], from: usize, end: usize) -> usize
     requires { (from ≤ end) × (end ≤ length block.old) }
     ensures { result ≤ length block.old }
 {
-    let rest = end - from;
-    let mut i = 0;
-    while i < rest {
-        block[i] = block[from + i];
-        i += 1;
-    }
-    rest
+    block.copy_within(from..end, 0);
+    end - from
 }
 
 // Decides the whole records that the block holds up to an end, writes their answers and keeps the rest. Where none is whole the run is over.
@@ -117,31 +108,23 @@ fn turn(
     decide(rt, book, rules, block, answers, end)
 }
 
-// Decides the input by the rules of a book. A proved loop has to end, and nothing says that the input does: turns are counted down from a number that no run
-// uses up.
+// Decides the input by the rules of a book. A proved loop has to end, and nothing says that the input does: turns are counted up to a number that no run reaches.
 fn run(rt: &(impl Print + Eprint), input: &mut impl Read, book: &[u8], rules: Rules) {
     let mut block = [0u8; BLOCK];
     let mut answers = [0u32; MOST];
     let mut held = 0;
-    let mut turns = u64::MAX;
-    while turns > 0 {
+    for _ in 0..u64::MAX {
         let Some(n) = turn(rt, input, book, rules, &mut block, &mut answers, held) else {
             return;
         };
         held = n;
-        turns -= 1;
     }
 }
 
-// Loads the book of the first n bytes: the input is decided by it, or it is refused.
-fn run_book(rt: &(impl Print + Eprint), input: &mut impl Read, room: &[u8; ROOM], n: usize)
-    requires { n ≤ 65537 }
-{
-    let bytes = &room[..];
-    let book = &bytes[..n];
+// Loads a book: the input is decided by it, or it is refused.
+fn run_book(rt: &(impl Print + Eprint), input: &mut impl Read, book: &[u8]) {
     let loaded = load(book);
-    let judgement = loaded.judgement;
-    match judgement {
+    match loaded.judgement {
         Ok(_) => run(rt, input, book, loaded.rules),
         Err(_) => write_book(rt, book),
     }
@@ -149,8 +132,7 @@ fn run_book(rt: &(impl Print + Eprint), input: &mut impl Read, room: &[u8; ROOM]
 
 fn main(rt: HostRuntime) {
     let mut room = [0u8; ROOM];
-    let file = read_book(&rt, &mut room);
-    if let Some(n) = file {
-        run_book(&rt, &mut rt.stdin(), &room, n);
+    if let Some(n) = read_book(&rt, &mut room) {
+        run_book(&rt, &mut rt.stdin(), &room[..n]);
     }
 }
