@@ -11,11 +11,7 @@ use definitions::table::{Address, AddressTest, Item, Slot};
 use read_state::{Given, Inserted, PlacedSlot, State, bare_pattern};
 
 // A test goes after the items so far, with its addresses beside it; 11 where there is no room for one more.
-pub fn insert_test(
-    st: State,
-    item: Item,
-    list: [Address; ADDRESSES],
-) -> Result<Inserted, Refusal>
+pub fn insert_test(st: State, item: Item, list: [Address; ADDRESSES]) -> Result<Inserted, Refusal>
     requires { Sound st }
     ensures { result ≡ test_inserted st item list }
 {
