@@ -2,21 +2,16 @@
 // read.
 #![tactic(auto)]
 
-ghost use Rattle.std.specs.Prelude.{◌≤◌};
-
 use book_answers::answer_book;
 use book_file::{ROOM, read_book};
 
 // Bytes of the answer's buffer: the longest answer has 42.
 const ANSWER: usize = 64;
 
-// Writes the answer to the book of the first n bytes; if it can't, says so.
-fn write_answer(rt: &(impl Print + Eprint), room: &[u8; ROOM], n: usize)
-    requires { n ≤ 65537 }
-{
-    let bytes = &room[..];
+// Writes the answer to a book; if it can't, says so.
+fn write_answer(rt: &(impl Print + Eprint), book: &[u8]) {
     let mut out = [0u8; ANSWER];
-    let put = answer_book(&mut out, 0, &bytes[..n]);
+    let put = answer_book(&mut out, 0, book);
     if let Err(error) = rt.write_all(&out[..put]) {
         let _ = eprintln!(rt; "standard output: {error}");
     }
@@ -24,8 +19,7 @@ fn write_answer(rt: &(impl Print + Eprint), room: &[u8; ROOM], n: usize)
 
 fn main(rt: HostRuntime) {
     let mut room = [0u8; ROOM];
-    let file = read_book(&rt, &mut room);
-    if let Some(n) = file {
-        write_answer(&rt, &room, n);
+    if let Some(n) = read_book(&rt, &mut room) {
+        write_answer(&rt, &room[..n]);
     }
 }
