@@ -108,7 +108,8 @@ fn turn(
     decide(rt, book, rules, block, answers, end)
 }
 
-// Decides the input by the rules of a book. A proved loop has to end, and nothing says that the input does: turns are counted up to a number that no run reaches.
+// Decides the input by the rules of a book. A proved loop has to end, and nothing says that the input does: turns are counted up to a number that no run
+// reaches.
 fn run(rt: &(impl Print + Eprint), input: &mut impl Read, book: &[u8], rules: Rules) {
     let mut block = [0u8; BLOCK];
     let mut answers = [0u32; MOST];

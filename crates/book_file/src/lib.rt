@@ -36,8 +36,8 @@ pub fn read_all(input: &mut impl Read, room: &mut [u8]) -> Option<usize>
     read_into(input, room).ok()
 }
 
-// Reads the file that the first argument names; none where it can't be read. Nothing says what is read, but the count is within the room. The host itself is asked, and no bound of it:
-// the bound `Files` would have the program rest on every call on files.
+// Reads the file that the first argument names; none where it can't be read. Nothing says what is read, but the count is within the room. The host itself is
+// asked, and no bound of it: the bound `Files` would have the program rest on every call on files.
 pub fn read_book(rt: &HostRuntime, room: &mut [u8; ROOM]) -> Option<usize>
     ensures { IfSome result (λ n. n ≤ 65537) }
 {

@@ -87,8 +87,6 @@ pub fn decide<'a>(
     ensures numbers { decision_numbers result ≡ decision_in_numbers document_limits p.now decoded.now dir m book.now }
 {
     let b = load(book);
-    match b.judgement {
-        Err(e) => Err(e),
-        Ok(_) => decide_by(book, b.rules, p, decoded, dir, m),
-    }
+    b.judgement?;
+    decide_by(book, b.rules, p, decoded, dir, m)
 }

@@ -116,9 +116,9 @@ fn write_last(rt: &(impl Print + Eprint), out: &[u8], put: usize) {
     }
 }
 
-// Answers all of the input, line by line, over two lent buffers, for a block of it and for the output: reads, answers what came by a feed and writes; at the end
-// of the input, by a finish, a last line that lacks its LF. They keep their state in S. A proved loop has to end, and nothing says that the input does: turns are
-// counted up to a number that no run reaches.
+// Answers all of the input, line by line, over two lent buffers, for a block of it and for the output: reads, answers what came by a feed and writes; at the
+// end of the input, by a finish, a last line that lacks its LF. They keep their state in S. A block with no room reads nothing, which is taken for the end of
+// the input. A proved loop has to end, and nothing says that the input does: turns are counted up to a number that no run reaches.
 pub fn run<S, F: Fn(&[u8], &mut S, &mut [u8], Begun) -> Fed, G: Fn(&S, &mut [u8], Begun) -> usize>(
     rt: &(impl Print + Eprint),
     input: &mut impl Read,

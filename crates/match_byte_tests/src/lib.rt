@@ -8,7 +8,7 @@ ghost use Rattle.definitions.specs.Tests.{operator_holds, compared_by, big_end_f
 ghost use Rattle.fields.specs.Seen.{seen};
 ghost use Rattle.definitions.specs.declared.packets.PacketHeader.{PacketHeader};
 
-use definitions::packets::{FieldMap, Match, PacketHeader};
+use definitions::packets::{FieldMap, Match};
 use definitions::table::{ByteOperator, ByteTest, Operator};
 use fields::{field_of, is_present};
 use match_number_tests::operator_holds;

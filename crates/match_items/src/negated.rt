@@ -5,7 +5,7 @@ ghost use Rattle.definitions.specs.declared.packets.PacketHeader.{PacketHeader};
 ghost use Rattle.fields.specs.Seen.{seen};
 ghost use Rattle.match_items.specs.Bounds.{Bounded};
 
-use definitions::packets::{FieldMap, Match, PacketHeader};
+use definitions::packets::{FieldMap, Match};
 use definitions::table::Pattern;
 use fields::{field_of, is_present};
 use match_patterns::nowhere::lies_nowhere;

@@ -7,7 +7,7 @@ ghost use Rattle.definitions.specs.Tests.{data_follows, size_holds, at_holds};
 ghost use Rattle.fields.specs.Seen.{seen};
 ghost use Rattle.definitions.specs.declared.packets.PacketHeader.{PacketHeader};
 
-use definitions::packets::{FieldMap, Match, PacketHeader};
+use definitions::packets::{FieldMap, Match};
 use definitions::table::{AtTest, Context, SizeField, SizeTest};
 use fields::{field_of, is_present};
 use match_number_tests::order_holds;

@@ -1,4 +1,4 @@
-// The bytes of a pattern at a place, where they fit: nothing but the bytes is tested.
+// The bytes of a pattern at a place, where they fit.
 ghost use Rattle.std.specs.Prelude.{◌≡◌, true, false, ◌+◌, ◌≤◌, length, drop};
 ghost use Rattle.definitions.specs.Windows as windows;
 ghost use Rattle.match_folding.specs.Folding.{FoldTable};
@@ -16,7 +16,7 @@ pub fn equal_at(b: &[u8], f: &[u8], at: usize) -> bool
     requires { at + length b.now ≤ length f.now }
     ensures { result ≡ windows.stands_at false b.now (drop at f.now) }
 {
-    f[at..].starts_with(b)
+    b == &f[at..at + b.len()]
 }
 
 // The bytes `b` stand in the field at the place, each alike under no_case.

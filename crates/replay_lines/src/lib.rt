@@ -25,7 +25,7 @@ use rule_book::load;
 // Bytes of a line that are kept: one more than a line of a trace may have, so that a longer line is known to be longer.
 pub const LINE_BYTES: usize = TRACE_BYTES + 1;
 
-// A book that was judged: its rules, none if it is refused, and how many bytes were put, none if it is accepted. A public entry answers with it, so it stays as it is.
+// A book that was judged: its rules, none if it is refused, and how many bytes were put, none if it is accepted.
 #[derive(Clone, Copy)]
 pub struct Opened {
     pub rules: Rules,

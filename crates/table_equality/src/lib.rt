@@ -6,7 +6,7 @@ ghost use Rattle.table_equality.specs.SameTables.{same_slot, same_table};
 
 use definitions::table::{Slot, Table};
 
-// An item with its addresses. No code calls it: it stays so that an edit can leave the addresses out, and be refused.
+// An item with its addresses. No code calls it; it is offered beside the other, as docs/ARCHITECTURE.md says.
 pub fn same_slot(a: Slot, b: Slot) -> bool
     ensures { result ≡ same_slot a b }
 {
