@@ -22,13 +22,13 @@ pub data Outcome : Type 0 where
   hold : ℕ → Outcome
   bad : Outcome
 
-abbrev pub outcome_of : Action → ℕ → Outcome
-outcome_of action.Pass n = pass n
-outcome_of action.Hold n = hold n
+abbrev pub outcome_decided : Action → ℕ → Outcome
+outcome_decided action.Pass n = pass n
+outcome_decided action.Hold n = hold n
 
 -- by what the rules decide, which is never a refusal: the book was judged before
 abbrev pub outcome_by : Result Decision BookRefusal → Outcome
-outcome_by (Ok d) = outcome_of d.action d.rule
+outcome_by (Ok d) = outcome_decided d.action d.rule
 outcome_by (Err e) = bad
 
 -- word, tab, deciding rule

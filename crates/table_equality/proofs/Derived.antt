@@ -96,8 +96,11 @@ bare_exact D bare x y = (same_true D bare x y, true_same D x y)
 
 address_test_exact : (a b : AddressTest) → Decides (address_test.ghosts.eq a b) (a ≡ b)
 address_test_exact a b =
-    Iff.trans (both_exactly _ _ (bare_exact side.the_type tt a.side b.side) (both_exactly _ _ (booleans_Decides a.negated b.negated) (unsigned_Decides a.count b.count)))
-    (λ (side, (negated, count)). λ i. record { side = side i; negated = negated i; count = count i }, λ e. ((λ i. (e i).side), ((λ i. (e i).negated), (λ i. (e i).count))))
+    Iff.trans (both_exactly _ _ (bare_exact side.the_type tt a.side b.side)
+    (both_exactly _ _ (booleans_Decides a.negated b.negated) (unsigned_Decides a.count b.count))) (
+      λ (side, (negated, count)). λ i. record { side = side i; negated = negated i; count = count i },
+      λ e. ((λ i. (e i).side), ((λ i. (e i).negated), (λ i. (e i).count))),
+    )
 
 number_test_exact : (a b : NumberTest) → Decides (number_test.ghosts.eq a b) (a ≡ b)
 number_test_exact a b =
@@ -111,13 +114,19 @@ ttl_test_exact a b =
 
 field_test_exact : (a b : FieldTest) → Decides (field_test.ghosts.eq a b) (a ≡ b)
 field_test_exact a b =
-    Iff.trans (both_exactly _ _ (bare_exact header_field.the_type tt a.field b.field) (both_exactly _ _ (unsigned_Decides a.mask b.mask) (both_exactly _ _ (bare_exact operator.the_type tt a.operator b.operator) (unsigned_Decides a.number b.number))))
-    (λ (field, (mask, (operator, number))). λ i. record { field = field i; mask = mask i; operator = operator i; number = number i }, λ e. ((λ i. (e i).field), ((λ i. (e i).mask), ((λ i. (e i).operator), (λ i. (e i).number)))))
+    Iff.trans (both_exactly _ _ (bare_exact header_field.the_type tt a.field b.field) (both_exactly _ _ (unsigned_Decides a.mask b.mask)
+    (both_exactly _ _ (bare_exact operator.the_type tt a.operator b.operator) (unsigned_Decides a.number b.number)))) (
+      λ (field, (mask, (operator, number))). λ i. record { field = field i; mask = mask i; operator = operator i; number = number i },
+      λ e. ((λ i. (e i).field), ((λ i. (e i).mask), ((λ i. (e i).operator), (λ i. (e i).number)))),
+    )
 
 size_test_exact : (a b : SizeTest) → Decides (size_test.ghosts.eq a b) (a ≡ b)
 size_test_exact a b =
-    Iff.trans (both_exactly _ _ (bare_exact order.the_type tt a.order b.order) (both_exactly _ _ (unsigned_Decides a.number b.number) (bare_exact size_field.the_type tt a.field b.field)))
-    (λ (order, (number, field)). λ i. record { order = order i; number = number i; field = field i }, λ e. ((λ i. (e i).order), ((λ i. (e i).number), (λ i. (e i).field))))
+    Iff.trans (both_exactly _ _ (bare_exact order.the_type tt a.order b.order)
+    (both_exactly _ _ (unsigned_Decides a.number b.number) (bare_exact size_field.the_type tt a.field b.field))) (
+      λ (order, (number, field)). λ i. record { order = order i; number = number i; field = field i },
+      λ e. ((λ i. (e i).order), ((λ i. (e i).number), (λ i. (e i).field))),
+    )
 
 at_test_exact : (a b : AtTest) → Decides (at_test.ghosts.eq a b) (a ≡ b)
 at_test_exact a b =
@@ -126,13 +135,27 @@ at_test_exact a b =
 
 byte_test_exact : (a b : ByteTest) → Decides (byte_test.ghosts.eq a b) (a ≡ b)
 byte_test_exact a b =
-    Iff.trans (both_exactly _ _ (bare_exact width.the_type tt a.width b.width) (both_exactly _ _ (bare_exact byte_operator.the_type tt a.operator b.operator) (both_exactly _ _ (unsigned_Decides a.value b.value) (both_exactly _ _ (unsigned_Decides a.offset b.offset) (both_exactly _ _ (booleans_Decides a.relative b.relative) (booleans_Decides a.little b.little))))))
-    (λ (width, (operator, (value, (offset, (relative, little))))). λ i. record { width = width i; operator = operator i; value = value i; offset = offset i; relative = relative i; little = little i }, λ e. ((λ i. (e i).width), ((λ i. (e i).operator), ((λ i. (e i).value), ((λ i. (e i).offset), ((λ i. (e i).relative), (λ i. (e i).little)))))))
+    Iff.trans (both_exactly _ _ (bare_exact width.the_type tt a.width b.width)
+    (both_exactly _ _ (bare_exact byte_operator.the_type tt a.operator b.operator) (both_exactly _ _ (unsigned_Decides a.value b.value)
+    (both_exactly _ _ (unsigned_Decides a.offset b.offset) (both_exactly _ _ (booleans_Decides a.relative b.relative) (booleans_Decides a.little b.little)))))) (
+      λ (width, (operator, (value, (offset, (relative, little))))). λ i. record {
+        width = width i;
+        operator = operator i;
+        value = value i;
+        offset = offset i;
+        relative = relative i;
+        little = little i;
+      },
+      λ e. ((λ i. (e i).width), ((λ i. (e i).operator), ((λ i. (e i).value), ((λ i. (e i).offset), ((λ i. (e i).relative), (λ i. (e i).little)))))),
+    )
 
 distance_value_exact : (a b : DistanceValue) → Decides (distance_value.ghosts.eq a b) (a ≡ b)
 distance_value_exact a b =
-    Iff.trans (both_exactly _ _ (signed_Decides a.offset b.offset) (both_exactly _ _ (bare_exact reference.the_type tt a.reference b.reference) (booleans_Decides a.reverse b.reverse)))
-    (λ (offset, (reference, reverse)). λ i. record { offset = offset i; reference = reference i; reverse = reverse i }, λ e. ((λ i. (e i).offset), ((λ i. (e i).reference), (λ i. (e i).reverse))))
+    Iff.trans (both_exactly _ _ (signed_Decides a.offset b.offset)
+    (both_exactly _ _ (bare_exact reference.the_type tt a.reference b.reference) (booleans_Decides a.reverse b.reverse))) (
+      λ (offset, (reference, reverse)). λ i. record { offset = offset i; reference = reference i; reverse = reverse i },
+      λ e. ((λ i. (e i).offset), ((λ i. (e i).reference), (λ i. (e i).reverse))),
+    )
 
 within_value_exact : (a b : WithinValue) → Decides (within_value.ghosts.eq a b) (a ≡ b)
 within_value_exact a b =
@@ -141,8 +164,19 @@ within_value_exact a b =
 
 pattern_exact : (a b : Pattern) → Decides (pattern.ghosts.eq a b) (a ≡ b)
 pattern_exact a b =
-    Iff.trans (both_exactly _ _ (booleans_Decides a.negated b.negated) (both_exactly _ _ (unsigned_Decides a.len b.len) (both_exactly _ _ (bare_exact context.the_type tt a.context b.context) (both_exactly _ _ (booleans_Decides a.nocase b.nocase) (both_exactly _ _ (option_exact distance_value_exact a.distance b.distance) (option_exact within_value_exact a.within b.within))))))
-    (λ (negated, (len, (context, (nocase, (distance, within))))). λ i. record { negated = negated i; len = len i; context = context i; nocase = nocase i; distance = distance i; within = within i }, λ e. ((λ i. (e i).negated), ((λ i. (e i).len), ((λ i. (e i).context), ((λ i. (e i).nocase), ((λ i. (e i).distance), (λ i. (e i).within)))))))
+    Iff.trans (both_exactly _ _ (booleans_Decides a.negated b.negated) (both_exactly _ _ (unsigned_Decides a.len b.len)
+    (both_exactly _ _ (bare_exact context.the_type tt a.context b.context) (both_exactly _ _ (booleans_Decides a.nocase b.nocase)
+    (both_exactly _ _ (option_exact distance_value_exact a.distance b.distance) (option_exact within_value_exact a.within b.within)))))) (
+      λ (negated, (len, (context, (nocase, (distance, within))))). λ i. record {
+        negated = negated i;
+        len = len i;
+        context = context i;
+        nocase = nocase i;
+        distance = distance i;
+        within = within i;
+      },
+      λ e. ((λ i. (e i).negated), ((λ i. (e i).len), ((λ i. (e i).context), ((λ i. (e i).nocase), ((λ i. (e i).distance), (λ i. (e i).within)))))),
+    )
 
 -- ---- items, slots, tables
 
@@ -179,5 +213,37 @@ slot_exact a b =
 
 pub table_exact : (a b : Table) → Decides (table.ghosts.eq a b) (a ≡ b)
 table_exact a b =
-    Iff.trans (both_exactly _ _ (bytes_decides a.name b.name) (both_exactly _ _ (unsigned_Decides a.len b.len) (both_exactly _ _ (unsigned_Decides a.protocol b.protocol) (both_exactly _ _ (bare_exact flow.the_type tt a.flow b.flow) (both_exactly _ _ (bytes_decides a.bytes b.bytes) (both_exactly _ _ (unsigned_Decides a.used b.used) (both_exactly _ _ (pointwise_decides slot_exact a.items b.items) (unsigned_Decides a.count b.count))))))))
-    (λ (name, (len, (protocol, (flow, (bytes, (used, (items, count))))))). λ i. record { name = name i; len = len i; protocol = protocol i; flow = flow i; bytes = bytes i; used = used i; items = items i; count = count i }, λ e. ((λ i. (e i).name), ((λ i. (e i).len), ((λ i. (e i).protocol), ((λ i. (e i).flow), ((λ i. (e i).bytes), ((λ i. (e i).used), ((λ i. (e i).items), (λ i. (e i).count)))))))))
+    Iff.trans (both_exactly _ _ (bytes_decides a.name b.name) (both_exactly _ _ (unsigned_Decides a.len b.len)
+    (both_exactly _ _ (unsigned_Decides a.protocol b.protocol) (both_exactly _ _ (bare_exact flow.the_type tt a.flow b.flow)
+    (both_exactly _ _ (bytes_decides a.bytes b.bytes) (both_exactly _ _ (unsigned_Decides a.used b.used)
+    (both_exactly _ _ (pointwise_decides slot_exact a.items b.items) (unsigned_Decides a.count b.count)))))))) (
+      λ (name, (len, (protocol, (flow, (bytes, (used, (items, count))))))). λ i. record {
+        name = name i;
+        len = len i;
+        protocol = protocol i;
+        flow = flow i;
+        bytes = bytes i;
+        used = used i;
+        items = items i;
+        count = count i;
+      },
+      λ e. (
+        (λ i. (e i).name),
+        (
+          (λ i. (e i).len),
+          (
+            (λ i. (e i).protocol),
+            (
+              (λ i. (e i).flow),
+              (
+                (λ i. (e i).bytes),
+                (
+                  (λ i. (e i).used),
+                  ((λ i. (e i).items), (λ i. (e i).count)),
+                ),
+              ),
+            ),
+          ),
+        ),
+      ),
+    )
