@@ -6,7 +6,7 @@ use mathlib.Core.Bool.{true, false, not, false≢true, and-false}
 use mathlib.Core.List.{List, [], ◌∷◌}
 use Prim.Native.Nat.{ℕ, ◌≤◌}
 use native.Mathlib.Omega.{arith}
-use lib.ListN.{get_or, take}
+use lib.ListN.{length, get_or, take}
 use lib.Dec.{eqb}
 use borrow.Author.Tests.{eq-eqb, ne_eqb, eqb-true, eqb-false}
 use Rattle.forms.proofs.Bools.{by_cases, both_left}
@@ -26,6 +26,12 @@ begins_zero (b ∷ s) =
     by_cases (eqb b 48)
     (λ t. rw (t, eq-eqb 48 b (sym (eqb-true b 48 t))))
     (λ f. rw (f, ne_eqb 48 b (λ e. eqb-false b 48 f (sym e))))
+
+-- no byte is no number of a rule
+pub empty_number : (s : List ℕ) → length s ≡ 0 → None ≡ parsed_rule_number s
+unfolding parsed_rule_number is_rule_number is_number
+empty_number [] e = refl
+empty_number (b ∷ s) e = absurd (omega (arith, e))
 
 module _ (s : List ℕ) where
   pub zero_number : get_or s 0 0 ≡ 48 → None ≡ parsed_rule_number s
