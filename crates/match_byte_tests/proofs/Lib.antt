@@ -1,0 +1,2 @@
+-- How many bytes a test reads.
+pub mod Inside
