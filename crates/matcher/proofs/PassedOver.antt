@@ -4,12 +4,13 @@ use Rattle.std.specs.Prelude.{Result, Ok, Err}
 use mathlib.Core.Path.{◌≡◌, refl, ap, ◌∙◌}
 use mathlib.Core.Bool.{Bool, false, not, ◌&&◌, ◌||◌}
 use mathlib.Core.List.{List, []}
-use Prim.Native.Nat.{ℕ, ◌+◌, ◌*◌, ◌≤◌}
+use Prim.Native.Nat.{ℕ, ◌+◌, ◌*◌, ◌<◌, ◌≤◌}
 use native.Mathlib.Omega.{arith}
 use lib.ListN.{length, get_or, take}
 use lib.Dec.{eqb, ltb}
 use lib.Seq.{get_or-take}
-use borrow.Author.Tests.{ltb-false, le-leb}
+use borrow.Author.Tests.{ltb-false, le-leb, lt-leb, ne_eqb, eq-eqb}
+use Rattle.definitions.specs.declared.table.Flow.{Flow}
 use Rattle.definitions.specs.declared.table.Table.{Table}
 use Rattle.definitions.specs.declared.packets.Direction.{Direction}
 use Rattle.definitions.specs.declared.packets.FieldMap.{FieldMap}
@@ -27,6 +28,21 @@ use Rattle.definitions.specs.Answers.{verdict_by, input_check, placements_of, ve
 use Rattle.definitions.specs.Decisions.{is_met}
 use Rattle.laws.proofs.Checks.{refuse_fine, else_fine, neither}
 use Rattle.matcher.specs.PassedOver.{may_meet}
+
+-- ---- by what is seen of the packet
+
+module _ (protocol : ℕ) (flow : Flow) (p : List ℕ) (dir : Direction) where
+  pub too_short : length p < 10 → false ≡ may_meet protocol flow p dir
+  unfolding may_meet
+  too_short h = rw (lt-leb 10 (length p) h)
+
+  pub other_protocol : 10 ≤ length p → (get_or p 9 0 ≡ protocol → ⊥) → false ≡ may_meet protocol flow p dir
+  unfolding may_meet
+  other_protocol h f = rw (le-leb 10 (length p) h, ne_eqb (get_or p 9 0) protocol f)
+
+  pub by_flow : 10 ≤ length p → get_or p 9 0 ≡ protocol → flow_holds flow dir ≡ may_meet protocol flow p dir
+  unfolding may_meet
+  by_flow h e = rw (le-leb 10 (length p) h, eq-eqb (get_or p 9 0) protocol e)
 
 -- ---- what it says
 
