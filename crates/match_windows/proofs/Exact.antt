@@ -64,7 +64,7 @@ limited s (pos k) len n at =
           (leb (min s (len + 1)) at),
     ))
 
-le_clip : (z : ℤ) (at : ℕ) → le_z z (pos at) ≡ leb (clip z) at
+pub le_clip : (z : ℤ) (at : ℕ) → le_z z (pos at) ≡ leb (clip z) at
 le_clip (pos n) at = refl
 le_clip (negsuc n) at = sym (leb-zero at)
 

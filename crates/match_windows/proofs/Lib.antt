@@ -1,3 +1,4 @@
--- What a range is counted from, and the exact span of a window.
+-- What a range is counted from, sums of signed numbers, and the exact span of a window.
 pub mod Bases
+pub mod Sums
 pub mod Exact
