@@ -20,10 +20,10 @@ any_bytes (patterned p) it al b = by_cases p.negated (λ t. rw t) (λ f. rw f)
 any_bytes plain_test it al b = refl
 
 -- the positive patterns of some slots, with no pattern bytes
-abbrev positives_of : List Slot → ℕ
+abbrev pub positives_of : List Slot → ℕ
 positives_of sls = positives (constraints sls [])
 
-bytes_aside : (sls : List Slot) (b : List ℕ) → positives (constraints sls b) ≡ positives_of sls
+pub bytes_aside : (sls : List Slot) (b : List ℕ) → positives (constraints sls b) ≡ positives_of sls
 unfolding positives constraints
 bytes_aside [] b = refl
 bytes_aside (sl ∷ sls) b =
