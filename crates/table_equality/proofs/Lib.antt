@@ -2,3 +2,4 @@
 pub mod SameLists
 pub mod Derived
 pub mod Exactly
+pub mod TableTests

@@ -2,15 +2,22 @@
 #![tactic(auto)]
 
 ghost use Rattle.std.specs.Prelude.{◌≡◌};
-ghost use Rattle.table_equality.specs.SameTables.{same_slot, same_table};
+ghost use Rattle.table_equality.specs.SameTables.{same_item, same_slot, same_table};
 
-use definitions::table::{Slot, Table};
+use definitions::table::{Item, Slot, Table};
 
-// An item with its addresses. No code calls it; it is offered beside the other, as docs/ARCHITECTURE.md says.
+// An item without its addresses; no code calls it: it is offered beside the others, as docs/ARCHITECTURE.md says.
+pub fn same_item(a: Item, b: Item) -> bool
+    ensures { result ≡ same_item a b }
+{
+    a == b // by its case, and what stands in it
+}
+
+// An item with its addresses. No code calls it; it is offered beside the others, as docs/ARCHITECTURE.md says.
 pub fn same_slot(a: Slot, b: Slot) -> bool
     ensures { result ≡ same_slot a b }
 {
-    a == b
+    a == b // the item, and its addresses
 }
 
 // WHETHER TWO TABLES ARE EQUAL.
