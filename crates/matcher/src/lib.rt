@@ -36,12 +36,17 @@ pub fn verdict<'a>(
     ensures numbers { verdict_numbers result ≡ verdict_in_numbers t p.now decoded.now dir m }
 {
     let formed = well_formed(t.name, t.len, t.items, t.count, &t.bytes, t.used);
-    let header = check_input(formed, p, decoded)?; // 20 and 30 to 34 come before 35
-    let payload = payload_of(p, header);
-    let a = first_in(
-        t.protocol, t.flow, t.items, t.count, &t.bytes, header, payload, decoded, dir, m,
-    );
-    verdict_of(a.found)
+    // A match and not `?`, so that an edit can change the refusal and nothing else (must-fail/fields_before_packet).
+    match check_input(formed, p, decoded) {
+        Err(r) => Err(r), // 20 and 30 to 34 come before 35
+        Ok(header) => {
+            let payload = payload_of(p, header);
+            let a = first_in(
+                t.protocol, t.flow, t.items, t.count, &t.bytes, header, payload, decoded, dir, m,
+            );
+            verdict_of(a.found)
+        }
+    }
 }
 
 // FIRST: the first of the list of placements, or none.

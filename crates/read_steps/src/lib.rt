@@ -58,8 +58,11 @@ fn option_step(
         });
     };
     let p = option_by_name(s, to, option, bytes, st.used);
-    let next = ended_by(p.cursor)?;
-    insert_option(st, last, at, p, next)
+    // A match and not `?`, so that an edit can change the place and nothing else (must-fail/place_is_the_dash).
+    match ended_by(p.cursor) {
+        Ok(next) => insert_option(st, last, at, p, next),
+        Err(e) => Err(e),
+    }
 }
 
 // The last `)`, an option, or neither where one is due.

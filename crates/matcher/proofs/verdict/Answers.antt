@@ -1,6 +1,5 @@
 -- A refusal is the first due of 20 and 30 to 34; else the verdict is what the first by header fields and payload comes to.
-use Rattle.std.proofs.Common.{rules, Err}
-use mathlib.Core.Path.{◌≡◌, ap, ◌∙◌}
+use mathlib.Core.Path.{ap, ◌∙◌}
 use native.Mathlib.Omega.{arith}
 use Rattle.definitions.specs.declared.answers.Answer.{Answer}
 use Rattle.match_answers.specs.Verdicts.{verdict_of}
@@ -15,25 +14,24 @@ first_in-a-requires c =
     let x = c.args in
     let formed = c.well_formed-formed.ensures x.t.protocol x.t.flow (omega arith) in
     let told = input_told x.t x.p.now x.decoded.now formed c.check_input.ensures in
-    let ok = seen_checked x.t x.p.now x.decoded.now told c.in_ok-header.was c.payload_of-payload.ensures.bytes in
+    let ok = seen_checked x.t x.p.now x.decoded.now told c.in-Ok.is c.payload_of-payload.ensures.bytes in
     searchable ok (omega arith)
 
-pub returns-in_err-header : goal.returns-in_err-header
-returns-in_err-header c =
+pub returns-in-Err : goal.returns-in-Err
+returns-in-Err c =
     let x = c.args in
     let formed = c.well_formed-formed.ensures x.t.protocol x.t.flow (omega arith) in
     let told = input_told x.t x.p.now x.decoded.now formed c.check_input.ensures in
-    let passed_on : c.from_residual.result ≡ Err c.in_err-header.field-0.0 = search rules in
     let z = verdict_told x.t x.p.now x.decoded.now x.dir x.m
-    (passed_on ∙ verdict_refused x.t x.p.now x.decoded.now x.dir x.m told c.in_err-header.was) in
+    (verdict_refused x.t x.p.now x.decoded.now x.dir x.m told c.in-Err.is) in
     record { answer = z.0; numbers = z.1 }
 
-pub returns : goal.returns
-returns c =
+pub returns-in-Ok : goal.returns-in-Ok
+returns-in-Ok c =
     let x = c.args in
     let formed = c.well_formed-formed.ensures x.t.protocol x.t.flow (omega arith) in
     let told = input_told x.t x.p.now x.decoded.now formed c.check_input.ensures in
-    let ok = seen_checked x.t x.p.now x.decoded.now told c.in_ok-header.was c.payload_of-payload.ensures.bytes in
+    let ok = seen_checked x.t x.p.now x.decoded.now told c.in-Ok.is c.payload_of-payload.ensures.bytes in
     let found = c.first_in-a.ensures ∙ first_by_parts x.t _ c.payload_of-payload.result.now x.decoded.now x.dir x.m in
     let z = verdict_told x.t x.p.now x.decoded.now x.dir x.m
     (c.verdict_of.ensures ∙ ap (λ (y : Answer). verdict_of y.found) found ∙ verdict_here ok x.dir x.m) in

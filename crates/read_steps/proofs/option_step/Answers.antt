@@ -1,6 +1,5 @@
 -- The option is unlisted or refused as the definition's is; else it is read, inserted, and the definition goes on after it (`stepped`).
-use Rattle.std.specs.Prelude.{Result, Err}
-use Rattle.std.proofs.lemmas.Result.{err_from_is_err_and}
+use Rattle.std.specs.Prelude.{Result}
 use mathlib.Core.Path.{sym, ap, ◌∙◌, subst}
 use native.Mathlib.Omega.{arith}
 use Rattle.definitions.specs.declared.answers.TextRefusal.{TextRefusal}
@@ -32,26 +31,24 @@ option_by_name-p-requires c =
     let l = pre.short in
     (g.1, l, omega (arith, u, g.0), bytes_full pre.holds (omega (arith, u, i, l)))
 
-pub returns-in_err-next : goal.returns-in_err-next
-returns-in_err-next c = λ located items held latest.
+pub returns-in-Err : goal.returns-in-Err
+returns-in-Err c = λ located items held latest K.
     let read = c.option_by_name-p in
     let P = read.ensures in
     let v = option_value_of _ read.result.value P.al P.b in
-    let q = sym c.ended_by.ensures ∙ c.in_err-next.was in
+    let q = sym c.ended_by.ensures ∙ c.in-Err.is in
     let named = c.name_end-to.ensures in
     let i = option_at_lem _ _ _ _ named c.option_named.ensures c.in-Some.is ∙ ap listed (sym P.reads.reads) in
-    let p = err_from_is_err_and c.from_residual.result c.from_residual.ensures.1 in
-    subst (λ (r : Result Step TextRefusal). StepsTo c.args.s.now located c.args.at r c.option_by_name-p.new.bytes items) (sym p.1)
-    (λ K. taken_refused _ _ _ K v read.result.cursor i (q ∙ ap Err (sym p.2)))
+    taken_refused _ _ _ K v read.result.cursor i q
 
-pub returns : goal.returns
+pub returns-in-Ok : goal.returns-in-Ok
 unfolding read_after
-returns c = λ located items held latest.
+returns-in-Ok c = λ located items held latest.
     let x = c.args in
     let pre = c.requires in
     let read = c.option_by_name-p in
     let P = read.ensures in
-    let q = ended_parsed read.result.cursor (sym c.ended_by.ensures ∙ c.in_ok-next.was) in
+    let q = ended_parsed read.result.cursor (sym c.ended_by.ensures ∙ c.in-Ok.is) in
     let inserts = c.insert_option.ensures in
     let ended = c.name_end-to.ensures in
     let g = name_inside _ _ pre.inside ended in
