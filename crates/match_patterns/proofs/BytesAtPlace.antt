@@ -1,25 +1,58 @@
--- Bytes at the front of a list that is long enough, byte by byte, as the library compares them.
-use mathlib.Core.Path.{◌≡◌, refl, ap}
-use mathlib.Core.Bool.{Bool, false, ◌&&◌}
+-- Bytes that stand at a place of a list, where they fit: byte by byte, those from i on stand i further on; and as the library compares them.
+use mathlib.Core.Path.{◌≡◌, refl, ap, ◌∙◌}
+use mathlib.Core.Bool.{Bool, true, false, ◌&&◌}
 use mathlib.Core.List.{List, [], ◌∷◌}
-use Prim.Native.Nat.{ℕ, ◌≤◌}
+use Prim.Native.Nat.{ℕ, zero, suc, ◌+◌, ◌≤◌, ◌<◌}
 use native.Mathlib.Omega.{arith}
-use lib.ListN.{length, take}
+use native.Mathlib.Nat.{add-zero, add-suc}
+use native.Mathlib.Numerals.{add-one}
+use lib.ListN.{length, get_or, take, drop, drop_of_length-le}
 use lib.Dec.{eqb}
-use Rattle.std.specs.List.{zip, list_all}
+use lib.Seq.{drop-cons}
 use Rattle.std.specs.Cmp.Lexicographic.{pointwise}
 use Rattle.definitions.specs.Windows.{alike, stands_at}
 
--- each equal
+-- each equal, as the library compares them
 pub equal_stand : (b l : List ℕ) → length b ≤ length l → pointwise eqb b (take (length b) l) ≡ stands_at false b l
 unfolding stands_at alike
 equal_stand [] l h = refl
 equal_stand (x ∷ b) [] h = absurd (omega arith)
 equal_stand (x ∷ b) (y ∷ l) h = ap (λ (t : Bool). eqb x y && t) (equal_stand b l (omega arith))
 
--- each alike
-pub alike_stand : (nocase : Bool) (b l : List ℕ) → length b ≤ length l → list_all (λ (p : ℕ × ℕ). alike nocase p.0 p.1) (zip b l) ≡ stands_at nocase b l
-unfolding stands_at
-alike_stand nocase [] l h = refl
-alike_stand nocase (x ∷ b) [] h = absurd (omega arith)
-alike_stand nocase (x ∷ b) (y ∷ l) h = ap (λ (t : Bool). alike nocase x y && t) (alike_stand nocase b l (omega arith))
+and_and : (a b c : Bool) → ((a && b) && c) ≡ (a && (b && c))
+and_and true b c = refl
+and_and false b c = refl
+
+-- the first n of them, and the others
+pub parts_stand :
+    (n : ℕ) (b l : List ℕ) → n ≤ length b → length b ≤ length l
+    → (pointwise eqb (take n b) (take n l) && pointwise eqb (drop n b) (take (length (drop n b)) (drop n l))) ≡ stands_at false b l
+unfolding stands_at alike
+parts_stand zero b l h k = equal_stand b l k
+parts_stand (suc n) [] l h k = absurd (omega arith)
+parts_stand (suc n) (x ∷ b) [] h k = absurd (omega arith)
+parts_stand (suc n) (x ∷ b) (y ∷ l) h k = and_and (eqb x y) _ _ ∙ ap (λ (t : Bool). eqb x y && t) (parts_stand n b l (omega arith) (omega arith))
+
+module _ (nocase : Bool) (b f : List ℕ) (at : ℕ) where
+  -- what is left to compare at the i-th byte
+  abbrev pub left : ℕ → Bool
+  left i = stands_at nocase (drop i b) (drop (at + i) f)
+
+  pub stands_all : stands_at nocase b (drop at f) ≡ left 0
+  stands_all = rw add-zero
+
+  pub stands_done : (i : ℕ) → length b ≤ i → left i ≡ true
+  unfolding stands_at
+  stands_done i h = rw (drop_of_length-le b h)
+
+  module _ (fits : at + length b ≤ length f) (i : ℕ) (h : i < length b) where
+    inside : at + i < length f
+    inside = omega arith
+
+    pub stands_more : alike nocase (get_or b i 0) (get_or f (at + i) 0) ≡ true → left i ≡ left (i + 1)
+    unfolding stands_at
+    stands_more e = rw (add-one i, add-suc at i, drop-cons b i 0 h, drop-cons f (at + i) 0 inside, e)
+
+    pub stands_not : alike nocase (get_or b i 0) (get_or f (at + i) 0) ≡ false → left i ≡ false
+    unfolding stands_at
+    stands_not e = rw (drop-cons b i 0 h, drop-cons f (at + i) 0 inside, e)

@@ -1,4 +1,4 @@
-// The bytes of a pattern at a place, where they fit.
+// The bytes of a pattern at a place, where they fit: nothing but the bytes is tested.
 ghost use Rattle.std.specs.Prelude.{◌≡◌, true, false, ◌+◌, ◌≤◌, length, drop};
 ghost use Rattle.definitions.specs.Windows as windows;
 ghost use Rattle.match_folding.specs.Folding.{FoldTable};
@@ -11,18 +11,27 @@ fn alike(folded: &[u8], x: u8, y: u8) -> bool
     folded[usize::from(x)] == folded[usize::from(y)]
 }
 
+// How many bytes are compared before the others: `==` on more than 64 looks at 64 at once where the first four are equal, and at 32 of them again.
+const FRONT: usize = 32;
+
 // The bytes `b` stand in the field at the place, each equal.
 pub fn equal_at(b: &[u8], f: &[u8], at: usize) -> bool
     requires { at + length b.now ≤ length f.now }
     ensures { result ≡ windows.stands_at false b.now (drop at f.now) }
 {
-    b == &f[at..at + b.len()]
+    let few = b.len().min(FRONT);
+    b[..few] == f[at..at + few] && b[few..] == f[at + few..at + b.len()]
 }
 
-// The bytes `b` stand in the field at the place, each alike under no_case.
+// The bytes `b` stand in the field at the place, each alike under no_case. By place, as a `zip` tests at each byte whether either side has ended.
 pub fn alike_at(folded: &[u8], b: &[u8], f: &[u8], at: usize) -> bool
     requires { FoldTable folded.now × (at + length b.now ≤ length f.now) }
     ensures { result ≡ windows.stands_at true b.now (drop at f.now) }
 {
-    b.iter().zip(&f[at..]).all(|(x, y)| alike(folded, *x, *y))
+    for i in 0..b.len() {
+        if !alike(folded, b[i], f[at + i]) {
+            return false;
+        }
+    }
+    true
 }
