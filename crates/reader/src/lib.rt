@@ -68,20 +68,22 @@ pub fn read(s: &[u8]) -> Reading
     }
     let mut bytes = [0; PATTERN_BYTES];
     let mut items = [no_slot(); ITEMS];
-    match read_options(s, &mut bytes, &mut items) {
-        Ok(st) => Reading {
-            outcome: Ok(()),
-            table: Table {
-                name: name_of(s, st.from, st.len),
-                len: st.len,
-                protocol: st.protocol,
-                flow: st.flow,
-                bytes,
-                used: st.used,
-                items,
-                count: st.count,
-            },
+    // A refusal returns from its arm: a `match` whose value is the reading would clear one more table for each text, and copy it.
+    let st = match read_options(s, &mut bytes, &mut items) {
+        Ok(st) => st,
+        Err(e) => return refused(e.refusal, e.place),
+    };
+    Reading {
+        outcome: Ok(()),
+        table: Table {
+            name: name_of(s, st.from, st.len),
+            len: st.len,
+            protocol: st.protocol,
+            flow: st.flow,
+            bytes,
+            used: st.used,
+            items,
+            count: st.count,
         },
-        Err(e) => refused(e.refusal, e.place),
     }
 }

@@ -93,7 +93,9 @@ fn try_starts<'a>(
     }
     let f = field_of(payload, decoded, input.map, p.context);
     let w = window(p, last, f.len());
-    let b = input.bound[chosen.count];
+    // In a local: an index into the parameter's own array keeps a copy of the whole input at each call.
+    let bound = input.bound;
+    let b = bound[chosen.count];
     let first = start_from(on_bound, b, w.from);
     // No range: next_start passes many places at once.
     let mut at = next_start(p.nocase, own, f, first, w.to);

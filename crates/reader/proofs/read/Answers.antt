@@ -30,9 +30,9 @@ name_of-requires c =
     let w = subst (λ (r : Result State TextRefusal). StoresOptions c.args.s.now o.new.bytes o.new.items r) c.in-Ok.is o.ensures in
     (w.1, w.2)
 
-pub returns-in-Ok : goal.returns-in-Ok
+pub returns : goal.returns
 unfolding table_in
-returns-in-Ok c =
+returns c =
     let o = c.read_options in
     let w = subst (λ (r : Result State TextRefusal). StoresOptions c.args.s.now o.new.bytes o.new.items r) c.in-Ok.is o.ensures in
     let z = read_told _ (rw c.name_of.ensures (sym w.0)) in
