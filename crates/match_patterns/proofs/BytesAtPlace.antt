@@ -9,6 +9,7 @@ use native.Mathlib.Numerals.{add-one}
 use lib.ListN.{length, get_or, take, drop, drop_of_length-le}
 use lib.Dec.{eqb}
 use lib.Seq.{drop-cons}
+use borrow.Author.Tests.{eq-eqb, ne_eqb}
 use Rattle.std.specs.Cmp.Lexicographic.{pointwise}
 use Rattle.definitions.specs.Windows.{alike, stands_at}
 
@@ -32,6 +33,15 @@ parts_stand zero b l h k = equal_stand b l k
 parts_stand (suc n) [] l h k = absurd (omega arith)
 parts_stand (suc n) (x ∷ b) [] h k = absurd (omega arith)
 parts_stand (suc n) (x ∷ b) (y ∷ l) h k = and_and (eqb x y) _ _ ∙ ap (λ (t : Bool). eqb x y && t) (parts_stand n b l (omega arith) (omega arith))
+
+-- without no_case alike is equal
+pub equal_alike : (x y : ℕ) → x ≡ y → alike false x y ≡ true
+unfolding alike
+equal_alike x y e = eq-eqb x y e
+
+pub differ_alike : (x y : ℕ) → (x ≡ y → ⊥) → alike false x y ≡ false
+unfolding alike
+differ_alike x y n = ne_eqb x y n
 
 module _ (nocase : Bool) (b f : List ℕ) (at : ℕ) where
   -- what is left to compare at the i-th byte

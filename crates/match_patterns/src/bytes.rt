@@ -11,16 +11,25 @@ fn alike(folded: &[u8], x: u8, y: u8) -> bool
     folded[usize::from(x)] == folded[usize::from(y)]
 }
 
-// How many bytes are compared before the others: `==` on more than 64 looks at 64 at once where the first four are equal, and at 32 of them again.
+// How many bytes after the first are compared before the others: `==` on more than 64 looks at 64 at once where the first four are equal, and at 32 of them
+// again.
 const FRONT: usize = 32;
 
-// The bytes `b` stand in the field at the place, each equal.
+// The bytes `b` stand in the field at the place, each equal. The first byte by itself: most places fail there.
 pub fn equal_at(b: &[u8], f: &[u8], at: usize) -> bool
     requires { at + length b.now ≤ length f.now }
     ensures { result ≡ windows.stands_at false b.now (drop at f.now) }
 {
-    let few = b.len().min(FRONT);
-    b[..few] == f[at..at + few] && b[few..] == f[at + few..at + b.len()]
+    if b.is_empty() {
+        return true;
+    }
+    if b[0] != f[at] {
+        return false;
+    }
+    let rest = &b[1..];
+    let few = rest.len().min(FRONT);
+    let next = at + 1;
+    rest[..few] == f[next..next + few] && rest[few..] == f[next + few..next + rest.len()]
 }
 
 // The bytes `b` stand in the field at the place, each alike under no_case. By place, as a `zip` tests at each byte whether either side has ended.

@@ -1,16 +1,33 @@
--- The library compares the first bytes, and then the others, with as many at the place.
+-- The first byte by itself; the library compares the next bytes, and then the others, with as many at the place.
 use mathlib.Core.Path.{◌≡◌, sym, ap, ◌∙◌}
-use mathlib.Core.Bool.{Bool, ◌&&◌}
+use mathlib.Core.Bool.{Bool, false, ◌&&◌}
 use mathlib.Core.List.{List}
-use Prim.Native.Nat.{ℕ, ◌+◌, ◌-◌}
+use Prim.Native.Nat.{ℕ, ◌+◌, ◌-◌, ◌<◌}
 use native.Mathlib.Omega.{arith}
 use lib.Dec.{eqb}
-use lib.ListN.{length, take, drop, length-drop}
+use lib.ListN.{length, get_or, take, drop, length-drop}
 use lib.Pointwise.{pointwise}
 use lib.Seq.{drop-drop}
 use borrow.Author.Rules.{part_to_end}
-use Rattle.match_patterns.proofs.BytesAtPlace.{parts_stand}
+use borrow.Author.Tests.{eqb-true, eqb-false}
+use Rattle.definitions.specs.Windows.{stands_at}
+use Rattle.match_patterns.proofs.BytesAtPlace.{equal_alike, differ_alike, parts_stand, stands_all, stands_done, stands_more, stands_not}
 use Rattle.match_patterns.proofs.bytes.equal_at.Goals as goal
+
+pub returns-then-is_empty : goal.returns-then-is_empty
+returns-then-is_empty c =
+    let b = c.args.b.now in
+    let none : length b ≡ 0 = eqb-true _ _ (sym c.is_empty.ensures ∙ c.if-is_empty.true) in
+    sym (stands_all false b c.args.f.now c.args.at ∙ stands_done false b c.args.f.now c.args.at 0 (omega (arith, none)))
+
+pub returns-then-b-f : goal.returns-then-b-f
+returns-then-b-f c =
+    let b = c.args.b.now in
+    let f = c.args.f.now in
+    let at = c.args.at in
+    let here : get_or f (at + 0) 0 ≡ get_or f at 0 = ap (λ (i : ℕ). get_or f i 0) (let k : at + 0 ≡ at = omega arith in k) in
+    let some : 0 < length b = omega (arith, eqb-false _ _ (sym c.is_empty.ensures ∙ c.if-is_empty.false)) in
+    sym (stands_all false b f at ∙ stands_not false b f at c.requires 0 some (differ_alike _ _ (λ e. c.if-b-f.true (e ∙ here))))
 
 pub returns-then-eq : goal.returns-then-eq
 returns-then-eq c =
@@ -18,17 +35,24 @@ returns-then-eq c =
     let f = c.args.f.now in
     let at = c.args.at in
     let n = c.min-few.result in
-    let rest = drop n b in
+    let r = take (length b - 1) (drop 1 b) in
+    let k = at + 1 in
+    let rest = drop n r in
+    let some : 0 < length b = omega (arith, eqb-false _ _ (sym c.is_empty.ensures ∙ c.if-is_empty.false)) in
+    let whole : length r ≡ length b - 1 = ap length (part_to_end b 1) ∙ length-drop 1 b in
+    let here : get_or f (at + 0) 0 ≡ get_or f at 0 = ap (λ (i : ℕ). get_or f i 0) (let z : at + 0 ≡ at = omega arith in z) in
     let first =
-    sym c.if-eq.true ∙ (c.eq.ensures ∙ ap (λ (k : ℕ). pointwise eqb (take n b) (take k (drop at f))) (let k : at + n - at ≡ n = omega arith in k)) in
+    sym c.if-eq.true ∙ (c.eq.ensures ∙ ap (λ (j : ℕ). pointwise eqb (take n r) (take j (drop k f))) (let z : k + n - k ≡ n = omega arith in z)) in
     let others =
     c.eq-then-eq.ensures
-    ∙ (ap (λ (r : List ℕ). pointwise eqb r (take (at + length b - (at + n)) (drop (at + n) f))) (part_to_end b n)
-    ∙ (ap (λ (k : ℕ). pointwise eqb rest (take k (drop (at + n) f))) (let k : at + length b - (at + n) ≡ length rest = omega (arith, length-drop n b) in k)
-    ∙ ap (λ (l : List ℕ). pointwise eqb rest (take (length rest) l)) (sym (drop-drop n at f)))) in
+    ∙ (ap (λ (x : List ℕ). pointwise eqb x (take (k + length r - (k + n)) (drop (k + n) f))) (part_to_end r n)
+    ∙ (ap (λ (j : ℕ). pointwise eqb rest (take j (drop (k + n) f))) (let z : k + length r - (k + n) ≡ length rest = omega (arith, length-drop n r) in z)
+    ∙ ap (λ (l : List ℕ). pointwise eqb rest (take (length rest) l)) (sym (drop-drop n k f)))) in
     others
-    ∙ (ap (λ (t : Bool). t && pointwise eqb rest (take (length rest) (drop n (drop at f)))) first
-    ∙ parts_stand n b (drop at f) (omega arith) (omega (arith, length-drop at f, c.requires)))
+    ∙ (ap (λ (t : Bool). t && pointwise eqb rest (take (length rest) (drop n (drop k f)))) first
+    ∙ (parts_stand n r (drop k f) (omega arith) (omega (arith, whole, length-drop k f, c.requires))
+    ∙ (ap (λ (x : List ℕ). stands_at false x (drop k f)) (part_to_end b 1)
+    ∙ sym (stands_all false b f at ∙ stands_more false b f at c.requires 0 some (equal_alike _ _ (c.if-b-f.false ∙ sym here))))))
 
 pub returns-else-eq : goal.returns-else-eq
 returns-else-eq c =
@@ -36,9 +60,16 @@ returns-else-eq c =
     let f = c.args.f.now in
     let at = c.args.at in
     let n = c.min-few.result in
-    let rest = drop n b in
+    let r = take (length b - 1) (drop 1 b) in
+    let k = at + 1 in
+    let rest = drop n r in
+    let some : 0 < length b = omega (arith, eqb-false _ _ (sym c.is_empty.ensures ∙ c.if-is_empty.false)) in
+    let whole : length r ≡ length b - 1 = ap length (part_to_end b 1) ∙ length-drop 1 b in
+    let here : get_or f (at + 0) 0 ≡ get_or f at 0 = ap (λ (i : ℕ). get_or f i 0) (let z : at + 0 ≡ at = omega arith in z) in
     let first =
-    sym c.if-eq.false ∙ (c.eq.ensures ∙ ap (λ (k : ℕ). pointwise eqb (take n b) (take k (drop at f))) (let k : at + n - at ≡ n = omega arith in k)) in
+    sym c.if-eq.false ∙ (c.eq.ensures ∙ ap (λ (j : ℕ). pointwise eqb (take n r) (take j (drop k f))) (let z : k + n - k ≡ n = omega arith in z)) in
     c.if-eq.false
-    ∙ (ap (λ (t : Bool). t && pointwise eqb rest (take (length rest) (drop n (drop at f)))) first
-    ∙ parts_stand n b (drop at f) (omega arith) (omega (arith, length-drop at f, c.requires)))
+    ∙ (ap (λ (t : Bool). t && pointwise eqb rest (take (length rest) (drop n (drop k f)))) first
+    ∙ (parts_stand n r (drop k f) (omega arith) (omega (arith, whole, length-drop k f, c.requires))
+    ∙ (ap (λ (x : List ℕ). stands_at false x (drop k f)) (part_to_end b 1)
+    ∙ sym (stands_all false b f at ∙ stands_more false b f at c.requires 0 some (equal_alike _ _ (c.if-b-f.false ∙ sym here))))))
