@@ -25,7 +25,9 @@ unfolding begun_or
 written_takes_begun {t = t} (stopped e) f = absurd (let h : None ≡ Some t = sym e ∙ f in cc)
 written_takes_begun {s = s} (written h e) f = ap (begun_or s) (sym f ∙ e)
 
-module _ {F S : Type 0} {g : Shared F (Bor (List ℕ) × (MutBor S × (MutBor (List ℕ) × (Begun × Unit {0})))) (Fed × (MutBor S × (MutBor (List ℕ) × Unit {0})))} {f : F} where
+module _ {F S : Type 0}
+    {g : Shared F (Bor (List ℕ) × (MutBor S × (MutBor (List ℕ) × (Begun × Unit {0})))) (Fed × (MutBor S × (MutBor (List ℕ) × Unit {0})))}
+    {f : F} where
   pub stands : {b b' c : Begun} {s s' t : S} → FedOn g f b s b' s' → c ≡ b' → t ≡ s' → FedOn g f b s c t
   stands {b = b} {b' = b'} {s = s} {t = t} x p q = subst (λ y. FedOn g f b s y t) (sym p) (subst (λ z. FedOn g f b s b' z) (sym q) x)
 

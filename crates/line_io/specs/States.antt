@@ -6,7 +6,9 @@ use Rattle.line_stream.specs.declared.Begun.{Begun}
 use Rattle.line_stream.specs.declared.Fed.{Fed}
 
 -- a feed takes bytes, a state, an output and the line begun
-module _ {F S : Type 0} (g : Shared F (Bor (List ℕ) × (MutBor S × (MutBor (List ℕ) × (Begun × Unit {0})))) (Fed × (MutBor S × (MutBor (List ℕ) × Unit {0})))) (f : F) where
+module _ {F S : Type 0}
+    (g : Shared F (Bor (List ℕ) × (MutBor S × (MutBor (List ℕ) × (Begun × Unit {0})))) (Fed × (MutBor S × (MutBor (List ℕ) × Unit {0}))))
+    (f : F) where
   -- called at some bytes and some output, at the line begun and the state s, it may answer a and leave the state s'
   pub record FedOnce (b : Begun) (s : S) (a : Fed) (s' : S) : Type 0 where
     pub bytes : Bor (List ℕ)

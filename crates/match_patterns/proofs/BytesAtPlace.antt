@@ -1,14 +1,15 @@
 -- Bytes that stand at a place of a list, where they fit: byte by byte, those from i on stand i further on; and as the library compares them.
-use mathlib.Core.Path.{◌≡◌, refl, ap, ◌∙◌}
+use mathlib.Core.Path.{◌≡◌, refl, sym, ap, ◌∙◌}
 use mathlib.Core.Bool.{Bool, true, false, ◌&&◌}
 use mathlib.Core.List.{List, [], ◌∷◌}
-use Prim.Native.Nat.{ℕ, zero, suc, ◌+◌, ◌≤◌, ◌<◌}
+use Prim.Native.Nat.{ℕ, zero, suc, ◌+◌, ◌-◌, ◌≤◌, ◌<◌}
 use native.Mathlib.Omega.{arith}
 use native.Mathlib.Nat.{add-zero, add-suc}
 use native.Mathlib.Numerals.{add-one}
-use lib.ListN.{length, get_or, take, drop, drop_of_length-le}
+use lib.ListN.{length, get_or, take, drop, drop_of_length-le, length-drop}
 use lib.Dec.{eqb}
 use lib.Seq.{drop-cons}
+use borrow.Author.Rules.{part_to_end}
 use borrow.Author.Tests.{eq-eqb, ne_eqb}
 use Rattle.std.specs.Cmp.Lexicographic.{pointwise}
 use Rattle.definitions.specs.Windows.{alike, stands_at}
@@ -66,3 +67,19 @@ module _ (nocase : Bool) (b f : List ℕ) (at : ℕ) where
     pub stands_not : alike nocase (get_or b i 0) (get_or f (at + i) 0) ≡ false → left i ≡ false
     unfolding stands_at
     stands_not e = rw (drop-cons b i 0 h, drop-cons f (at + i) 0 inside, e)
+
+-- the first byte by itself, the next n as the library compares them, and the others
+module _ (b f : List ℕ) (at n : ℕ) where
+  abbrev pub others : List ℕ
+  others = take (length b - 1) (drop 1 b)
+
+  pub in_parts :
+      at + length b ≤ length f → 0 < length b → get_or b 0 0 ≡ get_or f at 0 → n ≤ length b - 1
+      → (pointwise eqb (take n others) (take n (drop (at + 1) f)) && pointwise eqb (drop n others) (take (length (drop n others)) (drop n (drop (at + 1) f))))
+      ≡ stands_at false b (drop at f)
+  in_parts fits some first few =
+      let whole : length others ≡ length b - 1 = ap length (part_to_end b 1) ∙ length-drop 1 b in
+      let here : get_or f (at + 0) 0 ≡ get_or f at 0 = ap (λ (i : ℕ). get_or f i 0) (add-zero at) in
+      parts_stand n others (drop (at + 1) f) (omega (arith, whole)) (omega (arith, whole, length-drop (at + 1) f))
+      ∙ (ap (λ (x : List ℕ). stands_at false x (drop (at + 1) f)) (part_to_end b 1)
+      ∙ sym (stands_all false b f at ∙ stands_more false b f at fits 0 some (equal_alike _ _ (first ∙ sym here))))

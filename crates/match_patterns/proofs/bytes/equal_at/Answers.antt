@@ -10,8 +10,7 @@ use lib.Pointwise.{pointwise}
 use lib.Seq.{drop-drop}
 use borrow.Author.Rules.{part_to_end}
 use borrow.Author.Tests.{eqb-true, eqb-false}
-use Rattle.definitions.specs.Windows.{stands_at}
-use Rattle.match_patterns.proofs.BytesAtPlace.{equal_alike, differ_alike, parts_stand, stands_all, stands_done, stands_more, stands_not}
+use Rattle.match_patterns.proofs.BytesAtPlace.{differ_alike, stands_all, stands_done, stands_not, others, in_parts}
 use Rattle.match_patterns.proofs.bytes.equal_at.Goals as goal
 
 pub returns-then-is_empty : goal.returns-then-is_empty
@@ -35,24 +34,18 @@ returns-then-eq c =
     let f = c.args.f.now in
     let at = c.args.at in
     let n = c.min-few.result in
-    let r = take (length b - 1) (drop 1 b) in
+    let r = others b f at n in
     let k = at + 1 in
     let rest = drop n r in
     let some : 0 < length b = omega (arith, eqb-false _ _ (sym c.is_empty.ensures ∙ c.if-is_empty.false)) in
-    let whole : length r ≡ length b - 1 = ap length (part_to_end b 1) ∙ length-drop 1 b in
-    let here : get_or f (at + 0) 0 ≡ get_or f at 0 = ap (λ (i : ℕ). get_or f i 0) (let z : at + 0 ≡ at = omega arith in z) in
     let first =
     sym c.if-eq.true ∙ (c.eq.ensures ∙ ap (λ (j : ℕ). pointwise eqb (take n r) (take j (drop k f))) (let z : k + n - k ≡ n = omega arith in z)) in
-    let others =
     c.eq-then-eq.ensures
     ∙ (ap (λ (x : List ℕ). pointwise eqb x (take (k + length r - (k + n)) (drop (k + n) f))) (part_to_end r n)
     ∙ (ap (λ (j : ℕ). pointwise eqb rest (take j (drop (k + n) f))) (let z : k + length r - (k + n) ≡ length rest = omega (arith, length-drop n r) in z)
-    ∙ ap (λ (l : List ℕ). pointwise eqb rest (take (length rest) l)) (sym (drop-drop n k f)))) in
-    others
+    ∙ (ap (λ (l : List ℕ). pointwise eqb rest (take (length rest) l)) (sym (drop-drop n k f))
     ∙ (ap (λ (t : Bool). t && pointwise eqb rest (take (length rest) (drop n (drop k f)))) first
-    ∙ (parts_stand n r (drop k f) (omega arith) (omega (arith, whole, length-drop k f, c.requires))
-    ∙ (ap (λ (x : List ℕ). stands_at false x (drop k f)) (part_to_end b 1)
-    ∙ sym (stands_all false b f at ∙ stands_more false b f at c.requires 0 some (equal_alike _ _ (c.if-b-f.false ∙ sym here))))))
+    ∙ in_parts b f at n c.requires some c.if-b-f.false (omega arith)))))
 
 pub returns-else-eq : goal.returns-else-eq
 returns-else-eq c =
@@ -60,16 +53,10 @@ returns-else-eq c =
     let f = c.args.f.now in
     let at = c.args.at in
     let n = c.min-few.result in
-    let r = take (length b - 1) (drop 1 b) in
+    let r = others b f at n in
     let k = at + 1 in
-    let rest = drop n r in
     let some : 0 < length b = omega (arith, eqb-false _ _ (sym c.is_empty.ensures ∙ c.if-is_empty.false)) in
-    let whole : length r ≡ length b - 1 = ap length (part_to_end b 1) ∙ length-drop 1 b in
-    let here : get_or f (at + 0) 0 ≡ get_or f at 0 = ap (λ (i : ℕ). get_or f i 0) (let z : at + 0 ≡ at = omega arith in z) in
-    let first =
-    sym c.if-eq.false ∙ (c.eq.ensures ∙ ap (λ (j : ℕ). pointwise eqb (take n r) (take j (drop k f))) (let z : k + n - k ≡ n = omega arith in z)) in
+    let first = sym c.if-eq.false ∙ (c.eq.ensures ∙ ap (λ (j : ℕ). pointwise eqb (take n r) (take j (drop k f))) (let z : k + n - k ≡ n = omega arith in z)) in
     c.if-eq.false
-    ∙ (ap (λ (t : Bool). t && pointwise eqb rest (take (length rest) (drop n (drop k f)))) first
-    ∙ (parts_stand n r (drop k f) (omega arith) (omega (arith, whole, length-drop k f, c.requires))
-    ∙ (ap (λ (x : List ℕ). stands_at false x (drop k f)) (part_to_end b 1)
-    ∙ sym (stands_all false b f at ∙ stands_more false b f at c.requires 0 some (equal_alike _ _ (c.if-b-f.false ∙ sym here))))))
+    ∙ (ap (λ (t : Bool). t && pointwise eqb (drop n r) (take (length (drop n r)) (drop n (drop k f)))) first
+    ∙ in_parts b f at n c.requires some c.if-b-f.false (omega arith))
