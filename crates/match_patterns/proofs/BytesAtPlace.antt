@@ -56,6 +56,9 @@ module _ (nocase : Bool) (b f : List ℕ) (at : ℕ) where
   unfolding stands_at
   stands_done i h = rw (drop_of_length-le b h)
 
+  pub none_stand : length b ≡ 0 → stands_at nocase b (drop at f) ≡ true
+  none_stand h = stands_all ∙ stands_done 0 (omega (arith, h))
+
   module _ (fits : at + length b ≤ length f) (i : ℕ) (h : i < length b) where
     inside : at + i < length f
     inside = omega arith
@@ -68,18 +71,31 @@ module _ (nocase : Bool) (b f : List ℕ) (at : ℕ) where
     unfolding stands_at
     stands_not e = rw (drop-cons b i 0 h, drop-cons f (at + i) 0 inside, e)
 
+  -- the first byte by itself
+  module _ (fits : at + length b ≤ length f) (some : length b ≡ 0 → ⊥) where
+    has_first : 0 < length b
+    has_first = omega (arith, some)
+
+    first_pair : (t : Bool) → alike nocase (get_or b 0 0) (get_or f at 0) ≡ t → alike nocase (get_or b 0 0) (get_or f (at + 0) 0) ≡ t
+    first_pair t e = ap (λ (i : ℕ). alike nocase (get_or b 0 0) (get_or f i 0)) (add-zero at) ∙ e
+
+    pub first_alike : alike nocase (get_or b 0 0) (get_or f at 0) ≡ true → stands_at nocase b (drop at f) ≡ left 1
+    first_alike e = stands_all ∙ stands_more fits 0 has_first (first_pair true e)
+
+    pub first_not : alike nocase (get_or b 0 0) (get_or f at 0) ≡ false → stands_at nocase b (drop at f) ≡ false
+    first_not e = stands_all ∙ stands_not fits 0 has_first (first_pair false e)
+
 -- the first byte by itself, the next n as the library compares them, and the others
 module _ (b f : List ℕ) (at n : ℕ) where
   abbrev pub others : List ℕ
   others = take (length b - 1) (drop 1 b)
 
   pub in_parts :
-      at + length b ≤ length f → 0 < length b → get_or b 0 0 ≡ get_or f at 0 → n ≤ length b - 1
+      at + length b ≤ length f → (length b ≡ 0 → ⊥) → get_or b 0 0 ≡ get_or f at 0 → n ≤ length b - 1
       → (pointwise eqb (take n others) (take n (drop (at + 1) f)) && pointwise eqb (drop n others) (take (length (drop n others)) (drop n (drop (at + 1) f))))
       ≡ stands_at false b (drop at f)
   in_parts fits some first few =
       let whole : length others ≡ length b - 1 = ap length (part_to_end b 1) ∙ length-drop 1 b in
-      let here : get_or f (at + 0) 0 ≡ get_or f at 0 = ap (λ (i : ℕ). get_or f i 0) (add-zero at) in
       parts_stand n others (drop (at + 1) f) (omega (arith, whole)) (omega (arith, whole, length-drop (at + 1) f))
       ∙ (ap (λ (x : List ℕ). stands_at false x (drop (at + 1) f)) (part_to_end b 1)
-      ∙ sym (stands_all false b f at ∙ stands_more false b f at fits 0 some (equal_alike _ _ (first ∙ sym here))))
+      ∙ sym (first_alike false b f at fits some (equal_alike _ _ first)))

@@ -32,12 +32,19 @@ pub fn equal_at(b: &[u8], f: &[u8], at: usize) -> bool
     rest[..few] == f[next..next + few] && rest[few..] == f[next + few..next + rest.len()]
 }
 
-// The bytes `b` stand in the field at the place, each alike under no_case. By place, as a `zip` tests at each byte whether either side has ended.
+// The bytes `b` stand in the field at the place, each alike under no_case. The first byte by itself here too: a walk over places looks its entry up once. The
+// others by place, as a `zip` tests at each byte whether either side has ended.
 pub fn alike_at(folded: &[u8], b: &[u8], f: &[u8], at: usize) -> bool
     requires { FoldTable folded.now × (at + length b.now ≤ length f.now) }
     ensures { result ≡ windows.stands_at true b.now (drop at f.now) }
 {
-    for i in 0..b.len() {
+    if b.is_empty() {
+        return true;
+    }
+    if !alike(folded, b[0], f[at]) {
+        return false;
+    }
+    for i in 1..b.len() {
         if !alike(folded, b[i], f[at + i]) {
             return false;
         }
