@@ -38,7 +38,7 @@ fn is_enclosed(s: &[u8]) -> bool
     part_after(rest, b')').is_empty()
 }
 
-// The placement whose starts stand between the commas; none for other bytes, here and below.
+// The placement whose starts stand between the commas; none for other bytes, here and below. By place, as line_fields goes through its fields.
 fn parse_starts(s: &[u8]) -> Option<Placement>
     ensures { result ≡ parsed_starts s.now }
 {
@@ -47,13 +47,16 @@ fn parse_starts(s: &[u8]) -> Option<Placement>
     if s.is_empty() {
         return Some(Placement { count, starts });
     }
-    for e in s.split(|b| *b == b',') {
+    let mut at = 0;
+    while at <= s.len() {
+        let e = part_before(&s[at..], b',');
         let n = parse_decimal(e, MAX_START)?;
         if PATTERNS <= count {
             return None;
         }
         starts[count] = start_at(n as usize);
         count += 1;
+        at += e.len() + 1;
     }
     Some(Placement { count, starts })
 }

@@ -36,13 +36,16 @@ fn insert_field(m: FieldMap, e: &[u8]) -> Option<FieldMap>
     Some(with_field(m, field, Some(span)))
 }
 
-// The fields between the commas, one after the other.
+// The fields between the commas, one after the other. By place: `part_before` passes 32 bytes at a time, where `split` tests each.
 fn parse_fields(s: &[u8]) -> Option<FieldMap>
     ensures { result ≡ parsed_fields no_fields (parts 44 s.now) }
 {
     let mut m = no_fields();
-    for e in s.split(|b| *b == b',') {
+    let mut at = 0;
+    while at <= s.len() {
+        let e = part_before(&s[at..], b',');
         m = insert_field(m, e)?;
+        at += e.len() + 1;
     }
     Some(m)
 }
