@@ -26,6 +26,7 @@ use Rattle.definitions.specs.contracts.table.ByteOperator as byte_operator
 use Rattle.definitions.specs.contracts.table.Context as context
 use Rattle.definitions.specs.contracts.table.Reference as reference
 use Rattle.definitions.specs.contracts.table.Flow as flow
+use Rattle.definitions.specs.declared.table.Flow.{Flow}
 use Rattle.definitions.specs.contracts.table.Item as item_type
 use Rattle.definitions.specs.declared.table.AddressTest.{AddressTest}
 use Rattle.definitions.specs.contracts.table.AddressTestPartialEq.TheImpl as address_test
@@ -211,10 +212,13 @@ slot_exact a b =
     Iff.trans (both_exactly _ _ (item_exact a.item b.item) (pointwise_decides address_exact a.addresses b.addresses))
     (λ (item, addresses). λ i. record { item = item i; addresses = addresses i }, λ e. ((λ i. (e i).item), (λ i. (e i).addresses)))
 
+pub flow_exact : (f g : Flow) → Decides (sameb flow.the_type f g) (f ≡ g)
+flow_exact f g = bare_exact flow.the_type tt f g
+
 pub table_exact : (a b : Table) → Decides (table.ghosts.eq a b) (a ≡ b)
 table_exact a b =
     Iff.trans (both_exactly _ _ (bytes_decides a.name b.name) (both_exactly _ _ (unsigned_Decides a.len b.len)
-    (both_exactly _ _ (unsigned_Decides a.protocol b.protocol) (both_exactly _ _ (bare_exact flow.the_type tt a.flow b.flow)
+    (both_exactly _ _ (unsigned_Decides a.protocol b.protocol) (both_exactly _ _ (flow_exact a.flow b.flow)
     (both_exactly _ _ (bytes_decides a.bytes b.bytes) (both_exactly _ _ (unsigned_Decides a.used b.used)
     (both_exactly _ _ (pointwise_decides slot_exact a.items b.items) (unsigned_Decides a.count b.count)))))))) (
       λ (name, (len, (protocol, (flow, (bytes, (used, (items, count))))))). λ i. record {
